@@ -1,0 +1,79 @@
+-- What an operation answers: a refusal with its number and place, or what was asked for. The numbers and the limits of 01, each once.
+use Prim.Native.Nat.{ℕ}
+use mathlib.Core.Bool.{Bool, true, false}
+
+pub data Outcome (A : Type 0) : Type 0 where
+  refused : ℕ → ℕ → Outcome A
+  given : A → Outcome A
+
+-- "The first that applies is given": the refusal where the test holds, else what follows
+abbrev pub when : {A : Type 0} → Bool → ℕ → ℕ → Outcome A → Outcome A
+when true number place rest = refused number place
+when false number place rest = rest
+
+-- "Check a rule"
+abbrev pub cut : ℕ
+cut = 1
+
+abbrev pub otherVersion : ℕ
+otherVersion = 2
+
+abbrev pub sizeOut : ℕ
+sizeOut = 3
+
+abbrev pub misshapen : ℕ
+misshapen = 4
+
+abbrev pub windowOut : ℕ
+windowOut = 5
+
+abbrev pub freeBroken : ℕ
+freeBroken = 6
+
+abbrev pub notOneParent : ℕ
+notOneParent = 7
+
+-- "Take an event"
+abbrev pub notAnEvent : ℕ
+notAnEvent = 9
+
+abbrev pub rowOut : ℕ
+rowOut = 10
+
+abbrev pub timeFalls : ℕ
+timeFalls = 11
+
+abbrev pub logFull : ℕ
+logFull = 12
+
+abbrev pub crowded : ℕ
+crowded = 13
+
+abbrev pub backlog : ℕ
+backlog = 14
+
+abbrev pub keptOver : ℕ
+keptOver = 15
+
+abbrev pub bufferShort : ℕ
+bufferShort = 16
+
+-- "Read rows"
+abbrev pub notAReport : ℕ
+notAReport = 17
+
+-- the limits
+abbrev pub mostRows : ℕ
+mostRows = 32
+
+abbrev pub mostOpen : ℕ
+mostOpen = 32
+
+abbrev pub mostKept : ℕ
+mostKept = 512
+
+abbrev pub mostPoints : ℕ
+mostPoints = 10000000
+
+abbrev pub longestWindow : ℕ
+longestWindow = 604800

@@ -1,0 +1,75 @@
+// The types that definitions and code share. They hold plain numbers; what the numbers mean is in specs/.
+
+// A point's number in the log, from 0: the paper's i.
+pub struct Point(pub u32);
+
+// A point's time stamp in seconds: the paper's τ.
+pub struct Stamp(pub u32);
+
+// A term is a variable, by its number, or a constant.
+pub enum Term {
+    Variable(u32),
+    Constant(u32),
+}
+
+// An atom's terms: the first `count` of the four.
+pub struct Terms {
+    pub count: u8,
+    pub first: Term,
+    pub second: Term,
+    pub third: Term,
+    pub fourth: Term,
+}
+
+// The two terms that "keep" compares.
+pub struct Sides {
+    pub first: Term,
+    pub second: Term,
+}
+
+pub enum Comparison {
+    Equal,
+    Different,
+    Less,
+    NotLess,
+}
+
+// The window [start, end); an end of 0 means no end.
+pub struct Window {
+    pub start: u32,
+    pub end: u32,
+}
+
+// A node of a rule file: one of the fourteen kinds with its children, by number, its terms or its window.
+pub enum Node {
+    Atom(u8, Terms),
+    And(u8, u8),
+    AndNot(u8, u8),
+    Keep(u8, Comparison, Sides),
+    Or(u8, u8),
+    Exists(u8, u32),
+    Previous(u8, Window),
+    Next(u8, Window),
+    Since(u8, u8, Window),
+    NotSince(u8, u8, Window),
+    Until(u8, u8, Window),
+    NotUntil(u8, u8, Window),
+    Once(u8, Window),
+    Eventually(u8, Window),
+}
+
+// A node's head, as it stands in a rule file.
+pub struct Head {
+    pub kind: u8,
+    pub left: u8,
+    pub right: u8,
+    pub mask: u8,
+}
+
+// A node's body, as it stands in a rule file.
+pub struct Body {
+    pub word0: u32,
+    pub word1: u32,
+    pub word2: u32,
+    pub word3: u32,
+}
