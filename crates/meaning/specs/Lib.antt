@@ -3,6 +3,12 @@ pub mod Lists
 pub mod Outcome
 pub mod Log
 pub mod Formula
+pub mod Definition2
 pub mod Order
+pub mod Evaluator
+pub mod Settled
 pub mod RuleFile
+pub mod Kept
+pub mod Event
 pub mod Report
+pub mod Keeper

@@ -34,6 +34,13 @@ module _ {A B : Type 0} where
   gather f [] = []
   gather f (x ∷ xs) = f x ++ gather f xs
 
+-- the rows are the same, word by word
+abbrev pub sameRow : List ℕ → List ℕ → Bool
+sameRow [] [] = true
+sameRow [] (y ∷ ys) = false
+sameRow (x ∷ xs) [] = false
+sameRow (x ∷ xs) (y ∷ ys) = eqb x y && sameRow xs ys
+
 abbrev pub total : List ℕ → ℕ
 total [] = 0
 total (n ∷ ns) = n + total ns

@@ -1,8 +1,9 @@
 -- "The log": points, their times and rows. The definitions above reach a log only through size, time, rowsAt and latest.
 use Prim.Native.Nat.{ℕ, suc, _-_, _≤_, _<_}
 use mathlib.Core.Path.{_≡_}
-use mathlib.Core.List.{List, [], _∷_, _++_}
+use mathlib.Core.List.{List, [], _∷_, _++_, map}
 use lib.ListN.{length, getD}
+use Rattle.meaning.specs.Lists.{range}
 use Rattle.meaning.specs.declared.Point.{Point}
 use Rattle.meaning.specs.declared.Stamp.{Stamp}
 
@@ -12,6 +13,17 @@ point n = record { 0 = n }
 
 abbrev pub stamp : ℕ → Stamp
 stamp t = record { 0 = t }
+
+-- the points before and after a point
+abbrev pub pointBefore : Point → Point
+pointBefore i = point (i .0 - 1)
+
+abbrev pub pointAfter : Point → Point
+pointAfter i = point (suc (i .0))
+
+-- as many points as the second argument says, from the first on
+abbrev pub pointsFrom : ℕ → ℕ → List Point
+pointsFrom from count = map point (range from count)
 
 -- "A row is a relation number and that relation's values"
 pub record Row : Type 0 where
@@ -42,6 +54,9 @@ rowsAt l i = getD l (i .0) beyond .rows
 -- the latest known time, 0 before any
 unfoldable pub latest : Log → Stamp
 latest l = time l (point (size l - 1))
+
+abbrev pub pointsOf : Log → List Point
+pointsOf l = pointsFrom 0 (size l)
 
 -- how long after the first stamp the second is
 abbrev pub elapsed : Stamp → Stamp → ℕ
