@@ -1,0 +1,2 @@
+-- Facts about the definitions.
+pub mod Table

@@ -1,0 +1,284 @@
+-- The starred bench cases of 01, and cases that guard what meaning and evaluator share, as one table with one proof: from a rule's bytes and its events' words to the report's words and the kept figures, by the keeper's definitions.
+use Prim.Native.Nat.{ℕ, _+_, _*_, _/_, _%_}
+use mathlib.Core.Path.{_≡_, refl}
+use mathlib.Core.Bool.{Bool, true, false, cond}
+use mathlib.Core.List.{List, [], _∷_, _++_, map}
+use lib.ListN.{length, take, replicate}
+use Rattle.meaning.specs.Lists.{gather, range}
+use Rattle.meaning.specs.Outcome.{Outcome, refused, given}
+use Rattle.meaning.specs.Log.{Log, time, rowsAt, latest}
+use Rattle.meaning.specs.RuleFile.{Accepted, wordAt, sizesFit, headAt, bodyAt, nodeOf, nodeAt, formulaAt, shapeFits, rangeFits, timesChild, weighNode, checking}
+use Rattle.meaning.specs.Kept.{lastPairs, consulted, parentOf, pointEntries, ageEntries, entriesOf, entries, kept, openPoints}
+use Rattle.meaning.specs.Event.{isEvent, rowFits, pointOf}
+use Rattle.meaning.specs.Report.{reportWords}
+use Rattle.meaning.specs.Keeper.{Taking, Given, newlySettled, reported, report, weighed, answer, step, answered, keeperLog, keeper}
+
+-- A case: a rule, events, and what is expected.
+pub record Case : Type 0 where
+  pub rule : List ℕ
+  pub events : List (List ℕ)
+  -- what checking answers: the reach and the free variables
+  pub checked : Outcome Accepted
+  -- what each taking is answered, and the words of its report
+  pub reports : List (List ℕ)
+  -- the kept figure after each event
+  pub kepts : List ℕ
+  -- the `open` figure after the last
+  pub left : ℕ
+
+-- Buffers of 16 zeros; what stands in them past the report shows that words past it stay.
+abbrev room : List ℕ
+room = replicate 16 0
+
+abbrev takings : Case → List Taking
+takings c = map (λ e. record { event = e; buffer = room }) (c .events)
+
+-- the answer's words, cut off the buffer; a refusal gives number and place
+abbrev words : Given → List ℕ
+words g = elim (g .answer) [ refused number place ↦ number ∷ place ∷ [] | given n ↦ take n (g .buffer) ]
+
+abbrev logs : List ℕ → Log → List Taking → List Log
+logs b l [] = []
+logs b l (t ∷ ts) = step b l t ∷ logs b (step b l t) ts
+
+-- the case with what the definitions give in the place of what is expected
+abbrev pub run : Case → Case
+run c =
+    record
+    { rule = c .rule
+    ; events = c .events
+    ; checked = checking (c .rule)
+    ; reports = map words (keeper (c .rule) [] (takings c))
+    ; kepts = map (kept (c .rule)) (logs (c .rule) [] (takings c))
+    ; left = openPoints (c .rule) (keeperLog (c .rule) [] (takings c))
+    }
+
+-- Rule files and events, spelt out: a head, a body of words, a size line.
+abbrev word : ℕ → List ℕ
+word w = w % 256 ∷ w / 256 % 256 ∷ w / 65536 % 256 ∷ w / 16777216 ∷ []
+
+abbrev body : ℕ → ℕ → List ℕ
+body c d = word c ++ word d ++ word 0 ++ word 0
+
+abbrev head : ℕ → ℕ → ℕ → List ℕ
+head kind left right = kind ∷ left ∷ right ∷ 0 ∷ []
+
+-- two relations of one arity
+abbrev sizes : ℕ → ℕ → List ℕ
+sizes a n = 1 ∷ 2 ∷ n ∷ 0 ∷ a ∷ a ∷ 0 ∷ 0 ∷ 0 ∷ 0 ∷ 0 ∷ 0 ∷ []
+
+abbrev atoms : List ℕ
+atoms = head 1 0 0 ++ head 1 1 0
+
+-- relation 0 and relation 1 without columns, and a kind over both, or over the first
+abbrev binary : ℕ → ℕ → ℕ → List ℕ
+binary kind c d = sizes 0 3 ++ atoms ++ head kind 0 1 ++ body 0 0 ++ body 0 0 ++ body c d
+
+abbrev unary : ℕ → ℕ → ℕ → List ℕ
+unary kind c d = sizes 0 2 ++ head 1 0 0 ++ head kind 0 0 ++ body 0 0 ++ body c d
+
+-- an event at a time, of rows without columns
+abbrev facts : ℕ → List ℕ → List ℕ
+facts t rs = t ∷ length rs ∷ (rs ++ gather (λ r. word 0) rs)
+
+-- an event at a time, of rows of relation 0 with two columns
+abbrev pairsOfWords : ℕ → List (List ℕ) → List ℕ
+pairsOfWords t rows = t ∷ length rows ∷ (map (λ r. 0) rows ++ gather (λ r. r ++ 0 ∷ 0 ∷ []) rows)
+
+-- "Rule L: leak (relation 0) and-not eventually [0, 61) close (relation 1), both of variable 0: node 0 leak, 1 close, 2 eventually, 3 and-not"
+abbrev ruleL : List ℕ
+ruleL = sizes 1 4 ++ atoms ++ head 14 1 0 ++ head 3 0 2 ++ body 0 0 ++ body 0 0 ++ body 0 61 ++ body 0 0
+
+abbrev leak : ℕ
+leak = 0
+
+abbrev close : ℕ
+close = 1
+
+abbrev leaks : List ℕ
+leaks = 100 ∷ 2 ∷ leak ∷ leak ∷ 7 ∷ 0 ∷ 0 ∷ 0 ∷ 9 ∷ 0 ∷ 0 ∷ 0 ∷ []
+
+abbrev one : ℕ → ℕ → ℕ → List ℕ
+one t r v = t ∷ 1 ∷ r ∷ v ∷ 0 ∷ 0 ∷ 0 ∷ []
+
+-- no point settled; a point with no row; a point with one row of no words
+abbrev none : ℕ → List ℕ
+none f = 0 ∷ f ∷ 0 ∷ []
+
+abbrev denied : ℕ → ℕ → List ℕ
+denied i t = 1 ∷ 0 ∷ 0 ∷ i ∷ t ∷ 0 ∷ []
+
+abbrev met : ℕ → ℕ → List ℕ
+met i t = 1 ∷ 0 ∷ 1 ∷ i ∷ t ∷ 1 ∷ []
+
+abbrev reaching : ℕ → ℕ → Outcome Accepted
+reaching r f = given (record { reach = r; free = f })
+
+-- relation 0 of two columns, kept by a comparison of the two
+abbrev keeping : ℕ → List ℕ → Case
+keeping comparison words =
+    record
+    { rule = 1 ∷ 1 ∷ 2 ∷ 0 ∷ 2 ∷ 0 ∷ 0 ∷ 0 ∷ 0 ∷ 0 ∷ 0 ∷ 0 ∷ (head 1 0 0 ++ head 4 0 comparison ++ body 0 1 ++ body 0 1)
+    ; events = pairsOfWords 3 ((1 ∷ 2 ∷ []) ∷ (2 ∷ 1 ∷ []) ∷ (2 ∷ 2 ∷ []) ∷ []) ∷ []
+    ; checked = reaching 0 3
+    ; reports = words ∷ []
+    ; kepts = 0 ∷ []
+    ; left = 0
+    }
+
+abbrev pub cases : List Case
+cases =
+    -- "L above; kept after its events is 2, 3, 2, 2"
+    record
+    { rule = ruleL
+    ; events = leaks ∷ one 130 close 9 ∷ one 161 close 7 ∷ one 191 leak 9 ∷ []
+    ; checked = reaching 61 1
+    ; reports = none 1 ∷ none 1 ∷ (1 ∷ 1 ∷ 1 ∷ 0 ∷ 100 ∷ 1 ∷ 7 ∷ []) ∷ (1 ∷ 1 ∷ 0 ∷ 1 ∷ 130 ∷ 0 ∷ []) ∷ []
+    ; kepts = 2 ∷ 3 ∷ 2 ∷ 2 ∷ []
+    ; left = 2
+    }
+    -- "Closing 7 at 160 instead reports no row for point 0, when 191 settles it"
+    ∷ record
+    { rule = ruleL
+    ; events = leaks ∷ one 130 close 9 ∷ one 160 close 7 ∷ one 191 leak 9 ∷ []
+    ; checked = reaching 61 1
+    ; reports = none 1 ∷ none 1 ∷ none 1 ∷ (2 ∷ 1 ∷ 0 ∷ 0 ∷ 100 ∷ 0 ∷ 1 ∷ 130 ∷ 0 ∷ []) ∷ []
+    ; kepts = 2 ∷ 3 ∷ 4 ∷ 2 ∷ []
+    ; left = 2
+    }
+    -- "until [0, 5): right true, left false at the same point: satisfied"
+    ∷ record
+    { rule = binary 11 0 5
+    ; events = facts 10 (1 ∷ []) ∷ facts 15 [] ∷ []
+    ; checked = reaching 5 0
+    ; reports = none 0 ∷ met 0 10 ∷ []
+    ; kepts = 1 ∷ 0 ∷ []
+    ; left = 1
+    }
+    -- "since [0, 5): right at 10, left at 14 (age 4): yes"
+    ∷ record
+    { rule = binary 9 0 5
+    ; events = facts 10 (1 ∷ []) ∷ facts 14 (0 ∷ []) ∷ []
+    ; checked = reaching 0 0
+    ; reports = met 0 10 ∷ met 1 14 ∷ []
+    ; kepts = 1 ∷ 1 ∷ []
+    ; left = 0
+    }
+    -- "Left at 15, no point between: no"
+    ∷ record
+    { rule = binary 9 0 5
+    ; events = facts 10 (1 ∷ []) ∷ facts 15 (0 ∷ []) ∷ []
+    ; checked = reaching 0 0
+    ; reports = met 0 10 ∷ denied 1 15 ∷ []
+    ; kepts = 1 ∷ 0 ∷ []
+    ; left = 0
+    }
+    -- "Left missing at 14: no"
+    ∷ record
+    { rule = binary 9 0 5
+    ; events = facts 10 (1 ∷ []) ∷ facts 14 [] ∷ []
+    ; checked = reaching 0 0
+    ; reports = met 0 10 ∷ denied 1 14 ∷ []
+    ; kepts = 1 ∷ 0 ∷ []
+    ; left = 0
+    }
+    -- "previous [1, 3) over times 10 and 10: no; .. point 0: no"
+    ∷ record
+    { rule = unary 7 1 3
+    ; events = facts 10 (0 ∷ []) ∷ facts 10 [] ∷ []
+    ; checked = reaching 0 0
+    ; reports = denied 0 10 ∷ denied 1 10 ∷ []
+    ; kepts = 1 ∷ 0 ∷ []
+    ; left = 0
+    }
+    -- "10 and 12: yes"
+    ∷ record
+    { rule = unary 7 1 3
+    ; events = facts 10 (0 ∷ []) ∷ facts 12 [] ∷ []
+    ; checked = reaching 0 0
+    ; reports = denied 0 10 ∷ met 1 12 ∷ []
+    ; kepts = 1 ∷ 0 ∷ []
+    ; left = 0
+    }
+    -- "10 and 13: no"
+    ∷ record
+    { rule = unary 7 1 3
+    ; events = facts 10 (0 ∷ []) ∷ facts 13 [] ∷ []
+    ; checked = reaching 0 0
+    ; reports = denied 0 10 ∷ denied 1 13 ∷ []
+    ; kepts = 1 ∷ 0 ∷ []
+    ; left = 0
+    }
+    -- "until [2, 4), left at 0 and 1, right at 2: point 0, settled by a point at 4, yes. Point 1, settled by a further point at 5, no"
+    ∷ record
+    { rule = binary 11 2 4
+    ; events = facts 0 (0 ∷ []) ∷ facts 1 (0 ∷ []) ∷ facts 2 (1 ∷ []) ∷ facts 4 [] ∷ facts 5 [] ∷ []
+    ; checked = reaching 4 0
+    ; reports = none 0 ∷ none 0 ∷ none 0 ∷ met 0 0 ∷ denied 1 1 ∷ []
+    ; kepts = 1 ∷ 2 ∷ 3 ∷ 2 ∷ 1 ∷ []
+    ; left = 3
+    }
+    -- "once [5, 10), atom at 0 and 4, asked at 6: yes": the age 4 at the last point isn't the only one kept
+    ∷ record
+    { rule = unary 13 5 10
+    ; events = facts 0 (0 ∷ []) ∷ facts 4 (0 ∷ []) ∷ facts 6 [] ∷ []
+    ; checked = reaching 0 0
+    ; reports = denied 0 0 ∷ denied 1 4 ∷ met 2 6 ∷ []
+    ; kepts = 1 ∷ 2 ∷ 2 ∷ []
+    ; left = 0
+    }
+    -- with no end, ages above c count as c: 7 and 11 are one pair
+    ∷ record
+    { rule = unary 13 5 0
+    ; events = facts 0 (0 ∷ []) ∷ facts 4 (0 ∷ []) ∷ facts 11 [] ∷ []
+    ; checked = reaching 0 0
+    ; reports = denied 0 0 ∷ denied 1 4 ∷ met 2 11 ∷ []
+    ; kepts = 1 ∷ 2 ∷ 1 ∷ []
+    ; left = 0
+    }
+    -- events with equal times are separate points: left missing at the second breaks since, and not-since asks for that
+    ∷ record
+    { rule = binary 9 0 5
+    ; events = facts 10 (1 ∷ []) ∷ facts 10 [] ∷ []
+    ; checked = reaching 0 0
+    ; reports = met 0 10 ∷ denied 1 10 ∷ []
+    ; kepts = 1 ∷ 0 ∷ []
+    ; left = 0
+    }
+    ∷ record
+    { rule = binary 10 0 5
+    ; events = facts 10 (1 ∷ []) ∷ facts 10 [] ∷ facts 10 (0 ∷ []) ∷ []
+    ; checked = reaching 0 0
+    ; reports = met 0 10 ∷ met 1 10 ∷ denied 2 10 ∷ []
+    ; kepts = 1 ∷ 1 ∷ 0 ∷ []
+    ; left = 0
+    }
+    -- next [1, 3) over 10, 12 and 15, and a fall in time, refused with 11
+    ∷ record
+    { rule = unary 8 1 3
+    ; events = facts 10 [] ∷ facts 12 (0 ∷ []) ∷ facts 11 [] ∷ facts 15 (0 ∷ []) ∷ []
+    ; checked = reaching 0 0
+    ; reports = none 0 ∷ met 0 10 ∷ (11 ∷ 0 ∷ []) ∷ denied 1 12 ∷ []
+    ; kepts = 0 ∷ 0 ∷ 0 ∷ 0 ∷ []
+    ; left = 1
+    }
+    -- rows ascend by variable 0, then by variable 1, and a repeated row counts as one
+    ∷ record
+    { rule = 1 ∷ 1 ∷ 1 ∷ 0 ∷ 2 ∷ 0 ∷ 0 ∷ 0 ∷ 0 ∷ 0 ∷ 0 ∷ 0 ∷ (head 1 0 0 ++ body 0 1)
+    ; events = pairsOfWords 3 ((2 ∷ 1 ∷ []) ∷ (1 ∷ 5 ∷ []) ∷ (1 ∷ 3 ∷ []) ∷ (2 ∷ 1 ∷ []) ∷ []) ∷ []
+    ; checked = reaching 0 3
+    ; reports = (1 ∷ 2 ∷ 3 ∷ 0 ∷ 3 ∷ 3 ∷ 1 ∷ 3 ∷ 1 ∷ 5 ∷ 2 ∷ 1 ∷ []) ∷ []
+    ; kepts = 0 ∷ []
+    ; left = 0
+    }
+    -- keep: "0 equal, 1 different, 2 less, 3 not less"
+    ∷ keeping 0 (1 ∷ 2 ∷ 1 ∷ 0 ∷ 3 ∷ 1 ∷ 2 ∷ 2 ∷ [])
+    ∷ keeping 1 (1 ∷ 2 ∷ 2 ∷ 0 ∷ 3 ∷ 2 ∷ 1 ∷ 2 ∷ 2 ∷ 1 ∷ [])
+    ∷ keeping 2 (1 ∷ 2 ∷ 1 ∷ 0 ∷ 3 ∷ 1 ∷ 1 ∷ 2 ∷ [])
+    ∷ keeping 3 (1 ∷ 2 ∷ 2 ∷ 0 ∷ 3 ∷ 2 ∷ 2 ∷ 1 ∷ 2 ∷ 2 ∷ [])
+    ∷ []
+
+-- every case of the table
+pub starred : map run cases ≡ cases
+unfolding time rowsAt latest wordAt sizesFit headAt bodyAt nodeOf nodeAt formulaAt shapeFits rangeFits timesChild weighNode checking lastPairs consulted parentOf pointEntries ageEntries entriesOf entries kept openPoints isEvent rowFits pointOf reportWords newlySettled reported report weighed answer step answered
+starred = refl
