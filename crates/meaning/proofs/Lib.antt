@@ -1,2 +1,3 @@
 -- Facts about the definitions.
+pub mod Fine
 pub mod Table
