@@ -1,3 +1,7 @@
 -- Facts about the definitions.
+pub mod Points
 pub mod Fine
+pub mod Growth
+pub mod Settles
+pub mod Steady
 pub mod Table

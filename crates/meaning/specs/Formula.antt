@@ -78,6 +78,23 @@ reach (notUntil a b w) = w .end + max (reach a) (reach b)
 reach (once a w) = reach a
 reach (eventually a w) = w .end + reach a
 
+-- "a rule without "next""
+abbrev pub withoutNext : Formula → Bool
+withoutNext (atom r ts) = true
+withoutNext (and a b) = withoutNext a && withoutNext b
+withoutNext (andNot a b) = withoutNext a && withoutNext b
+withoutNext (keep a c s t) = withoutNext a
+withoutNext (or a b) = withoutNext a && withoutNext b
+withoutNext (exists a x) = withoutNext a
+withoutNext (previous a w) = withoutNext a
+withoutNext (next a w) = false
+withoutNext (since a b w) = withoutNext a && withoutNext b
+withoutNext (notSince a b w) = withoutNext a && withoutNext b
+withoutNext (until a b w) = withoutNext a && withoutNext b
+withoutNext (notUntil a b w) = withoutNext a && withoutNext b
+withoutNext (once a w) = withoutNext a
+withoutNext (eventually a w) = withoutNext a
+
 -- "Variables are 0 to 3"
 abbrev pub variables : List ℕ
 variables = 0 ∷ 1 ∷ 2 ∷ 3 ∷ []

@@ -41,7 +41,7 @@ Log = List LogPoint
 abbrev pub size : Log → ℕ
 size l = length l
 
-abbrev beyond : LogPoint
+abbrev pub beyond : LogPoint
 beyond = record { time = stamp 0; rows = [] }
 
 -- the time stamp of point i: the paper's τ with index i

@@ -1,0 +1,150 @@
+-- Steadiness: the valuations at a settled point are the same on every log that goes on from this one.
+use Prim.Native.Nat.{ℕ, zero, suc, _+_, _-_, _≤_, _<_}
+use mathlib.Core.Path.{_≡_, refl, sym, _∙_, ap, ap₂, subst, fun-ext}
+use mathlib.Core.Bool.{Bool, true, false, not, cond, _&&_, _||_, false≢true}
+use mathlib.Core.Logic.{_⊎_, inl, inr}
+use mathlib.Core.List.{List, [], _∷_, _++_, map, append-nil}
+use lib.Dec.{ltb, leb, eqb}
+use borrow.Author.Tests.{ltb-true, ltb-false, leb-true, lt-ltb, le-ltb, le-leb, lt-leb, eqb-true, eqb-false, eq-eqb, ne-eqb}
+use native.Mathlib.Omega.{arith}
+use Rattle.meaning.specs.Lists.{all, select, gather}
+use Rattle.meaning.specs.Log.{Log, Ordered, GoesOn, point, size, time, rowsAt, latest, elapsed, pointBefore, pointAfter, pointsFrom}
+use Rattle.meaning.specs.Formula.{Formula, atom, and, andNot, keep, or, exists, previous, next, since, notSince, until, notUntil, once, eventually, inWindow, compares, free}
+use Rattle.meaning.specs.Definition2.{Valuation, value}
+use Rattle.meaning.specs.Evaluator.{cutTo, valuationOf, setOf, member, atomRows, andRows, lasting, sinceRows, leading, untilRows, among, vals}
+use Rattle.meaning.specs.Settled.{settledSince, settledUntil, settled}
+use Rattle.meaning.specs.declared.Point.{Point}
+use Rattle.meaning.specs.declared.Window.{Window}
+use Rattle.meaning.proofs.Points.{both, first, second, either, all-same, select-same, select-append, select-none, gather-same, pointsFrom-append, Tested, passed, failed, tested}
+use Rattle.meaning.proofs.Growth.{Extends, extends, ordered-before, latest-first}
+use Rattle.meaning.proofs.Settles.{since-each, UntilSettled, until-parts, twin, present}
+use Rattle.meaning.proofs.Fine.{Fine}
+
+-- the same selection from the same rows
+select-both : (p q : List ℕ → Bool) (rows rows' : List (List ℕ)) → ((u : List ℕ) → p u ≡ q u) → rows ≡ rows' → select p rows ≡ select q rows'
+select-both p q rows rows' h e = select-same p q rows h ∙ ap (select q) e
+
+-- since on two logs, with the same times, left and right up to i
+pub since-same : (l l' : Log) (w : Window) (left left' : List ℕ → Point → Bool) (right right' : Point → List (List ℕ)) (i : Point)
+    → ((j : Point) → j .0 ≤ i .0 → time l j ≡ time l' j)
+    → ((j : Point) → j .0 ≤ i .0 → (u : List ℕ) → left u j ≡ left' u j)
+    → ((j : Point) → j .0 ≤ i .0 → right j ≡ right' j)
+    → sinceRows l w left right i ≡ sinceRows l' w left' right' i
+since-same l l' w left left' right right' i t p q =
+    gather-same (λ j. inWindow w (elapsed (time l j) (time l i))) (λ j. inWindow w (elapsed (time l' j) (time l' i)))
+    (lasting left right i) (lasting left' right' i) 0 (suc (i .0))
+    (λ j u o. ap₂ (λ s s'. inWindow w (elapsed s s')) (t j (omega arith)) (t i (omega arith)))
+    (λ j u o h. select-both _ _ (right j) (right' j)
+    (λ v. all-same (left v) (left' v) (suc (j .0)) (i .0 - j .0) (λ k m n. p k (omega arith) v)) (q j (omega arith)))
+
+-- a time past a window's end is outside it
+past-end : (w : Window) (t : ℕ) → 0 < w .end → w .end ≤ t → inWindow w t ≡ false
+past-end w t d h = go (leb (w .start) t) (ne-eqb (w .end) 0 (λ e. omega arith)) (le-ltb t (w .end) h)
+  where
+    go : (b : Bool) → eqb (w .end) 0 ≡ false → ltb t (w .end) ≡ false → (b && (eqb (w .end) 0 || ltb t (w .end))) ≡ false
+    go true e f = rw (e, f)
+    go false e f = refl
+
+before-end : (w : Window) (t : ℕ) → 0 < w .end → inWindow w t ≡ true → t < w .end
+before-end w t d h = go (tested (ltb t (w .end)))
+  where
+    go : Tested (ltb t (w .end)) → t < w .end
+    go (passed e) = ltb-true t (w .end) e
+    go (failed e) = absurd (false≢true (sym (past-end w t d (ltb-false t (w .end) e)) ∙ h))
+
+-- until on two logs of which the second goes on from the first, settled on the first, with the same left and right inside the window
+pub until-same : (l l' : Log) → Extends l l' → (w : Window) → 0 < w .end → (left left' : List ℕ → Point → Bool) (right right' : Point → List (List ℕ)) (i : Point)
+    → i .0 < size l → time l i .0 + w .end ≤ latest l .0
+    → ((j : Point) → i .0 ≤ j .0 → j .0 < size l → time l j .0 < time l i .0 + w .end → (u : List ℕ) → left u j ≡ left' u j)
+    → ((j : Point) → i .0 ≤ j .0 → j .0 < size l → time l j .0 < time l i .0 + w .end → right j ≡ right' j)
+    → untilRows l w left right i ≡ untilRows l' w left' right' i
+until-same l l' x w d left left' right right' i n late p q =
+    gather-same (λ j. inWindow w (elapsed (time l i) (time l j))) chosen (leading left right i) (leading left' right' i) (i .0) (size l - i .0)
+    (λ j u o. ap₂ (λ s s'. inWindow w (elapsed s s')) (x .times i n) (x .times j (omega arith)))
+    (λ j u o h. let e : elapsed (time l i) (time l j) < w .end = before-end w (elapsed (time l i) (time l j)) d h in
+      select-both _ _ (right j) (right' j)
+      (λ v. all-same (left v) (left' v) (i .0) (j .0 - i .0) (λ k m y. p k m (omega arith) (omega (arith, ordered-before l l' x .steps k j (omega arith) (omega arith))) v)) (q j u (omega arith) (omega arith)))
+    ∙ ap (gather (leading left' right' i)) (sym more)
+  where
+    chosen : Point → Bool
+    chosen j = inWindow w (elapsed (time l' i) (time l' j))
+    late' : (j : Point) → size l ≤ j .0 → j .0 < size l' → chosen j ≡ false
+    late' j u o =
+        past-end w (elapsed (time l' i) (time l' j)) d
+        (omega (arith, ap (λ m. m .0) (x .times i n), latest-first l l' x (omega arith) j (omega arith) o))
+    more : select chosen (pointsFrom (i .0) (size l' - i .0)) ≡ select chosen (pointsFrom (i .0) (size l - i .0))
+    more =
+        let e : size l' - i .0 ≡ (size l - i .0) + (size l' - size l) = omega (arith, x .longer) in
+        rw (e, pointsFrom-append (i .0) (size l - i .0) (size l' - size l), select-append chosen)
+        (rw (select-none chosen (i .0 + (size l - i .0)) (size l' - size l) (λ j u o. late' j (omega arith) (omega (arith, x .longer)))) (append-nil _))
+
+-- the rows of left at a point, cut down and looked up, where they are the same
+among-same : (f : ℕ → Bool) (rows rows' : Point → List (List ℕ)) (j : Point) → rows j ≡ rows' j → (u : List ℕ) → among f rows u j ≡ among f rows' u j
+among-same f rows rows' j e u = ap (member (cutTo f (valuationOf u))) e
+
+module _ (l l' : Log) (x : Extends l l') where
+  -- since and until over a test of the children, where left and right are the same at the points that pass it
+  module _ (w : Window) (c : Point → Bool) (left left' : List ℕ → Point → Bool) (right right' : Point → List (List ℕ))
+      (p : (j : Point) → c j ≡ true → (u : List ℕ) → left u j ≡ left' u j) (q : (j : Point) → c j ≡ true → right j ≡ right' j) (i : Point) where
+    steady-since : i .0 < size l → settledSince c i ≡ true → setOf (sinceRows l w left right i) ≡ setOf (sinceRows l' w left' right' i)
+    steady-since n e =
+        ap setOf
+        (since-same l l' w left left' right right' i (λ j u. x .times j (omega arith))
+        (λ j u. p j (since-each c i e j u)) (λ j u. q j (since-each c i e j u)))
+
+    steady-until : 0 < w .end → settledUntil l w c i ≡ true → setOf (untilRows l w left right i) ≡ setOf (untilRows l' w left' right' i)
+    steady-until d e =
+        let s : UntilSettled l w c i = until-parts l w c i e in
+        ap setOf
+        (until-same l l' x w d left left' right right' i (s .here) (s .late)
+        (λ j u o h. p j (s .inner j u o h)) (λ j u o h. q j (s .inner j u o h)))
+
+  steady-previous : (w : Window) (rows rows' : List (List ℕ)) (i : Point) → i .0 < size l → (eqb (i .0) 0 ≡ true) ⊎ (rows ≡ rows')
+      → setOf (cond (ltb 0 (i .0) && inWindow w (elapsed (time l (pointBefore i)) (time l i))) rows []) ≡ setOf (cond (ltb 0 (i .0) && inWindow w (elapsed (time l' (pointBefore i)) (time l' i))) rows' [])
+  steady-previous w rows rows' i n (inl z) = rw (le-ltb 0 (i .0) (omega (arith, eqb-true (i .0) 0 z)))
+  steady-previous w rows rows' i n (inr e) = rw (e, x .times (pointBefore i) (omega arith), x .times i n)
+
+  pub steady-by : (φ : Formula) → Fine φ → (i : Point) → settled l φ i ≡ true → vals l φ i ≡ vals l' φ i
+  steady-by (atom r ts) f i e = ap (λ rows. setOf (atomRows r ts rows)) (x .rows i (ltb-true (i .0) (size l) e))
+  steady-by (and a b) f i e =
+      ap₂ (λ s t. setOf (andRows (free a) (free b) s t)) (steady-by a (f .0) i (first (settled l a i) (settled l b i) e)) (steady-by b (f .1) i (second (settled l a i) (settled l b i) e))
+  steady-by (andNot a b) f i e =
+      ap₂ (λ s t. setOf (select (λ u. not (member (cutTo (free b) (valuationOf u)) t)) s)) (steady-by a (f .0) i (first (settled l a i) (settled l b i) e)) (steady-by b (f .1) i (second (settled l a i) (settled l b i) e))
+  steady-by (keep a c s t) f i e = ap (λ rows. setOf (select (λ u. compares c (value (valuationOf u) s) (value (valuationOf u) t)) rows)) (steady-by a (f .0) i e)
+  steady-by (or a b) f i e =
+      ap₂ (λ s t. setOf (s ++ t)) (steady-by a (f .0) i (first (settled l a i) (settled l b i) e)) (steady-by b (f .1) i (second (settled l a i) (settled l b i) e))
+  steady-by (exists a y) f i e = ap (λ rows. setOf (map (λ u. cutTo (λ z. not (eqb z y)) (valuationOf u)) rows)) (steady-by a (f .0) i e)
+  steady-by (previous a w) f i e = steady-previous w (vals l a (pointBefore i)) (vals l' a (pointBefore i)) i (present l (previous a w) i e)
+      (go (steady-by a f (pointBefore i)) (either (eqb (i .0) 0) (settled l a (pointBefore i)) (second (ltb (i .0) (size l)) (eqb (i .0) 0 || settled l a (pointBefore i)) e)))
+    where
+      go : (settled l a (pointBefore i) ≡ true → vals l a (pointBefore i) ≡ vals l' a (pointBefore i)) → (eqb (i .0) 0 ≡ true) ⊎ (settled l a (pointBefore i) ≡ true)
+          → (eqb (i .0) 0 ≡ true) ⊎ (vals l a (pointBefore i) ≡ vals l' a (pointBefore i))
+      go s (inl z) = inl z
+      go s (inr h) = inr (s h)
+  steady-by (next a w) f i e = 
+      let n : suc (i .0) < size l = present l a (pointAfter i) e in
+      rw (lt-ltb (suc (i .0)) (size l) n, lt-ltb (suc (i .0)) (size l') (omega (arith, x .longer)), x .times i (omega arith), x .times (pointAfter i) n, steady-by a f (pointAfter i) e)
+  steady-by (since a b w) f i e =
+      steady-since w (twin l a b) (among (free a) (vals l a)) (among (free a) (vals l' a)) (vals l b) (vals l' b)
+      (λ j h. among-same (free a) (vals l a) (vals l' a) j (steady-by a (f .0) j (first (settled l a j) (settled l b j) h)))
+      (λ j h. steady-by b (f .1) j (second (settled l a j) (settled l b j) h)) i (present l (since a b w) i e) e
+  steady-by (notSince a b w) f i e =
+      steady-since w (twin l a b) (λ u k. not (among (free a) (vals l a) u k)) (λ u k. not (among (free a) (vals l' a) u k)) (vals l b) (vals l' b)
+      (λ j h u. ap not (among-same (free a) (vals l a) (vals l' a) j (steady-by a (f .0) j (first (settled l a j) (settled l b j) h)) u))
+      (λ j h. steady-by b (f .1) j (second (settled l a j) (settled l b j) h)) i (present l (notSince a b w) i e) e
+  steady-by (until a b w) f i e =
+      steady-until w (twin l a b) (among (free a) (vals l a)) (among (free a) (vals l' a)) (vals l b) (vals l' b)
+      (λ j h. among-same (free a) (vals l a) (vals l' a) j (steady-by a (f .0) j (first (settled l a j) (settled l b j) h)))
+      (λ j h. steady-by b (f .1) j (second (settled l a j) (settled l b j) h)) i (f .3) e
+  steady-by (notUntil a b w) f i e =
+      steady-until w (twin l a b) (λ u k. not (among (free a) (vals l a) u k)) (λ u k. not (among (free a) (vals l' a) u k)) (vals l b) (vals l' b)
+      (λ j h u. ap not (among-same (free a) (vals l a) (vals l' a) j (steady-by a (f .0) j (first (settled l a j) (settled l b j) h)) u))
+      (λ j h. steady-by b (f .1) j (second (settled l a j) (settled l b j) h)) i (f .3) e
+  steady-by (once a w) f i e =
+      steady-since w (settled l a) (λ u k. true) (λ u k. true) (vals l a) (vals l' a) (λ j h u. refl) (λ j h. steady-by a f j h) i (present l (once a w) i e) e
+  steady-by (eventually a w) f i e =
+      steady-until w (settled l a) (λ u k. true) (λ u k. true) (vals l a) (vals l' a) (λ j h u. refl) (λ j h. steady-by a (f .0) j h) i (f .1) e
+
+-- The valuations at a settled point are the same on every log that begins with this one and goes on by points whose times don't fall.
+pub steady : (l l' : Log) → GoesOn l l' → (φ : Formula) → Fine φ → (i : Point) → settled l φ i ≡ true → vals l φ i ≡ vals l' φ i
+steady l l' g = steady-by l l' (extends l l' g)
