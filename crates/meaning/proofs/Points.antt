@@ -41,6 +41,14 @@ pub tested : (t : Bool) → Tested t
 tested true = passed refl
 tested false = failed refl
 
+-- what holds of a number and of the run after it holds of the run from it on
+pub from-first : (P : ℕ → Type 0) (a n : ℕ) → P a → ((x : ℕ) → suc a ≤ x → x < suc a + n → P x) → (x : ℕ) → a ≤ x → x < a + suc n → P x
+from-first P a n here rest x u o = go (eq-or-lt-of-le u)
+  where
+    go : (a ≡ x) ⊎ (a < x) → P x
+    go (inl e) = rw e at here
+    go (inr h) = rest x h (omega arith)
+
 module _ (p : Point → Bool) where
   pub all-points : (a n : ℕ) → ((j : Point) → a ≤ j .0 → j .0 < a + n → p j ≡ true) → all p (pointsFrom a n) ≡ true
   all-points a zero h = refl
@@ -50,11 +58,8 @@ module _ (p : Point → Bool) where
   pub each-point : (a n : ℕ) → all p (pointsFrom a n) ≡ true → (j : Point) → a ≤ j .0 → j .0 < a + n → p j ≡ true
   each-point a zero e j u o = absurd (omega arith)
   each-point a (suc n) e j u o =
-      go (each-point (suc a) n (second (p (point a)) (all p (pointsFrom (suc a) n)) e)) (first (p (point a)) _ e) (eq-or-lt-of-le u)
-    where
-      go : ((j : Point) → suc a ≤ j .0 → j .0 < suc a + n → p j ≡ true) → p (point a) ≡ true → (a ≡ j .0) ⊎ (a < j .0) → p j ≡ true
-      go rest here (inl e) = rw e at here
-      go rest here (inr h) = rest j h (omega arith)
+      from-first (λ x. p (point x) ≡ true) a n (first (p (point a)) (all p (pointsFrom (suc a) n)) e)
+      (λ x v m. each-point (suc a) n (second (p (point a)) (all p (pointsFrom (suc a) n)) e) (point x) v m) (j .0) u o
 
 -- two tests that give the same at every point of a run
 pub all-same : (p q : Point → Bool) (a n : ℕ) → ((j : Point) → a ≤ j .0 → j .0 < a + n → p j ≡ q j) → all p (pointsFrom a n) ≡ all q (pointsFrom a n)
