@@ -75,12 +75,12 @@ accepted b a e =
     let long : _ × _ = no-refusal (not (eqb (length b) (12 + 20 * nodeCount b))) 1 0 _ a (out .1) in
     let nodes : _ × _ = nodes-pass b a 0 (nodeCount b) _ (long .1) in
     let parents : _ × _ = once-each b a 0 (nodeCount b - 1) _ (nodes .1) in
-    record
-    { sizes = not-false _ (out .0)
-    ; long = eqb-true (length b) (12 + 20 * nodeCount b) (not-false _ (long .0))
-    ; each = λ x o. nodes .0 x (omega arith) (omega arith)
-    ; once = λ x o. parents .0 x (omega arith) (omega arith)
-    ; answer = let q : given a ≡ given (record { reach = reach (pattern b); free = maskOf (free (pattern b)) }) = sym (parents .1) in cc
+    record {
+      sizes = not-false _ (out .0);
+      long = eqb-true (length b) (12 + 20 * nodeCount b) (not-false _ (long .0));
+      each = λ x o. nodes .0 x (omega arith) (omega arith);
+      once = λ x o. parents .0 x (omega arith) (omega arith);
+      answer = let q : given a ≡ given (record { reach = reach (pattern b); free = maskOf (free (pattern b)) }) = sym (parents .1) in cc;
     }
 
 -- An atom's terms: each is a constant or one of the four variables.

@@ -17,11 +17,11 @@ pub record Extends (l l' : Log) : Type 0 where
 pub extends : (l l' : Log) → GoesOn l l' → Extends l l'
 unfolding time rowsAt
 extends l l' g =
-    record
-    { longer = omega (arith, ap length (g .begins), length-append l (g .more))
-    ; times = λ i h. ap (λ p. p .time) (same i h)
-    ; rows = λ i h. ap (λ p. p .rows) (same i h)
-    ; ordered = g .ordered
+    record {
+      longer = omega (arith, ap length (g .begins), length-append l (g .more));
+      times = λ i h. ap (λ p. p .time) (same i h);
+      rows = λ i h. ap (λ p. p .rows) (same i h);
+      ordered = g .ordered;
     }
   where
     same : (i : Point) → i .0 < size l → getD l (i .0) beyond ≡ getD l' (i .0) beyond
@@ -30,9 +30,9 @@ extends l l' g =
 module _ (l l' : Log) (e : Extends l l') where
   pub ordered-before : Ordered l
   ordered-before =
-      record
-      { steps = λ i j u o.
-        rw (e .times i (omega arith), e .times j o) (e .ordered .steps i j u (omega (arith, e .longer)))
+      record {
+        steps = λ i j u o.
+            rw (e .times i (omega arith), e .times j o) (e .ordered .steps i j u (omega (arith, e .longer)));
       }
 
   -- the other's latest time is no later than any point from there on

@@ -104,8 +104,10 @@ gather-same p q f g a (suc n) h k =
   where
     ps : List Point
     ps = select p (pointsFrom (suc a) n)
+
     qs : List Point
     qs = select q (pointsFrom (suc a) n)
+
     go : (s t : Bool) → s ≡ t → (s ≡ true → f (point a) ≡ g (point a)) → gather f ps ≡ gather g qs → gather f (cond s (point a ∷ ps) ps) ≡ gather g (cond t (point a ∷ qs) qs)
     go true true e here rest = ap₂ (λ xs ys. xs ++ ys) (here refl) rest
     go true false e here rest = absurd (false≢true (sym e))

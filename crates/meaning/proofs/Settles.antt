@@ -41,10 +41,10 @@ module _ (l : Log) (w : Window) (c : Point → Bool) (i : Point) where
       let n : Bool = ltb (i .0) (size l) in
       let t : Bool = leb (time l i .0 + w .end) (latest l .0) in
       let o : i .0 < size l = ltb-true (i .0) (size l) (first n t (first (n && t) ps e)) in
-      record
-      { here = o
-      ; late = leb-true (time l i .0 + w .end) (latest l .0) (second n t (first (n && t) ps e))
-      ; inner = λ j u o h. go j h (each-point (inside l w c i) (i .0) (size l - i .0) (second (n && t) ps e) j u (omega arith))
+      record {
+        here = o;
+        late = leb-true (time l i .0 + w .end) (latest l .0) (second n t (first (n && t) ps e));
+        inner = λ j u o h. go j h (each-point (inside l w c i) (i .0) (size l - i .0) (second (n && t) ps e) j u (omega arith));
       }
     where
       go : (j : Point) → time l j .0 < time l i .0 + w .end → inside l w c i j ≡ true → c j ≡ true
@@ -96,14 +96,15 @@ down-until l o w pos c d i j u e = go (until-parts l w c i e)
     near : UntilSettled l w c i → time l j .0 ≤ time l i .0 → (k : Point) → k .0 < size l → time l k .0 < time l j .0 + w .end → Tested (ltb (k .0) (i .0)) → c k ≡ true
     near p t k n h (passed e) = d i k (omega (arith, ltb-true (k .0) (i .0) e)) (p .inner i (omega arith) (p .here) (omega arith))
     near p t k n h (failed e) = p .inner k (ltb-false (k .0) (i .0) e) n (omega arith)
+
     go : UntilSettled l w c i → settledUntil l w c j ≡ true
     go p =
         let t : time l j .0 ≤ time l i .0 = o .steps j i u (p .here) in
         until-whole l w c j
-        (record
-        { here = omega (arith, p .here)
-        ; late = omega (arith, p .late)
-        ; inner = λ k m n h. near p t k n h (tested (ltb (k .0) (i .0)))
+        (record {
+          here = omega (arith, p .here);
+          late = omega (arith, p .late);
+          inner = λ k m n h. near p t k n h (tested (ltb (k .0) (i .0)));
         })
 
 down-previous : (l : Log) (c : Point → Bool) → Down c → Down (λ i. ltb (i .0) (size l) && (eqb (i .0) 0 || c (pointBefore i)))
@@ -154,14 +155,15 @@ up-until l l' x w c c' p i e = go (until-parts l w c i e)
     near q t j u o h (failed y) =
         let n : size l ≤ j .0 = ltb-false (j .0) (size l) y in
         absurd (omega (arith, q .late, latest-first l l' x (omega (arith, q .here)) j (omega arith) o))
+
     go : UntilSettled l w c i → settledUntil l' w c' i ≡ true
     go q =
         let t : time l i .0 ≡ time l' i .0 = ap (λ m. m .0) (x .times i (q .here)) in
         until-whole l' w c' i
-        (record
-        { here = omega (arith, q .here, x .longer)
-        ; late = omega (arith, q .late, latest-grows l l' x (omega (arith, q .here)))
-        ; inner = λ j u o h. near q t j u o h (tested (ltb (j .0) (size l)))
+        (record {
+          here = omega (arith, q .here, x .longer);
+          late = omega (arith, q .late, latest-grows l l' x (omega (arith, q .here)));
+          inner = λ j u o h. near q t j u o h (tested (ltb (j .0) (size l)));
         })
 
 up-previous : (l l' : Log) → Extends l l' → (c c' : Point → Bool) → Up c c' → Up (λ i. ltb (i .0) (size l) && (eqb (i .0) 0 || c (pointBefore i))) (λ i. ltb (i .0) (size l') && (eqb (i .0) 0 || c' (pointBefore i)))

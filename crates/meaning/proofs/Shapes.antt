@@ -128,6 +128,7 @@ module _ (b : List ℕ) (x a : ℕ) (h : Head) (w : Body) where
       last : (y ≡ d) ⊎ List·Memᴰ y [] → y < x
       last (inl p) = rw p v
       last (inr p) = absurd (List·Memᴰ·not-nil p)
+
       go : (y ≡ c) ⊎ List·Memᴰ y (d ∷ []) → y < x
       go (inl p) = rw p u
       go (inr p) = last (List·Memᴰ·cases-cons p)

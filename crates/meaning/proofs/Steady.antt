@@ -62,16 +62,18 @@ until-same l l' x w d left left' right right' i n late p q =
     gather-same (λ j. inWindow w (elapsed (time l i) (time l j))) chosen (leading left right i) (leading left' right' i) (i .0) (size l - i .0)
     (λ j u o. ap₂ (λ s s'. inWindow w (elapsed s s')) (x .times i n) (x .times j (omega arith)))
     (λ j u o h. let e : elapsed (time l i) (time l j) < w .end = before-end w (elapsed (time l i) (time l j)) d h in
-      select-both _ _ (right j) (right' j)
-      (λ v. all-same (left v) (left' v) (i .0) (j .0 - i .0) (λ k m y. p k m (omega arith) (omega (arith, ordered-before l l' x .steps k j (omega arith) (omega arith))) v)) (q j u (omega arith) (omega arith)))
+    select-both _ _ (right j) (right' j)
+    (λ v. all-same (left v) (left' v) (i .0) (j .0 - i .0) (λ k m y. p k m (omega arith) (omega (arith, ordered-before l l' x .steps k j (omega arith) (omega arith))) v)) (q j u (omega arith) (omega arith)))
     ∙ ap (gather (leading left' right' i)) (sym more)
   where
     chosen : Point → Bool
     chosen j = inWindow w (elapsed (time l' i) (time l' j))
+
     late' : (j : Point) → size l ≤ j .0 → j .0 < size l' → chosen j ≡ false
     late' j u o =
         past-end w (elapsed (time l' i) (time l' j)) d
         (omega (arith, ap (λ m. m .0) (x .times i n), latest-first l l' x (omega arith) j (omega arith) o))
+
     more : select chosen (pointsFrom (i .0) (size l' - i .0)) ≡ select chosen (pointsFrom (i .0) (size l - i .0))
     more =
         let e : size l' - i .0 ≡ (size l - i .0) + (size l' - size l) = omega (arith, x .longer) in
@@ -121,7 +123,7 @@ module _ (l l' : Log) (x : Extends l l') where
           → (eqb (i .0) 0 ≡ true) ⊎ (vals l a (pointBefore i) ≡ vals l' a (pointBefore i))
       go s (inl z) = inl z
       go s (inr h) = inr (s h)
-  steady-by (next a w) f i e = 
+  steady-by (next a w) f i e =
       let n : suc (i .0) < size l = present l a (pointAfter i) e in
       rw (lt-ltb (suc (i .0)) (size l) n, lt-ltb (suc (i .0)) (size l') (omega (arith, x .longer)), x .times i (omega arith), x .times (pointAfter i) n, steady-by a f (pointAfter i) e)
   steady-by (since a b w) f i e =

@@ -44,13 +44,13 @@ logs b l (t ∷ ts) = step b l t ∷ logs b (step b l t) ts
 -- the case with what the definitions give in the place of what is expected
 abbrev pub run : Case → Case
 run c =
-    record
-    { rule = c .rule
-    ; events = c .events
-    ; checked = checking (c .rule)
-    ; reports = map words (keeper (c .rule) [] (takings c))
-    ; kepts = map (kept (c .rule)) (logs (c .rule) [] (takings c))
-    ; left = openPoints (c .rule) (keeperLog (c .rule) [] (takings c))
+    record {
+      rule = c .rule;
+      events = c .events;
+      checked = checking (c .rule);
+      reports = map words (keeper (c .rule) [] (takings c));
+      kepts = map (kept (c .rule)) (logs (c .rule) [] (takings c));
+      left = openPoints (c .rule) (keeperLog (c .rule) [] (takings c));
     }
 
 -- Rule files and events, spelt out: a head, a body of words, a size line.
@@ -117,159 +117,168 @@ reaching r f = given (record { reach = r; free = f })
 -- relation 0 of two columns, kept by a comparison of the two
 abbrev keeping : ℕ → List ℕ → Case
 keeping comparison words =
-    record
-    { rule = 1 ∷ 1 ∷ 2 ∷ 0 ∷ 2 ∷ 0 ∷ 0 ∷ 0 ∷ 0 ∷ 0 ∷ 0 ∷ 0 ∷ (head 1 0 0 ++ head 4 0 comparison ++ body 0 1 ++ body 0 1)
-    ; events = pairsOfWords 3 ((1 ∷ 2 ∷ []) ∷ (2 ∷ 1 ∷ []) ∷ (2 ∷ 2 ∷ []) ∷ []) ∷ []
-    ; checked = reaching 0 3
-    ; reports = words ∷ []
-    ; kepts = 0 ∷ []
-    ; left = 0
+    record {
+      rule = 1 ∷ 1 ∷ 2 ∷ 0 ∷ 2 ∷ 0 ∷ 0 ∷ 0 ∷ 0 ∷ 0 ∷ 0 ∷ 0 ∷ (head 1 0 0 ++ head 4 0 comparison ++ body 0 1 ++ body 0 1);
+      events = pairsOfWords 3 ((1 ∷ 2 ∷ []) ∷ (2 ∷ 1 ∷ []) ∷ (2 ∷ 2 ∷ []) ∷ []) ∷ [];
+      checked = reaching 0 3;
+      reports = words ∷ [];
+      kepts = 0 ∷ [];
+      left = 0;
     }
 
 abbrev pub cases : List Case
 cases =
     -- "L above; kept after its events is 2, 3, 2, 2"
-    record
-    { rule = ruleL
-    ; events = leaks ∷ one 130 close 9 ∷ one 161 close 7 ∷ one 191 leak 9 ∷ []
-    ; checked = reaching 61 1
-    ; reports = none 1 ∷ none 1 ∷ (1 ∷ 1 ∷ 1 ∷ 0 ∷ 100 ∷ 1 ∷ 7 ∷ []) ∷ (1 ∷ 1 ∷ 0 ∷ 1 ∷ 130 ∷ 0 ∷ []) ∷ []
-    ; kepts = 2 ∷ 3 ∷ 2 ∷ 2 ∷ []
-    ; left = 2
+    record {
+      rule = ruleL;
+      events = leaks ∷ one 130 close 9 ∷ one 161 close 7 ∷ one 191 leak 9 ∷ [];
+      checked = reaching 61 1;
+      reports = none 1 ∷ none 1 ∷ (1 ∷ 1 ∷ 1 ∷ 0 ∷ 100 ∷ 1 ∷ 7 ∷ []) ∷ (1 ∷ 1 ∷ 0 ∷ 1 ∷ 130 ∷ 0 ∷ []) ∷ [];
+      kepts = 2 ∷ 3 ∷ 2 ∷ 2 ∷ [];
+      left = 2;
     }
     -- "Closing 7 at 160 instead reports no row for point 0, when 191 settles it"
-    ∷ record
-    { rule = ruleL
-    ; events = leaks ∷ one 130 close 9 ∷ one 160 close 7 ∷ one 191 leak 9 ∷ []
-    ; checked = reaching 61 1
-    ; reports = none 1 ∷ none 1 ∷ none 1 ∷ (2 ∷ 1 ∷ 0 ∷ 0 ∷ 100 ∷ 0 ∷ 1 ∷ 130 ∷ 0 ∷ []) ∷ []
-    ; kepts = 2 ∷ 3 ∷ 4 ∷ 2 ∷ []
-    ; left = 2
+    ∷ record {
+      rule = ruleL;
+      events = leaks ∷ one 130 close 9 ∷ one 160 close 7 ∷ one 191 leak 9 ∷ [];
+      checked = reaching 61 1;
+      reports = none 1 ∷ none 1 ∷ none 1 ∷ (2 ∷ 1 ∷ 0 ∷ 0 ∷ 100 ∷ 0 ∷ 1 ∷ 130 ∷ 0 ∷ []) ∷ [];
+      kepts = 2 ∷ 3 ∷ 4 ∷ 2 ∷ [];
+      left = 2;
     }
     -- "until [0, 5): right true, left false at the same point: satisfied"
-    ∷ record
-    { rule = binary 11 0 5
-    ; events = facts 10 (1 ∷ []) ∷ facts 15 [] ∷ []
-    ; checked = reaching 5 0
-    ; reports = none 0 ∷ met 0 10 ∷ []
-    ; kepts = 1 ∷ 0 ∷ []
-    ; left = 1
+    ∷ record {
+      rule = binary 11 0 5;
+      events = facts 10 (1 ∷ []) ∷ facts 15 [] ∷ [];
+      checked = reaching 5 0;
+      reports = none 0 ∷ met 0 10 ∷ [];
+      kepts = 1 ∷ 0 ∷ [];
+      left = 1;
     }
     -- "since [0, 5): right at 10, left at 14 (age 4): yes"
-    ∷ record
-    { rule = binary 9 0 5
-    ; events = facts 10 (1 ∷ []) ∷ facts 14 (0 ∷ []) ∷ []
-    ; checked = reaching 0 0
-    ; reports = met 0 10 ∷ met 1 14 ∷ []
-    ; kepts = 1 ∷ 1 ∷ []
-    ; left = 0
+    ∷ record {
+      rule = binary 9 0 5;
+      events = facts 10 (1 ∷ []) ∷ facts 14 (0 ∷ []) ∷ [];
+      checked = reaching 0 0;
+      reports = met 0 10 ∷ met 1 14 ∷ [];
+      kepts = 1 ∷ 1 ∷ [];
+      left = 0;
     }
     -- "Left at 15, no point between: no"
-    ∷ record
-    { rule = binary 9 0 5
-    ; events = facts 10 (1 ∷ []) ∷ facts 15 (0 ∷ []) ∷ []
-    ; checked = reaching 0 0
-    ; reports = met 0 10 ∷ denied 1 15 ∷ []
-    ; kepts = 1 ∷ 0 ∷ []
-    ; left = 0
+    ∷ record {
+      rule = binary 9 0 5;
+      events = facts 10 (1 ∷ []) ∷ facts 15 (0 ∷ []) ∷ [];
+      checked = reaching 0 0;
+      reports = met 0 10 ∷ denied 1 15 ∷ [];
+      kepts = 1 ∷ 0 ∷ [];
+      left = 0;
     }
     -- "Left missing at 14: no"
-    ∷ record
-    { rule = binary 9 0 5
-    ; events = facts 10 (1 ∷ []) ∷ facts 14 [] ∷ []
-    ; checked = reaching 0 0
-    ; reports = met 0 10 ∷ denied 1 14 ∷ []
-    ; kepts = 1 ∷ 0 ∷ []
-    ; left = 0
+    ∷ record {
+      rule = binary 9 0 5;
+      events = facts 10 (1 ∷ []) ∷ facts 14 [] ∷ [];
+      checked = reaching 0 0;
+      reports = met 0 10 ∷ denied 1 14 ∷ [];
+      kepts = 1 ∷ 0 ∷ [];
+      left = 0;
     }
     -- "previous [1, 3) over times 10 and 10: no; .. point 0: no"
-    ∷ record
-    { rule = unary 7 1 3
-    ; events = facts 10 (0 ∷ []) ∷ facts 10 [] ∷ []
-    ; checked = reaching 0 0
-    ; reports = denied 0 10 ∷ denied 1 10 ∷ []
-    ; kepts = 1 ∷ 0 ∷ []
-    ; left = 0
+    ∷ record {
+      rule = unary 7 1 3;
+      events = facts 10 (0 ∷ []) ∷ facts 10 [] ∷ [];
+      checked = reaching 0 0;
+      reports = denied 0 10 ∷ denied 1 10 ∷ [];
+      kepts = 1 ∷ 0 ∷ [];
+      left = 0;
+    }
+    -- point 0 has none before it, whatever the window
+    ∷ record {
+      rule = unary 7 0 3;
+      events = facts 10 (0 ∷ []) ∷ facts 10 [] ∷ [];
+      checked = reaching 0 0;
+      reports = denied 0 10 ∷ met 1 10 ∷ [];
+      kepts = 1 ∷ 0 ∷ [];
+      left = 0;
     }
     -- "10 and 12: yes"
-    ∷ record
-    { rule = unary 7 1 3
-    ; events = facts 10 (0 ∷ []) ∷ facts 12 [] ∷ []
-    ; checked = reaching 0 0
-    ; reports = denied 0 10 ∷ met 1 12 ∷ []
-    ; kepts = 1 ∷ 0 ∷ []
-    ; left = 0
+    ∷ record {
+      rule = unary 7 1 3;
+      events = facts 10 (0 ∷ []) ∷ facts 12 [] ∷ [];
+      checked = reaching 0 0;
+      reports = denied 0 10 ∷ met 1 12 ∷ [];
+      kepts = 1 ∷ 0 ∷ [];
+      left = 0;
     }
     -- "10 and 13: no"
-    ∷ record
-    { rule = unary 7 1 3
-    ; events = facts 10 (0 ∷ []) ∷ facts 13 [] ∷ []
-    ; checked = reaching 0 0
-    ; reports = denied 0 10 ∷ denied 1 13 ∷ []
-    ; kepts = 1 ∷ 0 ∷ []
-    ; left = 0
+    ∷ record {
+      rule = unary 7 1 3;
+      events = facts 10 (0 ∷ []) ∷ facts 13 [] ∷ [];
+      checked = reaching 0 0;
+      reports = denied 0 10 ∷ denied 1 13 ∷ [];
+      kepts = 1 ∷ 0 ∷ [];
+      left = 0;
     }
     -- "until [2, 4), left at 0 and 1, right at 2: point 0, settled by a point at 4, yes. Point 1, settled by a further point at 5, no"
-    ∷ record
-    { rule = binary 11 2 4
-    ; events = facts 0 (0 ∷ []) ∷ facts 1 (0 ∷ []) ∷ facts 2 (1 ∷ []) ∷ facts 4 [] ∷ facts 5 [] ∷ []
-    ; checked = reaching 4 0
-    ; reports = none 0 ∷ none 0 ∷ none 0 ∷ met 0 0 ∷ denied 1 1 ∷ []
-    ; kepts = 1 ∷ 2 ∷ 3 ∷ 2 ∷ 1 ∷ []
-    ; left = 3
+    ∷ record {
+      rule = binary 11 2 4;
+      events = facts 0 (0 ∷ []) ∷ facts 1 (0 ∷ []) ∷ facts 2 (1 ∷ []) ∷ facts 4 [] ∷ facts 5 [] ∷ [];
+      checked = reaching 4 0;
+      reports = none 0 ∷ none 0 ∷ none 0 ∷ met 0 0 ∷ denied 1 1 ∷ [];
+      kepts = 1 ∷ 2 ∷ 3 ∷ 2 ∷ 1 ∷ [];
+      left = 3;
     }
     -- "once [5, 10), atom at 0 and 4, asked at 6: yes": the age 4 at the last point isn't the only one kept
-    ∷ record
-    { rule = unary 13 5 10
-    ; events = facts 0 (0 ∷ []) ∷ facts 4 (0 ∷ []) ∷ facts 6 [] ∷ []
-    ; checked = reaching 0 0
-    ; reports = denied 0 0 ∷ denied 1 4 ∷ met 2 6 ∷ []
-    ; kepts = 1 ∷ 2 ∷ 2 ∷ []
-    ; left = 0
+    ∷ record {
+      rule = unary 13 5 10;
+      events = facts 0 (0 ∷ []) ∷ facts 4 (0 ∷ []) ∷ facts 6 [] ∷ [];
+      checked = reaching 0 0;
+      reports = denied 0 0 ∷ denied 1 4 ∷ met 2 6 ∷ [];
+      kepts = 1 ∷ 2 ∷ 2 ∷ [];
+      left = 0;
     }
     -- with no end, ages above c count as c: 7 and 11 are one pair
-    ∷ record
-    { rule = unary 13 5 0
-    ; events = facts 0 (0 ∷ []) ∷ facts 4 (0 ∷ []) ∷ facts 11 [] ∷ []
-    ; checked = reaching 0 0
-    ; reports = denied 0 0 ∷ denied 1 4 ∷ met 2 11 ∷ []
-    ; kepts = 1 ∷ 2 ∷ 1 ∷ []
-    ; left = 0
+    ∷ record {
+      rule = unary 13 5 0;
+      events = facts 0 (0 ∷ []) ∷ facts 4 (0 ∷ []) ∷ facts 11 [] ∷ [];
+      checked = reaching 0 0;
+      reports = denied 0 0 ∷ denied 1 4 ∷ met 2 11 ∷ [];
+      kepts = 1 ∷ 2 ∷ 1 ∷ [];
+      left = 0;
     }
     -- events with equal times are separate points: left missing at the second breaks since, and not-since asks for that
-    ∷ record
-    { rule = binary 9 0 5
-    ; events = facts 10 (1 ∷ []) ∷ facts 10 [] ∷ []
-    ; checked = reaching 0 0
-    ; reports = met 0 10 ∷ denied 1 10 ∷ []
-    ; kepts = 1 ∷ 0 ∷ []
-    ; left = 0
+    ∷ record {
+      rule = binary 9 0 5;
+      events = facts 10 (1 ∷ []) ∷ facts 10 [] ∷ [];
+      checked = reaching 0 0;
+      reports = met 0 10 ∷ denied 1 10 ∷ [];
+      kepts = 1 ∷ 0 ∷ [];
+      left = 0;
     }
-    ∷ record
-    { rule = binary 10 0 5
-    ; events = facts 10 (1 ∷ []) ∷ facts 10 [] ∷ facts 10 (0 ∷ []) ∷ []
-    ; checked = reaching 0 0
-    ; reports = met 0 10 ∷ met 1 10 ∷ denied 2 10 ∷ []
-    ; kepts = 1 ∷ 1 ∷ 0 ∷ []
-    ; left = 0
+    ∷ record {
+      rule = binary 10 0 5;
+      events = facts 10 (1 ∷ []) ∷ facts 10 [] ∷ facts 10 (0 ∷ []) ∷ [];
+      checked = reaching 0 0;
+      reports = met 0 10 ∷ met 1 10 ∷ denied 2 10 ∷ [];
+      kepts = 1 ∷ 1 ∷ 0 ∷ [];
+      left = 0;
     }
     -- next [1, 3) over 10, 12 and 15, and a fall in time, refused with 11
-    ∷ record
-    { rule = unary 8 1 3
-    ; events = facts 10 [] ∷ facts 12 (0 ∷ []) ∷ facts 11 [] ∷ facts 15 (0 ∷ []) ∷ []
-    ; checked = reaching 0 0
-    ; reports = none 0 ∷ met 0 10 ∷ (11 ∷ 0 ∷ []) ∷ denied 1 12 ∷ []
-    ; kepts = 0 ∷ 0 ∷ 0 ∷ 0 ∷ []
-    ; left = 1
+    ∷ record {
+      rule = unary 8 1 3;
+      events = facts 10 [] ∷ facts 12 (0 ∷ []) ∷ facts 11 [] ∷ facts 15 (0 ∷ []) ∷ [];
+      checked = reaching 0 0;
+      reports = none 0 ∷ met 0 10 ∷ (11 ∷ 0 ∷ []) ∷ denied 1 12 ∷ [];
+      kepts = 0 ∷ 0 ∷ 0 ∷ 0 ∷ [];
+      left = 1;
     }
     -- rows ascend by variable 0, then by variable 1, and a repeated row counts as one
-    ∷ record
-    { rule = 1 ∷ 1 ∷ 1 ∷ 0 ∷ 2 ∷ 0 ∷ 0 ∷ 0 ∷ 0 ∷ 0 ∷ 0 ∷ 0 ∷ (head 1 0 0 ++ body 0 1)
-    ; events = pairsOfWords 3 ((2 ∷ 1 ∷ []) ∷ (1 ∷ 5 ∷ []) ∷ (1 ∷ 3 ∷ []) ∷ (2 ∷ 1 ∷ []) ∷ []) ∷ []
-    ; checked = reaching 0 3
-    ; reports = (1 ∷ 2 ∷ 3 ∷ 0 ∷ 3 ∷ 3 ∷ 1 ∷ 3 ∷ 1 ∷ 5 ∷ 2 ∷ 1 ∷ []) ∷ []
-    ; kepts = 0 ∷ []
-    ; left = 0
+    ∷ record {
+      rule = 1 ∷ 1 ∷ 1 ∷ 0 ∷ 2 ∷ 0 ∷ 0 ∷ 0 ∷ 0 ∷ 0 ∷ 0 ∷ 0 ∷ (head 1 0 0 ++ body 0 1);
+      events = pairsOfWords 3 ((2 ∷ 1 ∷ []) ∷ (1 ∷ 5 ∷ []) ∷ (1 ∷ 3 ∷ []) ∷ (2 ∷ 1 ∷ []) ∷ []) ∷ [];
+      checked = reaching 0 3;
+      reports = (1 ∷ 2 ∷ 3 ∷ 0 ∷ 3 ∷ 3 ∷ 1 ∷ 3 ∷ 1 ∷ 5 ∷ 2 ∷ 1 ∷ []) ∷ [];
+      kepts = 0 ∷ [];
+      left = 0;
     }
     -- keep: "0 equal, 1 different, 2 less, 3 not less"
     ∷ keeping 0 (1 ∷ 2 ∷ 1 ∷ 0 ∷ 3 ∷ 1 ∷ 2 ∷ 2 ∷ [])
