@@ -1,4 +1,4 @@
--- Tests joined by && and ||, and tests over a run of points: what they say of each point, and when two runs give the same.
+-- Tests joined by && and ||, and tests over a run of points: when two runs give the same.
 use Prim.Native.Nat.{ℕ, zero, suc, _+_, _-_, _≤_, _<_}
 use mathlib.Core.Path.{_≡_, refl, sym, _∙_, ap, ap₂, subst, fun-ext}
 use mathlib.Core.Bool.{Bool, true, false, not, cond, _&&_, _||_, false≢true}
@@ -20,10 +20,6 @@ first false b e = absurd (false≢true e)
 pub second : (a b : Bool) → (a && b) ≡ true → b ≡ true
 second true b e = e
 second false b e = absurd (false≢true e)
-
-pub either : (a b : Bool) → (a || b) ≡ true → (a ≡ true) ⊎ (b ≡ true)
-either true b e = inl refl
-either false b e = inr e
 
 pub orLeft : (a b : Bool) → a ≡ true → (a || b) ≡ true
 orLeft a b e = rw e
@@ -48,18 +44,6 @@ from-first P a n here rest x u o = go (eq-or-lt-of-le u)
     go : (a ≡ x) ⊎ (a < x) → P x
     go (inl e) = rw e at here
     go (inr h) = rest x h (omega arith)
-
-module _ (p : Point → Bool) where
-  pub all-points : (a n : ℕ) → ((j : Point) → a ≤ j .0 → j .0 < a + n → p j ≡ true) → all p (pointsFrom a n) ≡ true
-  all-points a zero h = refl
-  all-points a (suc n) h =
-      both (h (point a) (omega arith) (omega arith)) (all-points (suc a) n (λ j u o. h j (omega arith) (omega arith)))
-
-  pub each-point : (a n : ℕ) → all p (pointsFrom a n) ≡ true → (j : Point) → a ≤ j .0 → j .0 < a + n → p j ≡ true
-  each-point a zero e j u o = absurd (omega arith)
-  each-point a (suc n) e j u o =
-      from-first (λ x. p (point x) ≡ true) a n (first (p (point a)) (all p (pointsFrom (suc a) n)) e)
-      (λ x v m. each-point (suc a) n (second (p (point a)) (all p (pointsFrom (suc a) n)) e) (point x) v m) (j .0) u o
 
 -- two tests that give the same at every point of a run
 pub all-same : (p q : Point → Bool) (a n : ℕ) → ((j : Point) → a ≤ j .0 → j .0 < a + n → p j ≡ q j) → all p (pointsFrom a n) ≡ all q (pointsFrom a n)

@@ -14,16 +14,17 @@ use Rattle.meaning.specs.Formula.{Formula, atom, and, andNot, keep, or, 
 use Rattle.meaning.specs.Settled.{settledSince, settledUntil, settled}
 use Rattle.meaning.specs.declared.Point.{Point}
 use Rattle.meaning.specs.declared.Window.{Window}
-use Rattle.meaning.proofs.Points.{both, first, second, either, orLeft, orRight, all-points, each-point, Tested, passed, failed, tested}
+use Rattle.meaning.proofs.Points.{both, first, second, orLeft, orRight, Tested, passed, failed, tested}
+use Rattle.meaning.proofs.Rows.{either, all-points}
 use Rattle.meaning.proofs.Growth.{Extends, ordered-before, latest-first, latest-grows, at-latest}
 use Rattle.meaning.proofs.Fine.{Fine}
 
 -- What "settled" says for since and until, over a test of the children.
 pub since-each : (c : Point → Bool) (i : Point) → settledSince c i ≡ true → (j : Point) → j .0 ≤ i .0 → c j ≡ true
-since-each c i e j u = each-point c 0 (suc (i .0)) e j (omega arith) (omega arith)
+since-each c i e j u = all-points c 0 (suc (i .0)) .0 e j (omega arith) (omega arith)
 
 pub since-all : (c : Point → Bool) (i : Point) → ((j : Point) → j .0 ≤ i .0 → c j ≡ true) → settledSince c i ≡ true
-since-all c i h = all-points c 0 (suc (i .0)) (λ j u o. h j (omega arith))
+since-all c i h = all-points c 0 (suc (i .0)) .1 (λ j u o. h j (omega arith))
 
 pub record UntilSettled (l : Log) (w : Window) (c : Point → Bool) (i : Point) : Type 0 where
   pub here : i .0 < size l
@@ -44,7 +45,7 @@ module _ (l : Log) (w : Window) (c : Point → Bool) (i : Point) where
       record {
         here = o;
         late = leb-true (time l i .0 + w .end) (latest l .0) (second n t (first (n && t) ps e));
-        inner = λ j u o h. go j h (each-point (inside l w c i) (i .0) (size l - i .0) (second (n && t) ps e) j u (omega arith));
+        inner = λ j u o h. go j h (all-points (inside l w c i) (i .0) (size l - i .0) .0 (second (n && t) ps e) j u (omega arith));
       }
     where
       go : (j : Point) → time l j .0 < time l i .0 + w .end → inside l w c i j ≡ true → c j ≡ true
@@ -53,7 +54,7 @@ module _ (l : Log) (w : Window) (c : Point → Bool) (i : Point) where
   pub until-whole : UntilSettled l w c i → settledUntil l w c i ≡ true
   until-whole p =
       both (both (lt-ltb (i .0) (size l) (p .here)) (le-leb (time l i .0 + w .end) (latest l .0) (p .late)))
-      (all-points (inside l w c i) (i .0) (size l - i .0) (λ j u o. go j u (omega (arith, p .here)) (tested (ltb (time l j .0) (time l i .0 + w .end)))))
+      (all-points (inside l w c i) (i .0) (size l - i .0) .1 (λ j u o. go j u (omega (arith, p .here)) (tested (ltb (time l j .0) (time l i .0 + w .end)))))
     where
       go : (j : Point) → i .0 ≤ j .0 → j .0 < size l → Tested (ltb (time l j .0) (time l i .0 + w .end)) → inside l w c i j ≡ true
       go j u o (passed e) = orRight (not (ltb (time l j .0) (time l i .0 + w .end))) (c j) (p .inner j u o (ltb-true (time l j .0) (time l i .0 + w .end) e))

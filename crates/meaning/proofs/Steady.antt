@@ -15,7 +15,8 @@ use Rattle.meaning.specs.Evaluator.{cutTo, valuationOf, setOf, member, a
 use Rattle.meaning.specs.Settled.{settledSince, settledUntil, settled}
 use Rattle.meaning.specs.declared.Point.{Point}
 use Rattle.meaning.specs.declared.Window.{Window}
-use Rattle.meaning.proofs.Points.{both, first, second, either, all-same, select-same, select-append, select-none, gather-same, pointsFrom-append, Tested, passed, failed, tested}
+use Rattle.meaning.proofs.Points.{both, first, second, all-same, select-same, select-append, select-none, gather-same, pointsFrom-append, Tested, passed, failed, tested}
+use Rattle.meaning.proofs.Rows.{either}
 use Rattle.meaning.proofs.Growth.{Extends, extends, ordered-before, latest-first}
 use Rattle.meaning.proofs.Settles.{since-each, UntilSettled, until-parts, twin, present}
 use Rattle.meaning.proofs.Fine.{Fine}
