@@ -268,7 +268,7 @@ module _ (left : List ℕ → Point → Bool) (right : Point → List (List ℕ)
   leading-mem i j = let h = left-mem (i .0) (j .0 - i .0) j in (λ m. let r = h .0 m in (r .0, λ k a b. r .1 k a (omega arith)), λ r. h .1 (r .0, λ k a b. r .1 k a (omega arith)))
 
   module _ (l : Log) (w : Window) (i : Point) where
-    since-mem : List·Memᴰ u (sinceRows l w left right i) ↔ Since l w L R i
+    since-mem : List·Memᴰ u (sinceRows (time l) w left right i) ↔ Since l w L R i
     since-mem = (
       λ m. let (j, n, k) = gather-at (lasting left right i) (select inside points) m in
           let (a, b) = select-at inside points n in
@@ -284,7 +284,7 @@ module _ (left : List ℕ → Point → Bool) (right : Point → List (List ℕ)
         points : List Point
         points = pointsFrom 0 (suc (i .0))
 
-    until-mem : List·Memᴰ u (untilRows l w left right i) ↔ Until l w L R i
+    until-mem : List·Memᴰ u (untilRows (time l) (size l) w left right i) ↔ Until l w L R i
     until-mem = (
       λ m. let (j, n, k) = gather-at (leading left right i) (select inside points) m in
           let (a, b) = select-at inside points n in
@@ -302,14 +302,14 @@ module _ (left : List ℕ → Point → Bool) (right : Point → List (List ℕ)
 
 module _ (l : Log) (w : Window) (left : List ℕ → Point → Bool) {f : ℕ → Bool} {L R : Valuation → Point → Type 0} {right : Point → List (List ℕ)}
     (e : (j : Point) → Exact f (λ v. R v j) (right j)) (asked : (v : Valuation) (k : Point) → (left (cutTo f v) k ≡ true) ↔ L v k) (i : Point) where
-  gives-since : Gives f (λ v. Since l w (L v) (R v) i) (sinceRows l w left right i)
+  gives-since : Gives f (λ v. Since l w (L v) (R v) i) (sinceRows (time l) w left right i)
   gives-since =
       record {
         cut = λ u m. let s = since-mem left right u (λ k. Iff·rfl) (λ j. Iff·rfl) l w i .0 m in e (s .at) .gives .cut u (s .there);
         same = λ v. since-mem left right (cutTo f v) (asked v) (λ j. e j .gives .same v) l w i;
       }
 
-  gives-until : Gives f (λ v. Until l w (L v) (R v) i) (untilRows l w left right i)
+  gives-until : Gives f (λ v. Until l w (L v) (R v) i) (untilRows (time l) (size l) w left right i)
   gives-until =
       record {
         cut = λ u m. let s = until-mem left right u (λ k. Iff·rfl) (λ j. Iff·rfl) l w i .0 m in e (s .at) .gives .cut u (s .there);

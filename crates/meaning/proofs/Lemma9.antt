@@ -43,7 +43,7 @@ module _ (l : Log) (w : Window) (i : Point) where
   aged j u = countedAge w (elapsed (time l j) (time l i)) ∷ u
 
   module _ (left : List ℕ → Point → Bool) (right : Point → List (List ℕ)) where
-    pair-at : {p : List ℕ} → List·Memᴰ p (pairRows l w left right i) → (j : Point) × (u : List ℕ) × (j .0 ≤ i .0) × (inside j ≡ true) × List·Memᴰ u (lasting left right i j) × (aged j u ≡ p)
+    pair-at : {p : List ℕ} → List·Memᴰ p (pairRows (time l) w left right i) → (j : Point) × (u : List ℕ) × (j .0 ≤ i .0) × (inside j ≡ true) × List·Memᴰ u (lasting left right i j) × (aged j u ≡ p)
     pair-at m =
         let (j, n, k) = gather-at (λ j. map (aged j) (lasting left right i j)) (select inside (pointsFrom 0 (suc (i .0)))) m in
         let (a, b) = select-at inside (pointsFrom 0 (suc (i .0))) n in
@@ -51,21 +51,21 @@ module _ (l : Log) (w : Window) (i : Point) where
         let (u, c, d) = Memᴰ·of-map (aged j) (lasting left right i j) k in
         (j, u, omega arith, b, c, d)
 
-    pair-of : (j : Point) {u : List ℕ} → j .0 ≤ i .0 → inside j ≡ true → List·Memᴰ u (lasting left right i j) → List·Memᴰ (aged j u) (pairRows l w left right i)
+    pair-of : (j : Point) {u : List ℕ} → j .0 ≤ i .0 → inside j ≡ true → List·Memᴰ u (lasting left right i j) → List·Memᴰ (aged j u) (pairRows (time l) w left right i)
     pair-of j a b m = gather-of (λ j. map (aged j) (lasting left right i j)) (select-of inside (points-of 0 (suc (i .0)) (omega arith) (omega arith)) b) (Memᴰ·map (aged j) m)
 
   module _ (left : List ℕ → Point → Bool) {f : ℕ → Bool} {L R : Valuation → Point → Type 0} {right : Point → List (List ℕ)}
       (e : (j : Point) → Exact f (λ v. R v j) (right j)) (asked : (v : Valuation) (k : Point) → (left (cutTo f v) k ≡ true) ↔ L v k) where
-    pairs-cut : {p : List ℕ} → List·Memᴰ p (pairRows l w left right i) → (y : ℕ) × (v : Valuation) × (p ≡ y ∷ cutTo f v)
+    pairs-cut : {p : List ℕ} → List·Memᴰ p (pairRows (time l) w left right i) → (y : ℕ) × (v : Valuation) × (p ≡ y ∷ cutTo f v)
     pairs-cut m =
         let (j, u, a, b, c, d) = pair-at left right m in
         let k = lasting-mem left right u (λ k. Iff·rfl) (λ j. Iff·rfl) i j .0 c in
         (countedAge w (elapsed (time l j) (time l i)), valuationOf u, sym d ∙ ap (aged j) (e j .gives .cut u (k .0)))
 
-    pairs-length : OfLength 5 (pairRows l w left right i)
+    pairs-length : OfLength 5 (pairRows (time l) w left right i)
     pairs-length p m = ap length (pairs-cut m .2)
 
-    pairs-same : (y : ℕ) (v : Valuation) → List·Memᴰ (y ∷ cutTo f v) (pairRows l w left right i) ↔ Aged l w (L v) (R v) i y
+    pairs-same : (y : ℕ) (v : Valuation) → List·Memᴰ (y ∷ cutTo f v) (pairRows (time l) w left right i) ↔ Aged l w (L v) (R v) i y
     pairs-same y v = (
       λ m. let (j, u, a, b, c, d) = pair-at left right m in
           let t = lasts j .0 (Memᴰ·cast (sym (tail-eq-of-cons-eq d)) c) in
@@ -76,11 +76,11 @@ module _ (l : Log) (w : Window) (i : Point) where
         lasts : (j : Point) → List·Memᴰ (cutTo f v) (lasting left right i j) ↔ (R v j × ((k : Point) → suc (j .0) ≤ k .0 → k .0 < suc (i .0) → L v k))
         lasts = lasting-mem left right (cutTo f v) (asked v) (λ j. e j .gives .same v) i
 
-    exact-pairs : ExactPairs f (λ y v. Aged l w (L v) (R v) i y) (setOf (pairRows l w left right i))
-    exact-pairs = record { cut = λ p m. pairs-cut (stays p .0 m); same = λ y v. Iff·trans (stays (y ∷ cutTo f v)) (pairs-same y v); ascends = setOf-ascends (pairRows l w left right i) }
+    exact-pairs : ExactPairs f (λ y v. Aged l w (L v) (R v) i y) (setOf (pairRows (time l) w left right i))
+    exact-pairs = record { cut = λ p m. pairs-cut (stays p .0 m); same = λ y v. Iff·trans (stays (y ∷ cutTo f v)) (pairs-same y v); ascends = setOf-ascends (pairRows (time l) w left right i) }
       where
-        stays : (p : List ℕ) → List·Memᴰ p (setOf (pairRows l w left right i)) ↔ List·Memᴰ p (pairRows l w left right i)
-        stays = setOf-mem (pairRows l w left right i) pairs-length
+        stays : (p : List ℕ) → List·Memᴰ p (setOf (pairRows (time l) w left right i)) ↔ List·Memᴰ p (pairRows (time l) w left right i)
+        stays = setOf-mem (pairRows (time l) w left right i) pairs-length
 
 -- The three kinds, at every point of every log.
 module _ (l : Log) (i : Point) (a b : Formula) (w : Window) where

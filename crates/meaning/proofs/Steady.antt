@@ -30,7 +30,7 @@ pub since-same : (l l' : Log) (w : Window) (left left' : List ℕ → Point → 
     → ((j : Point) → j .0 ≤ i .0 → time l j ≡ time l' j)
     → ((j : Point) → j .0 ≤ i .0 → (u : List ℕ) → left u j ≡ left' u j)
     → ((j : Point) → j .0 ≤ i .0 → right j ≡ right' j)
-    → sinceRows l w left right i ≡ sinceRows l' w left' right' i
+    → sinceRows (time l) w left right i ≡ sinceRows (time l') w left' right' i
 since-same l l' w left left' right right' i t p q =
     gather-same (λ j. inWindow w (elapsed (time l j) (time l i))) (λ j. inWindow w (elapsed (time l' j) (time l' i)))
     (lasting left right i) (lasting left' right' i) 0 (suc (i .0))
@@ -58,7 +58,7 @@ pub until-same : (l l' : Log) → Extends l l' → (w : Window) → 0 < w .end �
     → i .0 < size l → time l i .0 + w .end ≤ latest l .0
     → ((j : Point) → i .0 ≤ j .0 → j .0 < size l → time l j .0 < time l i .0 + w .end → (u : List ℕ) → left u j ≡ left' u j)
     → ((j : Point) → i .0 ≤ j .0 → j .0 < size l → time l j .0 < time l i .0 + w .end → right j ≡ right' j)
-    → untilRows l w left right i ≡ untilRows l' w left' right' i
+    → untilRows (time l) (size l) w left right i ≡ untilRows (time l') (size l') w left' right' i
 until-same l l' x w d left left' right right' i n late p q =
     gather-same (λ j. inWindow w (elapsed (time l i) (time l j))) chosen (leading left right i) (leading left' right' i) (i .0) (size l - i .0)
     (λ j u o. ap₂ (λ s s'. inWindow w (elapsed s s')) (x .times i n) (x .times j (omega arith)))
@@ -89,13 +89,13 @@ module _ (l l' : Log) (x : Extends l l') where
   -- since and until over a test of the children, where left and right are the same at the points that pass it
   module _ (w : Window) (c : Point → Bool) (left left' : List ℕ → Point → Bool) (right right' : Point → List (List ℕ))
       (p : (j : Point) → c j ≡ true → (u : List ℕ) → left u j ≡ left' u j) (q : (j : Point) → c j ≡ true → right j ≡ right' j) (i : Point) where
-    steady-since : i .0 < size l → settledSince c i ≡ true → setOf (sinceRows l w left right i) ≡ setOf (sinceRows l' w left' right' i)
+    steady-since : i .0 < size l → settledSince c i ≡ true → setOf (sinceRows (time l) w left right i) ≡ setOf (sinceRows (time l') w left' right' i)
     steady-since n e =
         ap setOf
         (since-same l l' w left left' right right' i (λ j u. x .times j (omega arith))
         (λ j u. p j (since-each c i e j u)) (λ j u. q j (since-each c i e j u)))
 
-    steady-until : 0 < w .end → settledUntil l w c i ≡ true → setOf (untilRows l w left right i) ≡ setOf (untilRows l' w left' right' i)
+    steady-until : 0 < w .end → settledUntil l w c i ≡ true → setOf (untilRows (time l) (size l) w left right i) ≡ setOf (untilRows (time l') (size l') w left' right' i)
     steady-until d e =
         let s : UntilSettled l w c i = until-parts l w c i e in
         ap setOf

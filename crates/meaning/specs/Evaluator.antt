@@ -11,6 +11,7 @@ use Rattle.meaning.specs.Log.{Log, Row, size, time, rowsAt, elapsed, poi
 use Rattle.meaning.specs.Formula.{Formula, atom, and, andNot, keep, or, exists, previous, next, since, notSince, until, notUntil, once, eventually, inWindow, compares, isVariable, free, variables}
 use Rattle.meaning.specs.Definition2.{Valuation, value}
 use Rattle.meaning.specs.declared.Point.{Point}
+use Rattle.meaning.specs.declared.Stamp.{Stamp}
 use Rattle.meaning.specs.declared.Term.{Term}
 use Rattle.meaning.specs.declared.Window.{Window}
 
@@ -59,20 +60,20 @@ joined f u w = map (λ x. cond (f x) (getD u x 0) (getD w x 0)) variables
 abbrev pub andRows : (ℕ → Bool) → (ℕ → Bool) → List (List ℕ) → List (List ℕ) → List (List ℕ)
 andRows f g lefts rights = gather (λ u. map (joined f u) (select (agrees f g u) rights)) lefts
 
--- since and until over a test of left (of a row, at a point) and the rows of right (at a point)
+-- since and until over the time stamps, a test of left (of a row, at a point) and the rows of right (at a point)
 -- the rows of right at j whose left passes at every point after j up to i
 abbrev pub lasting : (List ℕ → Point → Bool) → (Point → List (List ℕ)) → Point → Point → List (List ℕ)
 lasting left right i j = select (λ u. all (left u) (pointsFrom (suc (j .0)) (i .0 - j .0))) (right j)
 
-abbrev pub sinceRows : Log → Window → (List ℕ → Point → Bool) → (Point → List (List ℕ)) → Point → List (List ℕ)
-sinceRows l w left right i = gather (lasting left right i) (select (λ j. inWindow w (elapsed (time l j) (time l i))) (pointsFrom 0 (suc (i .0))))
+abbrev pub sinceRows : (Point → Stamp) → Window → (List ℕ → Point → Bool) → (Point → List (List ℕ)) → Point → List (List ℕ)
+sinceRows τ w left right i = gather (lasting left right i) (select (λ j. inWindow w (elapsed (τ j) (τ i))) (pointsFrom 0 (suc (i .0))))
 
 -- the rows of right at j whose left passes at every point from i on before j
 abbrev pub leading : (List ℕ → Point → Bool) → (Point → List (List ℕ)) → Point → Point → List (List ℕ)
 leading left right i j = select (λ u. all (left u) (pointsFrom (i .0) (j .0 - i .0))) (right j)
 
-abbrev pub untilRows : Log → Window → (List ℕ → Point → Bool) → (Point → List (List ℕ)) → Point → List (List ℕ)
-untilRows l w left right i = gather (leading left right i) (select (λ j. inWindow w (elapsed (time l i) (time l j))) (pointsFrom (i .0) (size l - i .0)))
+abbrev pub untilRows : (Point → Stamp) → ℕ → Window → (List ℕ → Point → Bool) → (Point → List (List ℕ)) → Point → List (List ℕ)
+untilRows τ n w left right i = gather (leading left right i) (select (λ j. inWindow w (elapsed (τ i) (τ j))) (pointsFrom (i .0) (n - i .0)))
 
 -- left asked "at the valuation cut down to that child's own free variables"
 abbrev pub among : (ℕ → Bool) → (Point → List (List ℕ)) → List ℕ → Point → Bool
@@ -87,9 +88,9 @@ vals l (or a b) i = setOf (vals l a i ++ vals l b i)
 vals l (exists a x) i = setOf (map (λ u. cutTo (λ y. not (eqb y x)) (valuationOf u)) (vals l a i))
 vals l (previous a w) i = setOf (cond (ltb 0 (i .0) && inWindow w (elapsed (time l (pointBefore i)) (time l i))) (vals l a (pointBefore i)) [])
 vals l (next a w) i = setOf (cond (ltb (suc (i .0)) (size l) && inWindow w (elapsed (time l i) (time l (pointAfter i)))) (vals l a (pointAfter i)) [])
-vals l (since a b w) i = setOf (sinceRows l w (among (free a) (vals l a)) (vals l b) i)
-vals l (notSince a b w) i = setOf (sinceRows l w (λ u k. not (among (free a) (vals l a) u k)) (vals l b) i)
-vals l (until a b w) i = setOf (untilRows l w (among (free a) (vals l a)) (vals l b) i)
-vals l (notUntil a b w) i = setOf (untilRows l w (λ u k. not (among (free a) (vals l a) u k)) (vals l b) i)
-vals l (once a w) i = setOf (sinceRows l w (λ u k. true) (vals l a) i)
-vals l (eventually a w) i = setOf (untilRows l w (λ u k. true) (vals l a) i)
+vals l (since a b w) i = setOf (sinceRows (time l) w (among (free a) (vals l a)) (vals l b) i)
+vals l (notSince a b w) i = setOf (sinceRows (time l) w (λ u k. not (among (free a) (vals l a) u k)) (vals l b) i)
+vals l (until a b w) i = setOf (untilRows (time l) (size l) w (among (free a) (vals l a)) (vals l b) i)
+vals l (notUntil a b w) i = setOf (untilRows (time l) (size l) w (λ u k. not (among (free a) (vals l a) u k)) (vals l b) i)
+vals l (once a w) i = setOf (sinceRows (time l) w (λ u k. true) (vals l a) i)
+vals l (eventually a w) i = setOf (untilRows (time l) (size l) w (λ u k. true) (vals l a) i)

@@ -11,6 +11,7 @@ use Rattle.meaning.specs.Evaluator.{setOf, lasting, among, vals}
 use Rattle.meaning.specs.Settled.{settled, settledCount}
 use Rattle.meaning.specs.RuleFile.{nodeCount, nodeAt, childrenOf, formulaAt, lastNode, pattern, isOneOf}
 use Rattle.meaning.specs.declared.Point.{Point}
+use Rattle.meaning.specs.declared.Stamp.{Stamp}
 use Rattle.meaning.specs.declared.Window.{Window}
 
 -- Lemma 9(i): the age y = τi − τj is below d
@@ -22,10 +23,10 @@ abbrev pub countedAge : Window → ℕ → ℕ
 countedAge w age = cond (eqb (w .end) 0) (min age (w .start)) age
 
 -- "the distinct pairs (valuation, age) that Lemma 9(i) of document 003 gives": each as its age and then its row, so that they ascend by age first
-abbrev pub pairRows : Log → Window → (List ℕ → Point → Bool) → (Point → List (List ℕ)) → Point → List (List ℕ)
-pairRows l w left right i =
-    gather (λ j. map (λ u. countedAge w (elapsed (time l j) (time l i)) ∷ u) (lasting left right i j))
-    (select (λ j. belowEnd w (elapsed (time l j) (time l i))) (pointsFrom 0 (suc (i .0))))
+abbrev pub pairRows : (Point → Stamp) → Window → (List ℕ → Point → Bool) → (Point → List (List ℕ)) → Point → List (List ℕ)
+pairRows τ w left right i =
+    gather (λ j. map (λ u. countedAge w (elapsed (τ j) (τ i)) ∷ u) (lasting left right i j))
+    (select (λ j. belowEnd w (elapsed (τ j) (τ i))) (pointsFrom 0 (suc (i .0))))
 
 -- "left denied for 10 and true for 13"
 abbrev pub pairs : Log → Formula → Point → List (List ℕ)
@@ -37,11 +38,11 @@ pairs l (or a b) i = []
 pairs l (exists a x) i = []
 pairs l (previous a w) i = []
 pairs l (next a w) i = []
-pairs l (since a b w) i = setOf (pairRows l w (among (free a) (vals l a)) (vals l b) i)
-pairs l (notSince a b w) i = setOf (pairRows l w (λ u k. not (among (free a) (vals l a) u k)) (vals l b) i)
+pairs l (since a b w) i = setOf (pairRows (time l) w (among (free a) (vals l a)) (vals l b) i)
+pairs l (notSince a b w) i = setOf (pairRows (time l) w (λ u k. not (among (free a) (vals l a) u k)) (vals l b) i)
 pairs l (until a b w) i = []
 pairs l (notUntil a b w) i = []
-pairs l (once a w) i = setOf (pairRows l w (λ u k. true) (vals l a) i)
+pairs l (once a w) i = setOf (pairRows (time l) w (λ u k. true) (vals l a) i)
 pairs l (eventually a w) i = []
 
 -- "with i its last settled point"; before any settled point there are none
