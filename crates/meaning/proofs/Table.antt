@@ -11,7 +11,7 @@ use Rattle.meaning.specs.RuleFile.{Accepted, wordAt, sizesFit, headAt, b
 use Rattle.meaning.specs.Kept.{lastPairs, consulted, parentOf, pointEntries, ageEntries, entriesOf, entries, kept, openPoints}
 use Rattle.meaning.specs.Event.{isEvent, rowFits, pointOf}
 use Rattle.meaning.specs.Report.{reportWords}
-use Rattle.meaning.specs.Keeper.{Taking, Given, newlySettled, reported, report, weighed, answer, step, answered, keeperLog, keeper}
+use Rattle.meaning.specs.Keeper.{Taking, Given, newlySettled, reported, report, admitted, weighed, crowdedAt, answer, step, answered, keeperLog, keeper}
 
 -- A case: a rule, events, and what is expected.
 pub record Case : Type 0 where
@@ -289,5 +289,5 @@ cases =
 
 -- every case of the table
 pub starred : map run cases ≡ cases
-unfolding time rowsAt latest wordAt sizesFit headAt bodyAt nodeOf nodeAt formulaAt shapeFits rangeFits timesChild weighNode checking lastPairs consulted parentOf pointEntries ageEntries entriesOf entries kept openPoints isEvent rowFits pointOf reportWords newlySettled reported report weighed answer step answered
+unfolding time rowsAt latest wordAt sizesFit headAt bodyAt nodeOf nodeAt formulaAt shapeFits rangeFits timesChild weighNode checking lastPairs consulted parentOf pointEntries ageEntries entriesOf entries kept openPoints isEvent rowFits pointOf reportWords newlySettled reported report admitted weighed crowdedAt answer step answered
 starred = refl

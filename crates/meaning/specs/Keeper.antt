@@ -46,21 +46,32 @@ abbrev pub weighRows : List ℕ → List ℕ → List ℕ → Outcome ℕ → Ou
 weighRows b w [] rest = rest
 weighRows b w (k ∷ ks) rest = when (not (rowFits b w k)) rowOut k (weighRows b w ks rest)
 
--- 13: "some node has over 32 valuations at a point newly settled for it, place the lowest such node"
-abbrev pub weighCrowds : List ℕ → Log → Log → List ℕ → Outcome ℕ → Outcome ℕ
-weighCrowds b l l' [] rest = rest
-weighCrowds b l l' (x ∷ xs) rest =
-    when (any (λ i. ltb mostRows (length (vals l' (formulaAt b x) i))) (newlySettled l l' (formulaAt b x))) crowded x
-    (weighCrowds b l l' xs rest)
+-- 13: "place the lowest such node"
+abbrev pub weighCrowds : (ℕ → Bool) → List ℕ → Outcome ℕ → Outcome ℕ
+weighCrowds crowds [] rest = rest
+weighCrowds crowds (x ∷ xs) rest = when (crowds x) crowded x (weighCrowds crowds xs rest)
 
--- "Then, reckoned as if the event were taken", 13 to 16; "Otherwise .. the words written"
-unfoldable pub weighed : List ℕ → Log → Log → ℕ → Outcome ℕ
-weighed b l l' room =
-    weighCrowds b l l' (range 0 (nodeCount b))
-    (when (ltb mostOpen (openPoints b l')) backlog 0
-    (when (ltb mostKept (kept b l')) keptOver 0
-    (when (ltb room (length (report b l l'))) bufferShort (length (report b l l'))
-    (given (length (report b l l'))))))
+-- 9 to 12, by the latest time and the number of points, and then what follows
+unfoldable pub admitted : List ℕ → List ℕ → ℕ → ℕ → Outcome ℕ → Outcome ℕ
+admitted b w last points rest =
+    when (not (isEvent w)) notAnEvent 0
+    (weighRows b w (range 0 (rowCount w))
+    (when (ltb (getD w 0 0) last) timeFalls 0
+    (when (leb mostPoints points) logFull 0
+    rest)))
+
+-- "Then, reckoned as if the event were taken", 13 to 16, by the nodes that are crowded, the points left unsettled, the entries kept, the report's words and the buffer's; "Otherwise .. the words written"
+unfoldable pub weighed : (ℕ → Bool) → ℕ → ℕ → ℕ → ℕ → ℕ → Outcome ℕ
+weighed crowds nodes unsettled entries words room =
+    weighCrowds crowds (range 0 nodes)
+    (when (ltb mostOpen unsettled) backlog 0
+    (when (ltb mostKept entries) keptOver 0
+    (when (ltb room words) bufferShort words
+    (given words))))
+
+-- 13: "some node has over 32 valuations at a point newly settled for it"
+unfoldable pub crowdedAt : List ℕ → Log → Log → ℕ → Bool
+crowdedAt b l l' x = any (λ i. ltb mostRows (length (vals l' (formulaAt b x) i))) (newlySettled l l' (formulaAt b x))
 
 -- the log with the event's point at its end
 abbrev pub grown : List ℕ → Log → List ℕ → Log
@@ -69,11 +80,9 @@ grown b l w = l ++ pointOf b w ∷ []
 -- "If any of 9 to 16 applies to that log, the event and the buffer, it answers the first with its place"
 unfoldable pub answer : List ℕ → Log → Taking → Outcome ℕ
 answer b l t =
-    when (not (isEvent (t .event))) notAnEvent 0
-    (weighRows b (t .event) (range 0 (rowCount (t .event)))
-    (when (ltb (getD (t .event) 0 0) (latest l .0)) timeFalls 0
-    (when (leb mostPoints (size l)) logFull 0
-    (weighed b l (grown b l (t .event)) (length (t .buffer))))))
+    admitted b (t .event) (latest l .0) (size l)
+    (weighed (crowdedAt b l (grown b l (t .event))) (nodeCount b) (openPoints b (grown b l (t .event))) (kept b (grown b l (t .event)))
+    (length (report b l (grown b l (t .event)))) (length (t .buffer)))
 
 -- "log and buffer stay. Otherwise the point joins the log, and the report goes to the buffer's front .. Words past it stay"
 abbrev pub logAfter : Outcome ℕ → Log → Log → Log
