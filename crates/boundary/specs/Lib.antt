@@ -1,0 +1,2 @@
+-- What the exported functions give, in plain numbers.
+pub mod Exported

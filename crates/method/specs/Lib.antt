@@ -1,0 +1,5 @@
+-- The incremental method: what is stored between calls, and one call's step on it.
+pub mod Stored
+pub mod Counts
+pub mod Settle
+pub mod Step

@@ -1,0 +1,140 @@
+-- One call's step on what is stored: the nodes in turn, lowest first, what is then kept, and the answer.
+use Prim.Native.Nat.{ℕ, zero, suc, _+_, _-_, min}
+use mathlib.Core.Bool.{Bool, true, false, cond, _&&_}
+use mathlib.Core.List.{List, [], _∷_, _++_, map}
+use lib.ListN.{length, getD, drop}
+use lib.Dec.{ltb, eqb}
+use Rattle.meaning.specs.Lists.{any, range, select, gather}
+use Rattle.meaning.specs.Outcome.{Outcome, refused, given, mostRows}
+use Rattle.meaning.specs.Log.{Row, point, pointsFrom}
+use Rattle.meaning.specs.Formula.{free, variables}
+use Rattle.meaning.specs.RuleFile.{nodeCount, nodeAt, formulaAt, lastNode, pattern}
+use Rattle.meaning.specs.Kept.{Entry, entryOf, parentOf}
+use Rattle.meaning.specs.Event.{pointOf}
+use Rattle.meaning.specs.Report.{Reported, reportWords}
+use Rattle.meaning.specs.Keeper.{Taking, reportRow, admitted, weighed, bufferAfter}
+use Rattle.meaning.specs.declared.Point.{Point}
+use Rattle.meaning.specs.declared.Stamp.{Stamp}
+use Rattle.meaning.specs.declared.Node.{Node}
+use Rattle.meaning.specs.declared.Node.the-variants.{Atom, And, AndNot, Keep, Or, Exists, Previous, Next, Since, NotSince, Until, NotUntil, Once, Eventually}
+use Rattle.method.specs.Stored.{Stored, baseOf, stampIn, held, heldPairs, firstRetained}
+use Rattle.method.specs.Counts.{countsTo}
+use Rattle.method.specs.Settle.{Sight, settle, pairsNow, Turn, rowsOfTurn}
+
+-- the first point of a child that an unsettled point of its parent consults, with p points of the parent settled
+abbrev pub firstWanted : Node → ℕ → ℕ
+firstWanted (Atom r t) p = p
+firstWanted (And a b) p = p
+firstWanted (AndNot a b) p = p
+firstWanted (Keep a c s) p = p
+firstWanted (Or a b) p = p
+firstWanted (Exists a x) p = p
+firstWanted (Previous a w) p = p - 1
+firstWanted (Next a w) p = p + 1
+firstWanted (Since a b w) p = p
+firstWanted (NotSince a b w) p = p
+firstWanted (Until a b w) p = p
+firstWanted (NotUntil a b w) p = p
+firstWanted (Once a w) p = p
+firstWanted (Eventually a w) p = p
+
+-- the first point from which node x keeps its rows; the last node keeps none
+unfoldable pub wantedFrom : List ℕ → (ℕ → ℕ) → ℕ → ℕ
+wantedFrom b count x = cond (eqb x (lastNode b)) (count x) (min (count x) (firstWanted (nodeAt b (parentOf b x)) (count (parentOf b x))))
+
+-- a node's rows at newly settled points in turn, its pairs grown before each; and its pairs after them
+abbrev pub newRows : Sight → Node → ℕ → ℕ → List (List ℕ) → List (List (List ℕ))
+newRows v node i zero pairs = []
+newRows v node i (suc count) pairs = settle v (pairsNow v pairs (point i) node) (point i) node ∷ newRows v node (suc i) count (pairsNow v pairs (point i) node)
+
+abbrev pub newPairs : Sight → Node → ℕ → ℕ → List (List ℕ) → List (List ℕ)
+newPairs v node i zero pairs = pairs
+newPairs v node i (suc count) pairs = newPairs v node (suc i) count (pairsNow v pairs (point i) node)
+
+-- the turn of node x, which had settled as many points as before says and now has as many as after says
+unfoldable pub turnOf : List ℕ → List Entry → (ℕ → ℕ) → (ℕ → ℕ) → Sight → ℕ → Turn
+turnOf b es before after v x =
+    record
+    { low = wantedFrom b before x
+    ; rows = map (held es x) (pointsFrom (wantedFrom b before x) (before x - wantedFrom b before x)) ++ newRows v (nodeAt b x) (before x) (after x - before x) (heldPairs es x)
+    ; pairs = newPairs v (nodeAt b x) (before x) (after x - before x) (heldPairs es x)
+    }
+
+abbrev noTurn : Turn
+noTurn = record { low = 0; rows = []; pairs = [] }
+
+-- what node x can look at, after the turns of the nodes below it
+abbrev pub sightOf : List ℕ → (Point → Stamp) → (ℕ → ℕ) → List Row → List Turn → Sight
+sightOf b τ after event turns = record { stamps = τ; free = λ y. free (formulaAt b y); count = after; rows = λ y. rowsOfTurn (getD turns y noTurn); event = event }
+
+-- the turns of the first nodes, as many as the last argument says
+abbrev pub turnsTo : List ℕ → List Entry → (Point → Stamp) → (ℕ → ℕ) → (ℕ → ℕ) → List Row → ℕ → List Turn
+turnsTo b es τ before after event zero = []
+turnsTo b es τ before after event (suc x) =
+    turnsTo b es τ before after event x ++ turnOf b es before after (sightOf b τ after event (turnsTo b es τ before after event x)) x ∷ []
+
+-- One call, with the event's words.
+module _ (s : Stored) (w : List ℕ) where
+  unfoldable pub stampsNow : Point → Stamp
+  stampsNow = stampIn (baseOf s) (s .times ++ getD w 0 0 ∷ [])
+
+  unfoldable pub countBefore : ℕ → ℕ
+  unfolding stampsNow
+  countBefore x = getD (countsTo (s .rule) stampsNow (s .points) (λ y. baseOf s) (nodeCount (s .rule))) x 0
+
+  unfoldable pub countsAfter : List ℕ
+  unfolding stampsNow countBefore
+  countsAfter = countsTo (s .rule) stampsNow (s .points + 1) countBefore (nodeCount (s .rule))
+
+  unfoldable pub countAfter : ℕ → ℕ
+  unfolding countsAfter
+  countAfter x = getD countsAfter x 0
+
+  unfoldable pub turn : ℕ → Turn
+  unfolding stampsNow countBefore countAfter
+  turn x = getD (turnsTo (s .rule) (s .entries) stampsNow countBefore countAfter (pointOf (s .rule) w .rows) (nodeCount (s .rule))) x noTurn
+
+  -- what node x keeps
+  unfoldable pub entriesNow : ℕ → List Entry
+  unfolding countAfter turn
+  entriesNow x =
+      gather (λ j. map (entryOf x 0 (j .0)) (rowsOfTurn (turn x) j)) (pointsFrom (wantedFrom (s .rule) countAfter x) (countAfter x - wantedFrom (s .rule) countAfter x))
+      ++ map (λ p. entryOf x 1 (getD p 0 0) (drop 1 p)) (turn x .pairs)
+
+  unfoldable pub storedNow : Stored
+  unfolding countsAfter entriesNow
+  storedNow =
+      record
+      { rule = s .rule
+      ; points = s .points + 1
+      ; times = drop (firstRetained (s .points + 1) countsAfter - baseOf s) (s .times ++ getD w 0 0 ∷ [])
+      ; entries = gather entriesNow (range 0 (nodeCount (s .rule)))
+      }
+
+  -- a newly settled point of node x has too many rows
+  unfoldable pub crowdedNow : ℕ → Bool
+  unfolding countBefore countAfter turn
+  crowdedNow x = any (λ j. ltb mostRows (length (rowsOfTurn (turn x) j))) (pointsFrom (countBefore x) (countAfter x - countBefore x))
+
+  unfoldable pub reportNow : List ℕ
+  unfolding stampsNow countBefore countAfter turn
+  reportNow =
+      reportWords (length (select (free (pattern (s .rule))) variables))
+      (map (λ i. record { at = i; time = stampsNow i; rows = map (reportRow (free (pattern (s .rule)))) (rowsOfTurn (turn (lastNode (s .rule))) i) })
+      (pointsFrom (countBefore (lastNode (s .rule))) (countAfter (lastNode (s .rule)) - countBefore (lastNode (s .rule)))))
+
+  -- the latest time, 0 before any point
+  abbrev pub latestStored : ℕ
+  latestStored = getD (s .times) (length (s .times) - 1) 0
+
+  unfoldable pub answerNow : ℕ → Outcome ℕ
+  unfolding countAfter storedNow crowdedNow reportNow
+  answerNow room =
+      admitted (s .rule) w latestStored (s .points)
+      (weighed crowdedNow (nodeCount (s .rule)) (s .points + 1 - countAfter (lastNode (s .rule))) (length (storedNow .entries)) (length reportNow) room)
+
+  -- the state after the call: kept on a refusal
+  abbrev pub storedAfter : Outcome ℕ → Stored
+  unfolding storedNow
+  storedAfter (refused number place) = s
+  storedAfter (given words) = storedNow

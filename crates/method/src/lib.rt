@@ -1,0 +1,1 @@
+// The incremental method, as definitions and proofs alone.

@@ -1,0 +1,3 @@
+-- What the contracts of src/ cite besides the definitions of 01.
+pub mod Answer
+pub mod Form
