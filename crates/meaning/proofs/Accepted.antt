@@ -6,12 +6,12 @@ use mathlib.Core.Logic.{_⊎_, inl, inr}
 use mathlib.Core.List.{List, [], _∷_, List·Memᴰ}
 use lib.ListN.{length, getD, take}
 use lib.Dec.{ltb, leb, eqb}
-use borrow.Author.Tests.{ltb-true, eqb-true, lt-ltb, not-false}
+use borrow.Author.Tests.{ltb-true, leb-true, eqb-true, lt-ltb, not-false}
 use native.Mathlib.Omega.{arith}
 use Rattle.meaning.specs.Lists.{all, range}
 use Rattle.meaning.specs.Outcome.{Outcome, refused, given, when}
 use Rattle.meaning.specs.Formula.{Formula, free, reach, freeFits, within, termWithin, termsOf}
-use Rattle.meaning.specs.RuleFile.{Accepted, checking, nodeCount, sizesFit, headAt, bodyAt, bodies, arity, nodeOf, nodeAt, formulaOf, formulaAt, pattern, shapeFits, rangeFits, windowFits, atomFits, atomWordFits, termOf, termsOfBody, bit, isOneOf, timesChild, weighNode, weighNodes, weighParents, maskOf, windowOf}
+use Rattle.meaning.specs.RuleFile.{Accepted, checking, nodeCount, sizesFit, headAt, bodyAt, bodies, arity, nodeOf, nodeAt, formulaOf, formulaAt, lastNode, pattern, shapeFits, rangeFits, windowFits, atomFits, atomWordFits, termOf, termsOfBody, bit, isOneOf, timesChild, weighNode, weighNodes, weighParents, maskOf, windowOf}
 use Rattle.meaning.specs.declared.Head.{Head}
 use Rattle.meaning.specs.declared.Body.{Body}
 use Rattle.meaning.specs.declared.Term.{Term}
@@ -166,3 +166,14 @@ module _ (b : List ℕ) (n : ℕ) (each : (x : ℕ) → x < n → Passes b x) wh
 -- the tree of every node of an accepted rule is as Fine asks
 pub fine : (b : List ℕ) (a : Accepted) → checking b ≡ given a → (x : ℕ) → x < nodeCount b → Fine (formulaAt b x)
 fine b a e = fine-below b (nodeCount b) (accepted b a e .each) (nodeCount b) (omega arith)
+
+has-nodes : (b : List ℕ) → sizesFit b ≡ true → leb 1 (nodeCount b) ≡ true
+unfolding sizesFit
+has-nodes b e = search (first, second)
+
+-- "The last node is the pattern"
+pub last-is-node : (b : List ℕ) (a : Accepted) → checking b ≡ given a → lastNode b < nodeCount b
+last-is-node b a e = let h : 1 ≤ nodeCount b = leb-true 1 (nodeCount b) (has-nodes b (accepted b a e .sizes)) in omega arith
+
+pub fine-pattern : (b : List ℕ) (a : Accepted) → checking b ≡ given a → Fine (pattern b)
+fine-pattern b a e = fine b a e (lastNode b) (last-is-node b a e)

@@ -11,4 +11,5 @@ pub mod Growth
 pub mod Settles
 pub mod Steady
 pub mod Ground
+pub mod Takings
 pub mod Table

@@ -54,10 +54,10 @@ newPairs v node i (suc count) pairs = newPairs v node (suc i) count (pairsNow v 
 -- the turn of node x, which had settled as many points as before says and now has as many as after says
 unfoldable pub turnOf : List ℕ → List Entry → (ℕ → ℕ) → (ℕ → ℕ) → Sight → ℕ → Turn
 turnOf b es before after v x =
-    record
-    { low = wantedFrom b before x
-    ; rows = map (held es x) (pointsFrom (wantedFrom b before x) (before x - wantedFrom b before x)) ++ newRows v (nodeAt b x) (before x) (after x - before x) (heldPairs es x)
-    ; pairs = newPairs v (nodeAt b x) (before x) (after x - before x) (heldPairs es x)
+    record {
+      low = wantedFrom b before x;
+      rows = map (held es x) (pointsFrom (wantedFrom b before x) (before x - wantedFrom b before x)) ++ newRows v (nodeAt b x) (before x) (after x - before x) (heldPairs es x);
+      pairs = newPairs v (nodeAt b x) (before x) (after x - before x) (heldPairs es x);
     }
 
 abbrev noTurn : Turn
@@ -104,11 +104,11 @@ module _ (s : Stored) (w : List ℕ) where
   unfoldable pub storedNow : Stored
   unfolding countsAfter entriesNow
   storedNow =
-      record
-      { rule = s .rule
-      ; points = s .points + 1
-      ; times = drop (firstRetained (s .points + 1) countsAfter - baseOf s) (s .times ++ getD w 0 0 ∷ [])
-      ; entries = gather entriesNow (range 0 (nodeCount (s .rule)))
+      record {
+        rule = s .rule;
+        points = s .points + 1;
+        times = drop (firstRetained (s .points + 1) countsAfter - baseOf s) (s .times ++ getD w 0 0 ∷ []);
+        entries = gather entriesNow (range 0 (nodeCount (s .rule)));
       }
 
   -- a newly settled point of node x has too many rows

@@ -46,9 +46,9 @@ firstRetained n counts = leastOf n counts - 1
 -- what is stored of a log
 unfoldable pub storedOf : List ℕ → Log → Stored
 storedOf b l =
-    record
-    { rule = b
-    ; points = size l
-    ; times = map (λ i. time l i .0) (pointsFrom (firstRetained (size l) (map (λ x. settledCount l (formulaAt b x)) (range 0 (nodeCount b)))) (size l - firstRetained (size l) (map (λ x. settledCount l (formulaAt b x)) (range 0 (nodeCount b)))))
-    ; entries = entries b l
+    record {
+      rule = b;
+      points = size l;
+      times = map (λ i. time l i .0) (pointsFrom (firstRetained (size l) (map (λ x. settledCount l (formulaAt b x)) (range 0 (nodeCount b)))) (size l - firstRetained (size l) (map (λ x. settledCount l (formulaAt b x)) (range 0 (nodeCount b)))));
+      entries = entries b l;
     }

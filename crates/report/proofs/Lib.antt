@@ -7,3 +7,4 @@ mod Entries
 mod Reading
 mod Lists
 pub mod RoundTrip
+pub mod Written
