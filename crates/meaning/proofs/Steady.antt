@@ -39,7 +39,7 @@ since-same l l' w left left' right right' i t p q =
     (λ v. all-same (left v) (left' v) (suc (j .0)) (i .0 - j .0) (λ k m n. p k (omega arith) v)) (q j (omega arith)))
 
 -- a time past a window's end is outside it
-past-end : (w : Window) (t : ℕ) → 0 < w .end → w .end ≤ t → inWindow w t ≡ false
+pub past-end : (w : Window) (t : ℕ) → 0 < w .end → w .end ≤ t → inWindow w t ≡ false
 past-end w t d h = go (leb (w .start) t) (ne-eqb (w .end) 0 (λ e. omega arith)) (le-ltb t (w .end) h)
   where
     go : (b : Bool) → eqb (w .end) 0 ≡ false → ltb t (w .end) ≡ false → (b && (eqb (w .end) 0 || ltb t (w .end))) ≡ false

@@ -1,0 +1,260 @@
+-- The counts that the method computes from time stamps are right: a point of the log is settled for a node exactly if its number is below the node's count.
+use Prim.Native.Nat.{ℕ, zero, suc, _+_, _-_, _≤_, _<_, min}
+use mathlib.Core.Path.{_≡_, refl, sym, _∙_}
+use mathlib.Core.Bool.{Bool, true, false, cond, _&&_, _||_, false≢true}
+use mathlib.Core.Logic.{_⊎_, inl, inr}
+use mathlib.Core.List.{List, [], _∷_, List·Memᴰ, List·Memᴰ·head, List·Memᴰ·tail}
+use lib.ListN.{length, getD, length-append, List·getD-append}
+use lib.Seq.{getD-at}
+use lib.Dec.{ltb, leb, eqb}
+use borrow.Author.Tests.{ltb-true, ltb-false, leb-true, eqb-true, eqb-false, lt-ltb, le-leb}
+use native.Mathlib.Nat.{eq-or-lt-of-le, lt-of-not-le}
+use native.Mathlib.Omega.{arith}
+use Rattle.meaning.specs.Lists.{select}
+use Rattle.meaning.specs.Log.{Log, Ordered, point, size, time, latest, pointBefore, pointAfter, pointsFrom}
+use Rattle.meaning.specs.Outcome.{given}
+use Rattle.meaning.specs.Formula.{Formula, until, notUntil, eventually}
+use Rattle.meaning.specs.Settled.{settled, settledSince, settledUntil, settledCount}
+use Rattle.meaning.specs.RuleFile.{Accepted, checking, nodeCount, nodeAt, childrenOf, formulaOf, formulaAt}
+use Rattle.meaning.specs.declared.Point.{Point}
+use Rattle.meaning.specs.declared.Stamp.{Stamp}
+use Rattle.meaning.specs.declared.Window.{Window}
+use Rattle.meaning.specs.declared.Node.{Node}
+use Rattle.meaning.specs.declared.Node.the-variants.{Atom, And, AndNot, Keep, Or, Exists, Previous, Next, Since, NotSince, Until, NotUntil, Once, Eventually}
+use Rattle.meaning.proofs.Points.{both, first, second, orLeft, orRight, Tested, passed, failed, tested}
+use Rattle.meaning.proofs.Rows.{either, both-ways}
+use Rattle.meaning.proofs.Growth.{Extends, at-latest}
+use Rattle.meaning.proofs.Fine.{Fine}
+use Rattle.meaning.proofs.Settles.{UntilSettled, until-parts, until-whole, since-each, since-all, twin, present, prefix, stays}
+use Rattle.meaning.proofs.Tree.{ChildrenLower, formula-step}
+use Rattle.meaning.proofs.Accepted.{accepted, fine, lower}
+use Rattle.method.specs.Counts.{scan, untilCount, advance, countsTo}
+
+-- the test passes at the points below c and at no other
+abbrev pub Upto : (Point → Bool) → ℕ → Type 0
+Upto p c = (i : Point) → p i ≡ ltb (i .0) c
+
+-- a test that passes at a point passes at every point before it
+abbrev Down : (Point → Bool) → Type 0
+Down p = (i j : Point) → j .0 ≤ i .0 → p i ≡ true → p j ≡ true
+
+module _ (p : Point → Bool) (c : ℕ) where
+  upto-of : ((i : Point) → p i ≡ true → i .0 < c) → ((i : Point) → i .0 < c → p i ≡ true) → Upto p c
+  upto-of h k i = both-ways (p i) (ltb (i .0) c) (λ e. lt-ltb (i .0) c (h i e)) (λ e. k i (ltb-true (i .0) c e))
+
+  pub upto-below : Upto p c → (i : Point) → p i ≡ true → i .0 < c
+  upto-below h i e = ltb-true (i .0) c (sym (h i) ∙ e)
+
+  pub upto-holds : Upto p c → (i : Point) → i .0 < c → p i ≡ true
+  upto-holds h i u = h i ∙ lt-ltb (i .0) c u
+
+  -- a point where the test fails is above all where it passes
+  stops : Down p → p (point c) ≡ false → (i : Point) → p i ≡ true → i .0 < c
+  stops d e i s = lt-of-not-le (λ u. false≢true (sym e ∙ d i (point c) u s))
+
+  -- how many points of a run pass
+  selected : Upto p c → (a n : ℕ) → length (select p (pointsFrom a n)) ≡ min c (a + n) - a
+  selected h a zero = omega arith
+  selected h a (suc n) = rw (h (point a)) (go (ltb a c) refl (selected h (suc a) n))
+    where
+      rest : List Point
+      rest = select p (pointsFrom (suc a) n)
+
+      go : (t : Bool) → ltb a c ≡ t → length rest ≡ min c (suc a + n) - suc a → length (cond t (point a ∷ rest) rest) ≡ min c (a + suc n) - a
+      go true e k = omega (arith, ltb-true a c e)
+      go false e k = omega (arith, ltb-false a c e)
+
+-- a test that passes at a prefix of points, all below n, has a count
+boundary : (p : Point → Bool) → Down p → (n : ℕ) → ((i : Point) → p i ≡ true → i .0 < n) → (c : ℕ) × Upto p c
+boundary p d zero h = (0, upto-of p 0 h (λ i u. absurd (omega arith)))
+boundary p d (suc n) h = go (p (point n)) refl (boundary p d n)
+  where
+    go : (t : Bool) → p (point n) ≡ t → (((i : Point) → p i ≡ true → i .0 < n) → (c : ℕ) × Upto p c) → (c : ℕ) × Upto p c
+    go true e less = (suc n, upto-of p (suc n) h (λ i u. d (point n) i (omega arith) e))
+    go false e less = less (stops p n d e)
+
+-- the points that are settled are the first c
+abbrev pub Counted : Log → Formula → ℕ → Type 0
+Counted l φ c = Upto (settled l φ) c
+
+module _ (l : Log) (φ : Formula) where
+  pub counted-most : (c : ℕ) → Counted l φ c → c ≤ size l
+  counted-most zero h = omega arith
+  counted-most (suc c) h = present l φ (point c) (upto-holds (settled l φ) (suc c) h (point c) (omega arith))
+
+  pub counted-is : (c : ℕ) → Counted l φ c → settledCount l φ ≡ c
+  counted-is c h = omega (arith, counted-most c h, selected (settled l φ) c h 0 (size l))
+
+  pub count-counted : Ordered l → Fine φ → Counted l φ (settledCount l φ)
+  count-counted o f =
+      let (c, h) = boundary (settled l φ) (prefix l o φ f) (size l) (present l φ) in
+      rw (counted-is c h) h
+
+-- as the log grows no count falls
+pub counts-grow : (l l' : Log) → Extends l l' → (φ : Formula) (c c' : ℕ) → Counted l φ c → Counted l' φ c' → c ≤ c'
+counts-grow l l' x φ zero c' h k = omega arith
+counts-grow l l' x φ (suc c) c' h k = upto-below (settled l' φ) c' k (point c) (stays l l' x φ (point c) (upto-holds (settled l φ) (suc c) h (point c) (omega arith)))
+
+-- two tests together
+upto-both : (p q : Point → Bool) (a b : ℕ) → Upto p a → Upto q b → Upto (λ i. p i && q i) (min a b)
+upto-both p q a b h k =
+    upto-of (λ i. p i && q i) (min a b)
+    (λ i e. omega (arith, upto-below p a h i (first (p i) (q i) e), upto-below q b k i (second (p i) (q i) e)))
+    (λ i u. both (upto-holds p a h i (omega arith)) (upto-holds q b k i (omega arith)))
+
+-- the test at the point before, if there is one
+abbrev earlier : (Point → Bool) → Point → Bool
+earlier p i = eqb (i .0) 0 || p (pointBefore i)
+
+module _ (p : Point → Bool) (m : ℕ) (h : Upto p m) where
+  upto-since : Upto (settledSince p) m
+  upto-since = upto-of (settledSince p) m (λ i e. upto-below p m h i (since-each p i e i (omega arith))) (λ i u. since-all p i (λ j v. upto-holds p m h j (omega arith)))
+
+  upto-next : Upto (λ i. p (pointAfter i)) (m - 1)
+  upto-next = upto-of (λ i. p (pointAfter i)) (m - 1) (λ i e. omega (arith, upto-below p m h (pointAfter i) e)) (λ i u. upto-holds p m h (pointAfter i) (omega arith))
+
+  upto-earlier : Upto (earlier p) (m + 1)
+  upto-earlier = upto-of (earlier p) (m + 1) (λ i e. near i (either (eqb (i .0) 0) (p (pointBefore i)) e)) (λ i u. back i u (tested (eqb (i .0) 0)))
+    where
+      near : (i : Point) → (eqb (i .0) 0 ≡ true) ⊎ (p (pointBefore i) ≡ true) → i .0 < m + 1
+      near i (inl e) = omega (arith, eqb-true (i .0) 0 e)
+      near i (inr e) = omega (arith, upto-below p m h (pointBefore i) e)
+
+      back : (i : Point) → i .0 < m + 1 → Tested (eqb (i .0) 0) → earlier p i ≡ true
+      back i u (passed e) = orLeft (eqb (i .0) 0) (p (pointBefore i)) e
+      back i u (failed e) = let z : i .0 ≡ 0 → ⊥ = eqb-false (i .0) 0 e in orRight (eqb (i .0) 0) (p (pointBefore i)) (upto-holds p m h (pointBefore i) (omega arith))
+
+-- A scan stops at the count of a test that passes before it starts and, at the points scanned, says what the scan asks.
+scanned : (p : Point → Bool) → Down p → (τ : Point → Stamp) (d bound from steps : ℕ)
+    → ((i : Point) → i .0 < from → p i ≡ true)
+    → ((i : Point) → from ≤ i .0 → i .0 < from + steps → p i ≡ leb (τ i .0 + d) bound)
+    → ((i : Point) → p i ≡ true → i .0 < from + steps)
+    → Upto p (scan τ d bound from steps)
+scanned p down τ d bound from zero before each most = upto-of p from (λ i e. omega (arith, most i e)) before
+scanned p down τ d bound from (suc steps) before each most =
+    let here : p (point from) ≡ leb (τ (point from) .0 + d) bound = each (point from) (omega arith) (omega arith) in
+    go (leb (τ (point from) .0 + d) bound) here
+    (λ e. scanned p down τ d bound (suc from) steps (λ i u. down (point from) i (omega arith) e) (λ i u v. each i (omega arith) (omega arith)) (λ i s. omega (arith, most i s)))
+  where
+    go : (t : Bool) → p (point from) ≡ t → (p (point from) ≡ true → Upto p (scan τ d bound (suc from) steps)) → Upto p (cond t (scan τ d bound (suc from) steps) from)
+    go true e rest = rest e
+    go false e rest = upto-of p from (stops p from down e) before
+
+-- the point by whose time a window has to end, where the children have settled m points and the test says whether there is a point m
+abbrev ending : Log → ℕ → Bool → Point
+ending l m t = point (cond t m (size l - 1))
+
+-- Until, over a test of the children that passes at the first m points.
+module _ (l : Log) (o : Ordered l) (w : Window) (pos : 0 < w .end) (p : Point → Bool) (m : ℕ) (h : Upto p m) (most : m ≤ size l) where
+  until-below : (i : Point) → settledUntil l w p i ≡ true → i .0 < m
+  until-below i e = let q : UntilSettled l w p i = until-parts l w p i e in upto-below p m h i (q .inner i (omega arith) (q .here) (omega arith))
+
+  until-ends : (t : Bool) → ltb m (size l) ≡ t → (i : Point) → i .0 < m → UntilSettled l w p i → time l i .0 + w .end ≤ time l (ending l m t) .0
+  unfolding latest
+  until-ends true e i u q =
+      let no : time l (point m) .0 < time l i .0 + w .end → ⊥ = λ v. omega (arith, upto-below p m h (point m) (q .inner (point m) (omega arith) (ltb-true m (size l) e) v)) in
+      omega arith
+  until-ends false e i u q = q .late
+
+  until-from : (t : Bool) → ltb m (size l) ≡ t → (i : Point) → i .0 < m → time l i .0 + w .end ≤ time l (ending l m t) .0 → UntilSettled l w p i
+  unfolding latest
+  until-from true e i u v =
+      let n : m < size l = ltb-true m (size l) e in
+      record {
+        here = omega arith;
+        late = omega (arith, at-latest l o (point m) n);
+        inner = λ j a b c. upto-holds p m h j (lt-of-not-le (λ k. omega (arith, o .steps (point m) j k b)));
+      }
+  until-from false e i u v = record { here = omega arith; late = v; inner = λ j a b c. upto-holds p m h j (omega (arith, ltb-false m (size l) e)) }
+
+  until-at : (i : Point) → i .0 < m → settledUntil l w p i ≡ leb (time l i .0 + w .end) (time l (ending l m (ltb m (size l))) .0)
+  until-at i u =
+      both-ways _ _
+      (λ s. le-leb _ _ (until-ends (ltb m (size l)) refl i u (until-parts l w p i s)))
+      (λ s. until-whole l w p i (until-from (ltb m (size l)) refl i u (leb-true _ _ s)))
+
+  ending-within : (t : Bool) → ltb m (size l) ≡ t → 0 < m → (m ≤ suc (ending l m t .0)) × (ending l m t .0 < size l)
+  ending-within true e u = omega (arith, ltb-true m (size l) e)
+  ending-within false e u = omega arith
+
+  upto-until : Down (settledUntil l w p) → (from : ℕ) → ((i : Point) → i .0 < from → settledUntil l w p i ≡ true)
+      → (τ : Point → Stamp) → ((i : Point) → from ≤ i .0 → i .0 < size l → τ i ≡ time l i)
+      → Upto (settledUntil l w p) (untilCount τ (size l) (w .end) m from)
+  unfolding untilCount
+  upto-until down from known τ stamps =
+      scanned (settledUntil l w p) down τ (w .end) (τ (ending l m (ltb m (size l))) .0) from (m - from) known
+      (λ i a b.
+      let (u, v) = ending-within (ltb m (size l)) refl (omega arith) in
+      rw (stamps i a (omega arith), stamps (ending l m (ltb m (size l))) (omega arith) v) (until-at i (omega arith)))
+      (λ i e. omega (arith, until-below i e))
+
+module _ (l : Log) (o : Ordered l) (F : ℕ → Formula) (c : ℕ → ℕ) where
+  -- the two children of a node together
+  two : (a b : ℕ) → ((y : ℕ) → List·Memᴰ y (a ∷ b ∷ []) → Counted l (F y) (c y)) → Upto (twin l (F a) (F b)) (min (c a) (c b)) × (min (c a) (c b) ≤ size l)
+  two a b h = (
+    upto-both (settled l (F a)) (settled l (F b)) (c a) (c b) (h a (List·Memᴰ·head refl)) (h b (List·Memᴰ·tail (List·Memᴰ·head refl))),
+    omega (arith, counted-most l (F a) (c a) (h a (List·Memᴰ·head refl))),
+  )
+
+  -- A node's count is right where its children's are, the count to start from is not too high and the stamps from that point on are the log's.
+  pub advance-counted : (n : Node) → Fine (formulaOf F n) → ((y : ℕ) → List·Memᴰ y (childrenOf n) → Counted l (F y) (c y))
+      → (from : ℕ) → ((i : Point) → i .0 < from → settled l (formulaOf F n) i ≡ true)
+      → (τ : Point → Stamp) → ((i : Point) → from ≤ i .0 → i .0 < size l → τ i ≡ time l i)
+      → Counted l (formulaOf F n) (advance τ (size l) c from n)
+  advance-counted (Atom r t) f h from known τ stamps = λ i. refl
+  advance-counted (And a b) f h from known τ stamps = two a b h .0
+  advance-counted (AndNot a b) f h from known τ stamps = two a b h .0
+  advance-counted (Keep a k s) f h from known τ stamps = h a (List·Memᴰ·head refl)
+  advance-counted (Or a b) f h from known τ stamps = two a b h .0
+  advance-counted (Exists a x) f h from known τ stamps = h a (List·Memᴰ·head refl)
+  advance-counted (Previous a w) f h from known τ stamps =
+      upto-both (λ i. ltb (i .0) (size l)) (earlier (settled l (F a))) (size l) (c a + 1) (λ i. refl) (upto-earlier (settled l (F a)) (c a) (h a (List·Memᴰ·head refl)))
+  advance-counted (Next a w) f h from known τ stamps = upto-next (settled l (F a)) (c a) (h a (List·Memᴰ·head refl))
+  advance-counted (Since a b w) f h from known τ stamps = upto-since (twin l (F a) (F b)) (min (c a) (c b)) (two a b h .0)
+  advance-counted (NotSince a b w) f h from known τ stamps = upto-since (twin l (F a) (F b)) (min (c a) (c b)) (two a b h .0)
+  advance-counted (Until a b w) f h from known τ stamps =
+      upto-until l o w (f .3) (twin l (F a) (F b)) (min (c a) (c b)) (two a b h .0) (two a b h .1) (prefix l o (until (F a) (F b) w) f) from known τ stamps
+  advance-counted (NotUntil a b w) f h from known τ stamps =
+      upto-until l o w (f .3) (twin l (F a) (F b)) (min (c a) (c b)) (two a b h .0) (two a b h .1) (prefix l o (notUntil (F a) (F b) w) f) from known τ stamps
+  advance-counted (Once a w) f h from known τ stamps = upto-since (settled l (F a)) (c a) (h a (List·Memᴰ·head refl))
+  advance-counted (Eventually a w) f h from known τ stamps =
+      upto-until l o w (f .1) (settled l (F a)) (c a) (h a (List·Memᴰ·head refl)) (counted-most l (F a) (c a) (h a (List·Memᴰ·head refl))) (prefix l o (eventually (F a) w) f) from known τ stamps
+
+-- The counts of the first nodes: one more node leaves the others as they are and adds its own.
+module _ (b : List ℕ) (τ : Point → Stamp) (n : ℕ) (from : ℕ → ℕ) where
+  pub counts-length : (k : ℕ) → length (countsTo b τ n from k) ≡ k
+  counts-length zero = refl
+  counts-length (suc k) = simp length-append (omega (arith, counts-length k))
+
+  pub counts-old : (k x : ℕ) → x < k → getD (countsTo b τ n from (suc k)) x 0 ≡ getD (countsTo b τ n from k) x 0
+  counts-old k x u = List·getD-append (countsTo b τ n from k) _ 0 x (omega (arith, counts-length k))
+
+  pub counts-new : (k : ℕ) → getD (countsTo b τ n from (suc k)) k 0 ≡ advance τ n (λ y. getD (countsTo b τ n from k) y 0) (from k) (nodeAt b k)
+  counts-new k = getD-at (countsTo b τ n from k) _ [] 0 k (counts-length k)
+
+-- the counts of the first k nodes are right
+abbrev pub RightTo : List ℕ → Log → (ℕ → ℕ) → (Point → Stamp) → ℕ → Type 0
+RightTo b l from τ k = (x : ℕ) → x < k → Counted l (formulaAt b x) (getD (countsTo b τ (size l) from k) x 0)
+
+-- The counts of an accepted rule's nodes are right where no count to start from is too high and the stamps from that point on are the log's.
+module _ (b : List ℕ) (a : Accepted) (e : checking b ≡ given a) (l : Log) (o : Ordered l)
+    (from : ℕ → ℕ) (known : (x : ℕ) → x < nodeCount b → (i : Point) → i .0 < from x → settled l (formulaAt b x) i ≡ true)
+    (τ : Point → Stamp) (stamps : (x : ℕ) → x < nodeCount b → (i : Point) → from x ≤ i .0 → i .0 < size l → τ i ≡ time l i) where
+  count-right : (k : ℕ) → k < nodeCount b → RightTo b l from τ k → Counted l (formulaAt b k) (getD (countsTo b τ (size l) from (suc k)) k 0)
+  count-right k u below =
+      let low : ChildrenLower b k = lower b (nodeCount b) (accepted b a e .each) k u in
+      let step : formulaAt b k ≡ formulaOf (formulaAt b) (nodeAt b k) = formula-step b k low in
+      rw (counts-new b τ (size l) from k, step)
+      (advance-counted l o (formulaAt b) (λ y. getD (countsTo b τ (size l) from k) y 0) (nodeAt b k) (rw step at (fine b a e k u)) (λ y m. below y (low k (omega arith) y m))
+      (from k) (rw step at (known k u)) τ (stamps k u))
+
+  counts-right-to : (k : ℕ) → k ≤ nodeCount b → RightTo b l from τ k
+  counts-right-to zero u x v = absurd (omega arith)
+  counts-right-to (suc k) u x v = go (counts-right-to k (omega arith)) (eq-or-lt-of-le v)
+    where
+      go : RightTo b l from τ k → (suc x ≡ suc k) ⊎ (suc x < suc k) → Counted l (formulaAt b x) (getD (countsTo b τ (size l) from (suc k)) x 0)
+      go below (inl s) = let q : x ≡ k = omega arith in rw q (count-right k u below)
+      go below (inr s) = rw (counts-old b τ (size l) from k x (omega arith)) (below x (omega arith))
+
+  pub counts-right : RightTo b l from τ (nodeCount b)
+  counts-right = counts-right-to (nodeCount b) (omega arith)

@@ -1,0 +1,7 @@
+-- Facts about the method.
+pub mod Counted
+pub mod Grown
+pub mod Lists
+pub mod Parents
+pub mod Keeps
+pub mod Seen

@@ -1,0 +1,99 @@
+-- Facts on lists that the method's proofs share: runs of points, selections from gathered lists. Nothing here is about rules or logs.
+use Prim.Native.Nat.{ℕ, zero, suc, _+_, _-_, _≤_, _<_}
+use native.Mathlib.Nat.{eq-or-lt-of-le}
+use native.Mathlib.Omega.{arith}
+use mathlib.Core.Path.{_≡_, refl, sym, _∙_, ap, ap₂}
+use mathlib.Core.Bool.{Bool, true, false, not, cond, _&&_, _||_, false≢true}
+use mathlib.Core.Logic.{_⊎_, inl, inr}
+use mathlib.Core.List.{List, [], _∷_, _++_, map, append-nil, append-assoc}
+use lib.ListN.{length, getD, length-append, length-map}
+use lib.Dec.{ltb, leb, eqb}
+use borrow.Author.Tests.{le-leb, lt-ltb, le-ltb, lt-leb}
+use Rattle.meaning.specs.Lists.{any, select, gather, range}
+use Rattle.meaning.specs.Log.{point, pointsFrom}
+use Rattle.meaning.specs.declared.Point.{Point}
+use Rattle.meaning.proofs.Rows.{both-ways, any-at, any-of, range-at, range-of}
+use Rattle.meaning.proofs.Points.{select-append, select-none, pointsFrom-append}
+
+-- a test that some number of a run passes, decided by what it comes to
+pub any-is : (q : ℕ → Bool) (n : ℕ) (t : Bool) → ((i : ℕ) → i < n → q i ≡ true → t ≡ true) → (t ≡ true → (i : ℕ) × (i < n) × (q i ≡ true)) → any q (range 0 n) ≡ t
+any-is q n t down up =
+    both-ways (any q (range 0 n)) t
+    (λ e. let (i, m, h) = any-at q (range 0 n) e in let r = range-at 0 n m in down i (omega (arith, r .1)) h)
+    (λ e. let (i, o, h) = up e in any-of q (range-of 0 n (omega arith) (omega arith)) h)
+
+pub select-all : (p : Point → Bool) (a n : ℕ) → ((j : Point) → a ≤ j .0 → j .0 < a + n → p j ≡ true) → select p (pointsFrom a n) ≡ pointsFrom a n
+select-all p a zero h = refl
+select-all p a (suc n) h = rw (h (point a) (omega arith) (omega arith)) (ap (λ ps. point a ∷ ps) (select-all p (suc a) n (λ j u o. h j (omega arith) (omega arith))))
+
+-- the points that a test on both ends selects
+pub select-run : (p : Point → Bool) (n lo hi : ℕ) → lo ≤ hi → hi ≤ n → ((j : Point) → j .0 < n → p j ≡ (leb lo (j .0) && ltb (j .0) hi)) → select p (pointsFrom 0 n) ≡ pointsFrom lo (hi - lo)
+select-run p n lo hi a b h = ap (select p) parts ∙ select-append p (pointsFrom 0 lo) (pointsFrom lo (hi - lo) ++ pointsFrom hi (n - hi)) ∙ rest
+  where
+    parts : pointsFrom 0 n ≡ pointsFrom 0 lo ++ (pointsFrom lo (hi - lo) ++ pointsFrom hi (n - hi))
+    parts =
+        let e : n ≡ lo + ((hi - lo) + (n - hi)) = omega arith in
+        let k : 0 + lo ≡ lo = omega arith in
+        let m : lo + (hi - lo) ≡ hi = omega arith in
+        ap (pointsFrom 0) e ∙ pointsFrom-append 0 lo ((hi - lo) + (n - hi)) ∙ ap (λ z. pointsFrom 0 lo ++ pointsFrom z ((hi - lo) + (n - hi))) k
+        ∙ ap (λ ps. pointsFrom 0 lo ++ ps) (pointsFrom-append lo (hi - lo) (n - hi) ∙ ap (λ z. pointsFrom lo (hi - lo) ++ pointsFrom z (n - hi)) m)
+    rest : select p (pointsFrom 0 lo) ++ select p (pointsFrom lo (hi - lo) ++ pointsFrom hi (n - hi)) ≡ pointsFrom lo (hi - lo)
+    rest =
+        rw (select-none p 0 lo (λ j u o. h j (omega arith) ∙ (rw (lt-leb lo (j .0) (omega arith)))), select-append p (pointsFrom lo (hi - lo)) (pointsFrom hi (n - hi)),
+        select-none p hi (n - hi) (λ j u o. h j (omega arith) ∙ (rw (le-leb lo (j .0) (omega arith), le-ltb (j .0) hi (omega arith)))), append-nil)
+        (select-all p lo (hi - lo) (λ j u o. h j (omega arith) ∙ (rw (le-leb lo (j .0) (omega arith), lt-ltb (j .0) hi (omega arith)))))
+
+module _ {A B : Type 0} where
+  pub select-gather : (q : B → Bool) (f : A → List B) (xs : List A) → select q (gather f xs) ≡ gather (λ x. select q (f x)) xs
+  select-gather q f [] = refl
+  select-gather q f (x ∷ xs) = select-append q (f x) (gather f xs) ∙ ap (λ ys. select q (f x) ++ ys) (select-gather q f xs)
+
+  pub select-map : (q : B → Bool) (f : A → B) (xs : List A) → select q (map f xs) ≡ map f (select (λ x. q (f x)) xs)
+  select-map q f [] = refl
+  select-map q f (x ∷ xs) = go (q (f x)) (select-map q f xs)
+    where
+      go : (t : Bool) → select q (map f xs) ≡ map f (select (λ y. q (f y)) xs) → cond t (f x ∷ select q (map f xs)) (select q (map f xs)) ≡ map f (cond t (x ∷ select (λ y. q (f y)) xs) (select (λ y. q (f y)) xs))
+      go true e = ap (λ ys. f x ∷ ys) e
+      go false e = e
+
+  pub map-gather : {C : Type 0} (g : B → C) (f : A → List B) (xs : List A) → map g (gather f xs) ≡ gather (λ x. map g (f x)) xs
+  map-gather g f [] = refl
+  map-gather g f (x ∷ xs) = go (f x) ∙ ap (λ ys. map g (f x) ++ ys) (map-gather g f xs)
+    where
+      go : (us : List B) → map g (us ++ gather f xs) ≡ map g us ++ map g (gather f xs)
+      go [] = refl
+      go (u ∷ us) = ap (λ ys. g u ∷ ys) (go us)
+
+  pub map-map : {C : Type 0} (g : B → C) (f : A → B) (xs : List A) → map g (map f xs) ≡ map (λ x. g (f x)) xs
+  map-map g f [] = refl
+  map-map g f (x ∷ xs) = ap (λ ys. g (f x) ∷ ys) (map-map g f xs)
+
+-- a run of lists of which one alone isn't empty
+pub gather-none : {B : Type 0} (f : ℕ → List B) (a n : ℕ) → ((y : ℕ) → a ≤ y → y < a + n → f y ≡ []) → gather f (range a n) ≡ []
+gather-none f a zero h = refl
+gather-none f a (suc n) h = rw (h a (omega arith) (omega arith)) (gather-none f (suc a) n (λ y u o. h y (omega arith) (omega arith)))
+
+pub gather-one : {B : Type 0} (f : ℕ → List B) (x a n : ℕ) → a ≤ x → x < a + n → ((y : ℕ) → a ≤ y → y < a + n → (y ≡ x → ⊥) → f y ≡ []) → gather f (range a n) ≡ f x
+gather-one f x a zero u o h = absurd (omega arith)
+gather-one f x a (suc n) u o h = go (eq-or-lt-of-le u) (λ v. gather-one f x (suc a) n v (omega arith) (λ y p q r. h y (omega arith) (omega arith) r))
+  where
+    go : (a ≡ x) ⊎ (a < x) → (a < x → gather f (range (suc a) n) ≡ f x) → f a ++ gather f (range (suc a) n) ≡ f x
+    go (inl e) rest = rw (gather-none f (suc a) n (λ y p q. h y (omega arith) (omega arith) (λ d. omega arith)), append-nil) (ap f e)
+    go (inr e) rest = rw (h a (omega arith) (omega arith) (λ d. omega arith)) (rest e)
+
+-- the same over points
+pub gather-points : {B : Type 0} (f : Point → List B) (a n : ℕ) → gather f (pointsFrom a n) ≡ gather (λ y. f (point y)) (range a n)
+gather-points f a zero = refl
+gather-points f a (suc n) = ap (λ ys. f (point a) ++ ys) (gather-points f (suc a) n)
+
+pub gather-each : {B : Type 0} (f g : ℕ → List B) (a n : ℕ) → ((y : ℕ) → a ≤ y → y < a + n → f y ≡ g y) → gather f (range a n) ≡ gather g (range a n)
+gather-each f g a zero h = refl
+gather-each f g a (suc n) h = ap₂ (λ s t. s ++ t) (h a (omega arith) (omega arith)) (gather-each f g (suc a) n (λ y u o. h y (omega arith) (omega arith)))
+
+pub map-each : {B : Type 0} (f g : ℕ → B) (a n : ℕ) → ((y : ℕ) → a ≤ y → y < a + n → f y ≡ g y) → map f (range a n) ≡ map g (range a n)
+map-each f g a zero h = refl
+map-each f g a (suc n) h = ap₂ (λ s t. s ∷ t) (h a (omega arith) (omega arith)) (map-each f g (suc a) n (λ y u o. h y (omega arith) (omega arith)))
+
+pub range-length : (a n : ℕ) → length (range a n) ≡ n
+range-length a zero = refl
+range-length a (suc n) = ap suc (range-length (suc a) n)
