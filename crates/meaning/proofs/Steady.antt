@@ -12,6 +12,7 @@ use Rattle.meaning.specs.Log.{Log, Ordered, GoesOn, point, size, time, r
 use Rattle.meaning.specs.Formula.{Formula, atom, and, andNot, keep, or, exists, previous, next, since, notSince, until, notUntil, once, eventually, inWindow, compares, free}
 use Rattle.meaning.specs.Definition2.{Valuation, value}
 use Rattle.meaning.specs.Evaluator.{cutTo, valuationOf, setOf, member, atomRows, andRows, lasting, sinceRows, leading, untilRows, among, vals}
+use Rattle.meaning.specs.Kept.{belowEnd, countedAge, pairRows, pairs}
 use Rattle.meaning.specs.Settled.{settledSince, settledUntil, settled}
 use Rattle.meaning.specs.declared.Point.{Point}
 use Rattle.meaning.specs.declared.Window.{Window}
@@ -25,18 +26,29 @@ use Rattle.meaning.proofs.Fine.{Fine}
 select-both : (p q : List ℕ → Bool) (rows rows' : List (List ℕ)) → ((u : List ℕ) → p u ≡ q u) → rows ≡ rows' → select p rows ≡ select q rows'
 select-both p q rows rows' h e = select-same p q rows h ∙ ap (select q) e
 
--- since on two logs, with the same times, left and right up to i
-pub since-same : (l l' : Log) (w : Window) (left left' : List ℕ → Point → Bool) (right right' : Point → List (List ℕ)) (i : Point)
-    → ((j : Point) → j .0 ≤ i .0 → time l j ≡ time l' j)
-    → ((j : Point) → j .0 ≤ i .0 → (u : List ℕ) → left u j ≡ left' u j)
-    → ((j : Point) → j .0 ≤ i .0 → right j ≡ right' j)
-    → sinceRows (time l) w left right i ≡ sinceRows (time l') w left' right' i
-since-same l l' w left left' right right' i t p q =
-    gather-same (λ j. inWindow w (elapsed (time l j) (time l i))) (λ j. inWindow w (elapsed (time l' j) (time l' i)))
-    (lasting left right i) (lasting left' right' i) 0 (suc (i .0))
-    (λ j u o. ap₂ (λ s s'. inWindow w (elapsed s s')) (t j (omega arith)) (t i (omega arith)))
-    (λ j u o h. select-both _ _ (right j) (right' j)
-    (λ v. all-same (left v) (left' v) (suc (j .0)) (i .0 - j .0) (λ k m n. p k (omega arith) v)) (q j (omega arith)))
+-- since, and its pairs, on two logs with the same times, left and right up to i
+module _ (l l' : Log) (w : Window) (left left' : List ℕ → Point → Bool) (right right' : Point → List (List ℕ)) (i : Point)
+    (t : (j : Point) → j .0 ≤ i .0 → time l j ≡ time l' j)
+    (p : (j : Point) → j .0 ≤ i .0 → (u : List ℕ) → left u j ≡ left' u j)
+    (q : (j : Point) → j .0 ≤ i .0 → right j ≡ right' j) where
+  lasting-same : (j : Point) → j .0 ≤ i .0 → lasting left right i j ≡ lasting left' right' i j
+  lasting-same j u = select-both _ _ (right j) (right' j) (λ v. all-same (left v) (left' v) (suc (j .0)) (i .0 - j .0) (λ k m n. p k (omega arith) v)) (q j u)
+
+  age-same : (j : Point) → j .0 ≤ i .0 → elapsed (time l j) (time l i) ≡ elapsed (time l' j) (time l' i)
+  age-same j u = ap₂ elapsed (t j u) (t i (omega arith))
+
+  pub since-same : sinceRows (time l) w left right i ≡ sinceRows (time l') w left' right' i
+  since-same =
+      gather-same (λ j. inWindow w (elapsed (time l j) (time l i))) (λ j. inWindow w (elapsed (time l' j) (time l' i)))
+      (lasting left right i) (lasting left' right' i) 0 (suc (i .0))
+      (λ j u o. ap (inWindow w) (age-same j (omega arith))) (λ j u o h. lasting-same j (omega arith))
+
+  pub pair-same : pairRows (time l) w left right i ≡ pairRows (time l') w left' right' i
+  pair-same =
+      gather-same (λ j. belowEnd w (elapsed (time l j) (time l i))) (λ j. belowEnd w (elapsed (time l' j) (time l' i)))
+      (λ j. map (λ u. countedAge w (elapsed (time l j) (time l i)) ∷ u) (lasting left right i j)) (λ j. map (λ u. countedAge w (elapsed (time l' j) (time l' i)) ∷ u) (lasting left' right' i j)) 0 (suc (i .0))
+      (λ j u o. ap (belowEnd w) (age-same j (omega arith)))
+      (λ j u o h. ap₂ (λ y rows. map (λ u. countedAge w y ∷ u) rows) (age-same j (omega arith)) (lasting-same j (omega arith)))
 
 -- a time past a window's end is outside it
 pub past-end : (w : Window) (t : ℕ) → 0 < w .end → w .end ≤ t → inWindow w t ≡ false
@@ -95,6 +107,12 @@ module _ (l l' : Log) (x : Extends l l') where
         (since-same l l' w left left' right right' i (λ j u. x .times j (omega arith))
         (λ j u. p j (since-each c i e j u)) (λ j u. q j (since-each c i e j u)))
 
+    steady-pairs : i .0 < size l → settledSince c i ≡ true → setOf (pairRows (time l) w left right i) ≡ setOf (pairRows (time l') w left' right' i)
+    steady-pairs n e =
+        ap setOf
+        (pair-same l l' w left left' right right' i (λ j u. x .times j (omega arith))
+        (λ j u. p j (since-each c i e j u)) (λ j u. q j (since-each c i e j u)))
+
     steady-until : 0 < w .end → settledUntil l w c i ≡ true → setOf (untilRows (time l) (size l) w left right i) ≡ setOf (untilRows (time l') (size l') w left' right' i)
     steady-until d e =
         let s : UntilSettled l w c i = until-parts l w c i e in
@@ -147,6 +165,30 @@ module _ (l l' : Log) (x : Extends l l') where
       steady-since w (settled l a) (λ u k. true) (λ u k. true) (vals l a) (vals l' a) (λ j h u. refl) (λ j h. steady-by a f j h) i (present l (once a w) i e) e
   steady-by (eventually a w) f i e =
       steady-until w (settled l a) (λ u k. true) (λ u k. true) (vals l a) (vals l' a) (λ j h u. refl) (λ j h. steady-by a (f .0) j h) i (f .1) e
+
+  -- the pairs of a node at a settled point
+  pub pairs-by : (φ : Formula) → Fine φ → (i : Point) → settled l φ i ≡ true → pairs l φ i ≡ pairs l' φ i
+  pairs-by (atom r ts) f i e = refl
+  pairs-by (and a b) f i e = refl
+  pairs-by (andNot a b) f i e = refl
+  pairs-by (keep a c s t) f i e = refl
+  pairs-by (or a b) f i e = refl
+  pairs-by (exists a y) f i e = refl
+  pairs-by (previous a w) f i e = refl
+  pairs-by (next a w) f i e = refl
+  pairs-by (since a b w) f i e =
+      steady-pairs w (twin l a b) (among (free a) (vals l a)) (among (free a) (vals l' a)) (vals l b) (vals l' b)
+      (λ j h. among-same (free a) (vals l a) (vals l' a) j (steady-by a (f .0) j (first (settled l a j) (settled l b j) h)))
+      (λ j h. steady-by b (f .1) j (second (settled l a j) (settled l b j) h)) i (present l (since a b w) i e) e
+  pairs-by (notSince a b w) f i e =
+      steady-pairs w (twin l a b) (λ u k. not (among (free a) (vals l a) u k)) (λ u k. not (among (free a) (vals l' a) u k)) (vals l b) (vals l' b)
+      (λ j h u. ap not (among-same (free a) (vals l a) (vals l' a) j (steady-by a (f .0) j (first (settled l a j) (settled l b j) h)) u))
+      (λ j h. steady-by b (f .1) j (second (settled l a j) (settled l b j) h)) i (present l (notSince a b w) i e) e
+  pairs-by (until a b w) f i e = refl
+  pairs-by (notUntil a b w) f i e = refl
+  pairs-by (once a w) f i e =
+      steady-pairs w (settled l a) (λ u k. true) (λ u k. true) (vals l a) (vals l' a) (λ j h u. refl) (λ j h. steady-by a f j h) i (present l (once a w) i e) e
+  pairs-by (eventually a w) f i e = refl
 
 -- The valuations at a settled point are the same on every log that begins with this one and goes on by points whose times don't fall.
 pub steady : (l l' : Log) → GoesOn l l' → (φ : Formula) → Fine φ → (i : Point) → settled l φ i ≡ true → vals l φ i ≡ vals l' φ i

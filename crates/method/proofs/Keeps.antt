@@ -1,30 +1,35 @@
 -- What is kept, as runs of points: each node's rows from the first point that its parent still consults, and its pairs; and how they are read off the entries again.
 use Prim.Native.Nat.{ℕ, zero, suc, _+_, _-_, _≤_, _<_, min}
 use native.Mathlib.Omega.{arith}
-use mathlib.Core.Path.{_≡_, refl, sym, _∙_, ap, ap₂}
+use mathlib.Core.Path.{_≡_, refl, sym, _∙_, ap, ap₂, subst}
 use mathlib.Core.Bool.{Bool, true, false, not, cond, _&&_, _||_, false≢true}
 use mathlib.Core.Logic.{_⊎_, inl, inr}
-use mathlib.Core.List.{List, [], _∷_, _++_, map, append-nil, List·Memᴰ, List·Memᴰ·not-nil}
+use mathlib.Core.List.{List, [], _∷_, _++_, map, append-nil, List·Memᴰ, List·Memᴰ·head, List·Memᴰ·tail, List·Memᴰ·not-nil, List·Memᴰ·append-cases, Memᴰ·of-map}
 use lib.ListN.{length, getD, drop}
 use lib.Dec.{ltb, leb, eqb}
 use borrow.Author.Tests.{ltb-true, ltb-false, lt-ltb, le-ltb, leb-true, leb-false, le-leb, lt-leb, eqb-true, eq-eqb, eqb-false, ne-eqb, not-true}
 use Rattle.meaning.specs.Lists.{any, range, select, gather}
 use Rattle.meaning.specs.Outcome.{given}
 use Rattle.meaning.specs.Log.{Log, Ordered, point, size, pointsFrom, pointsOf}
-use Rattle.meaning.specs.Formula.{Formula}
+use Rattle.meaning.specs.Formula.{Formula, atom, and, andNot, keep, or, exists, previous, next, since, notSince, until, notUntil, once, eventually}
 use Rattle.meaning.specs.Evaluator.{vals}
 use Rattle.meaning.specs.Settled.{settled, settledCount}
 use Rattle.meaning.specs.RuleFile.{Accepted, checking, nodeCount, nodeAt, childrenOf, formulaOf, formulaAt, lastNode}
-use Rattle.meaning.specs.Kept.{lastPairs, consults, consulted, Entry, entryOf, parentOf, pointEntries, ageEntries, entriesOf, entries}
+use Rattle.meaning.specs.Kept.{pairs, lastPairs, consults, consulted, Entry, entryOf, parentOf, pointEntries, ageEntries, entriesOf, entries}
 use Rattle.meaning.specs.declared.Point.{Point}
 use Rattle.meaning.specs.declared.Node.{Node}
 use Rattle.meaning.specs.declared.Node.the-variants.{Atom, And, AndNot, Keep, Or, Exists, Previous, Next, Since, NotSince, Until, NotUntil, Once, Eventually}
 use Rattle.meaning.proofs.Points.{first, second, both, select-append, Tested, passed, failed, tested}
-use Rattle.meaning.proofs.Rows.{both-ways}
+use Rattle.meaning.proofs.Rows.{both-ways, gather-at}
 use Rattle.method.specs.Stored.{held, heldPairs}
 use Rattle.method.specs.Step.{firstWanted, wantedFrom}
-use Rattle.method.proofs.Counted.{Counted, counted-most}
-use Rattle.method.proofs.Lists.{any-is, select-run, select-gather, select-map, map-gather, map-map, gather-one, gather-none, gather-points}
+use Rattle.meaning.proofs.Fine.{Fine}
+use Rattle.meaning.proofs.Lemma9.{since-pairs, notSince-pairs, once-pairs}
+use Rattle.meaning.proofs.Tree.{formula-step}
+use Rattle.meaning.proofs.Accepted.{accepted, lower, fine}
+use Rattle.method.proofs.Counted.{Counted, counted-most, count-counted}
+use Rattle.method.proofs.Parents.{parent-is, has-parent}
+use Rattle.method.proofs.Lists.{any-is, select-no, select-yes, map-same, map-id, select-run, select-gather, select-map, map-gather, map-map, gather-one, gather-none, gather-points}
 
 -- ---- the points that a parent still consults, with p of its points settled
 
@@ -88,3 +93,158 @@ consulted-from l F (Until a b w) p c y m j = consult-up l (formulaOf F (Until a 
 consulted-from l F (NotUntil a b w) p c y m j = consult-up l (formulaOf F (NotUntil a b w)) p c (j .0)
 consulted-from l F (Once a w) p c y m j = consult-same l (formulaOf F (Once a w)) p c (j .0)
 consulted-from l F (Eventually a w) p c y m j = consult-up l (formulaOf F (Eventually a w)) p c (j .0)
+
+-- ---- a pair is an age and a row
+
+pair-parts : (l : Log) (φ : Formula) → Fine φ → (i : Point) (p : List ℕ) → List·Memᴰ p (pairs l φ i) → (y : ℕ) × (u : List ℕ) × (p ≡ y ∷ u)
+pair-parts l (atom r ts) f i p m = absurd (List·Memᴰ·not-nil m)
+pair-parts l (and a b) f i p m = absurd (List·Memᴰ·not-nil m)
+pair-parts l (andNot a b) f i p m = absurd (List·Memᴰ·not-nil m)
+pair-parts l (keep a c s t) f i p m = absurd (List·Memᴰ·not-nil m)
+pair-parts l (or a b) f i p m = absurd (List·Memᴰ·not-nil m)
+pair-parts l (exists a x) f i p m = absurd (List·Memᴰ·not-nil m)
+pair-parts l (previous a w) f i p m = absurd (List·Memᴰ·not-nil m)
+pair-parts l (next a w) f i p m = absurd (List·Memᴰ·not-nil m)
+pair-parts l (since a b w) f i p m = let r = since-pairs l i a b w f .cut p m in (r .0, _, r .2)
+pair-parts l (notSince a b w) f i p m = let r = notSince-pairs l i a b w f .cut p m in (r .0, _, r .2)
+pair-parts l (until a b w) f i p m = absurd (List·Memᴰ·not-nil m)
+pair-parts l (notUntil a b w) f i p m = absurd (List·Memᴰ·not-nil m)
+pair-parts l (once a w) f i p m = let r = once-pairs l i a w f .cut p m in (r .0, _, r .2)
+pair-parts l (eventually a w) f i p m = absurd (List·Memᴰ·not-nil m)
+
+-- ---- a node's entries as runs
+
+module _ (b : List ℕ) (a : Accepted) (ok : checking b ≡ given a) (l : Log) (ordered : Ordered l) where
+  abbrev pub countIn : ℕ → ℕ
+  countIn x = settledCount l (formulaAt b x)
+
+  pub count-of : (x : ℕ) → x < nodeCount b → Counted l (formulaAt b x) (countIn x)
+  count-of x o = count-counted l (formulaAt b x) ordered (fine b a ok x o)
+
+  pub wanted-low : (x : ℕ) → wantedFrom b countIn x ≤ countIn x
+  unfolding wantedFrom
+  wanted-low x = go (eqb x (lastNode b)) _
+    where
+      go : (t : Bool) (f : ℕ) → cond t (countIn x) (min (countIn x) f) ≤ countIn x
+      go true f = omega arith
+      go false f = omega arith
+
+  -- the points at which a node that isn't the last keeps its rows
+  kept-run : (x : ℕ) → x < nodeCount b - 1
+      → select (λ j. settled l (formulaAt b x) j && consulted l (formulaAt b (parentOf b x)) j) (pointsOf l) ≡ pointsFrom (wantedFrom b countIn x) (countIn x - wantedFrom b countIn x)
+  unfolding wantedFrom
+  kept-run x o =
+      let (p, n, m) = has-parent b a ok x o in
+      let e : parentOf b x ≡ p = parent-is b a ok p n x m in
+      let lo : ℕ = min (countIn x) (firstWanted (nodeAt b p) (countIn p)) in
+      let z : eqb x (lastNode b) ≡ false = ne-eqb x (lastNode b) (λ d. omega arith) in
+      rw (z, e)
+      (select-run (λ j. settled l (formulaAt b x) j && consulted l (formulaAt b p) j) (size l) lo (countIn x) (omega arith)
+      (counted-most l (formulaAt b x) (countIn x) (count-of x (omega arith)))
+      (λ j h. rw (count-of x (omega arith) j, asked p n m j) (ends (countIn x) (firstWanted (nodeAt b p) (countIn p)) (j .0))))
+    where
+      asked : (p : ℕ) → p < nodeCount b → List·Memᴰ x (childrenOf (nodeAt b p)) → (j : Point) → consulted l (formulaAt b p) j ≡ leb (firstWanted (nodeAt b p) (countIn p)) (j .0)
+      asked p n m j =
+          let step : formulaAt b p ≡ formulaOf (formulaAt b) (nodeAt b p) = formula-step b p (lower b (nodeCount b) (accepted b a ok .each) p n) in
+          ap (λ φ. consulted l φ j) step ∙ consulted-from l (formulaAt b) (nodeAt b p) (countIn p) (subst (λ φ. Counted l φ (countIn p)) step (count-of p n)) x m j
+      ends : (c f j : ℕ) → (ltb j c && leb f j) ≡ (leb (min c f) j && ltb j c)
+      ends c f j = both-ways (ltb j c && leb f j) (leb (min c f) j && ltb j c)
+        (λ e. both (le-leb (min c f) j (omega (arith, leb-true f j (second (ltb j c) (leb f j) e)))) (first (ltb j c) (leb f j) e))
+        (λ e. let u : j < c = ltb-true j c (second (leb (min c f) j) (ltb j c) e) in both (second (leb (min c f) j) (ltb j c) e) (le-leb f j (omega (arith, leb-true (min c f) j (first (leb (min c f) j) (ltb j c) e)))))
+
+  -- the last node keeps no rows
+  last-wanted : (x : ℕ) → eqb x (lastNode b) ≡ true → countIn x - wantedFrom b countIn x ≡ 0
+  unfolding wantedFrom
+  last-wanted x e = rw e (omega arith)
+
+  abbrev pub rowEntries : ℕ → List Entry
+  rowEntries x = gather (λ j. map (entryOf x 0 (j .0)) (vals l (formulaAt b x) j)) (pointsFrom (wantedFrom b countIn x) (countIn x - wantedFrom b countIn x))
+
+  abbrev pub pairEntries : ℕ → List Entry
+  pairEntries x = map (λ p. entryOf x 1 (getD p 0 0) (drop 1 p)) (lastPairs l (formulaAt b x))
+
+  row-entries : (x : ℕ) → x < nodeCount b - 1 → pointEntries b l x ≡ rowEntries x
+  unfolding pointEntries
+  row-entries x o = ap (gather (λ j. map (entryOf x 0 (j .0)) (vals l (formulaAt b x) j))) (kept-run x o)
+
+  pub entries-run : (x : ℕ) → x < nodeCount b → entriesOf b l x ≡ rowEntries x ++ pairEntries x
+  unfolding entriesOf ageEntries
+  entries-run x o = ap (λ es. es ++ pairEntries x) (go (tested (eqb x (lastNode b))))
+    where
+      none : eqb x (lastNode b) ≡ true → [] ≡ rowEntries x
+      none e = ap (λ k. gather (λ j. map (entryOf x 0 (j .0)) (vals l (formulaAt b x) j)) (pointsFrom (wantedFrom b countIn x) k)) (sym (last-wanted x e))
+      go : Tested (eqb x (lastNode b)) → cond (eqb x (lastNode b)) [] (pointEntries b l x) ≡ rowEntries x
+      go (passed e) = rw e (none e)
+      go (failed e) = let d : x ≡ lastNode b → ⊥ = eqb-false x (lastNode b) e in rw e (row-entries x (omega arith))
+
+  -- ---- rows and pairs read off the entries
+
+  -- a kept pair is an age and a row
+  pair-whole : (x : ℕ) → x < nodeCount b → (p : List ℕ) → List·Memᴰ p (lastPairs l (formulaAt b x)) → getD p 0 0 ∷ drop 1 p ≡ p
+  unfolding lastPairs
+  pair-whole x o p m = go (settledCount l (formulaAt b x)) m
+    where
+      whole : (y : ℕ) × (u : List ℕ) × (p ≡ y ∷ u) → getD p 0 0 ∷ drop 1 p ≡ p
+      whole (y, u, e) = rw e
+      go : (k : ℕ) → List·Memᴰ p (cond (eqb k 0) [] (pairs l (formulaAt b x) (point (k - 1)))) → getD p 0 0 ∷ drop 1 p ≡ p
+      go k h = elim (tested (eqb k 0)) [ passed t ↦ absurd (List·Memᴰ·not-nil (rw t at h)) | failed t ↦ whole (pair-parts l (formulaAt b x) (fine b a ok x o) (point (k - 1)) p (rw t at h)) ]
+
+  of-node : (y : ℕ) → y < nodeCount b → (e : Entry) → List·Memᴰ e (entriesOf b l y) → e .node ≡ y
+  of-node y o e m = go (List·Memᴰ·append-cases (rowEntries y) (rw (entries-run y o) at m))
+    where
+      go : List·Memᴰ e (rowEntries y) ⊎ List·Memᴰ e (pairEntries y) → e .node ≡ y
+      go (inl k) =
+          let (j, n, h) = gather-at (λ j. map (entryOf y 0 (j .0)) (vals l (formulaAt b y) j)) (pointsFrom (wantedFrom b countIn y) (countIn y - wantedFrom b countIn y)) k in
+          let (u, p, d) = Memᴰ·of-map (entryOf y 0 (j .0)) (vals l (formulaAt b y) j) h in
+          ap (λ (z : Entry). z .node) (sym d)
+      go (inr k) =
+          let (q, p, d) = Memᴰ·of-map (λ p. entryOf y 1 (getD p 0 0) (drop 1 p)) (lastPairs l (formulaAt b y)) k in
+          ap (λ (z : Entry). z .node) (sym d)
+
+  -- a test that asks for node x selects from node x's entries alone
+  from-node : (x : ℕ) → x < nodeCount b → (q : Entry → Bool) → ((e : Entry) → q e ≡ true → e .node ≡ x) → select q (entries b l) ≡ select q (rowEntries x) ++ select q (pairEntries x)
+  unfolding entries
+  from-node x o q only =
+      select-gather q (entriesOf b l) (range 0 (nodeCount b))
+      ∙ gather-one (λ y. select q (entriesOf b l y)) x 0 (nodeCount b) (omega arith) (omega arith)
+      (λ y u v d. select-no q (entriesOf b l y) (λ e m. elim (tested (q e)) [ passed t ↦ absurd (d (sym (of-node y (omega arith) e m) ∙ only e t)) | failed t ↦ t ]))
+      ∙ ap (select q) (entries-run x o) ∙ select-append q (rowEntries x) (pairEntries x)
+
+  pub held-is : (x : ℕ) → x < nodeCount b → (j : Point) → wantedFrom b countIn x ≤ j .0 → j .0 < countIn x → held (entries b l) x j ≡ vals l (formulaAt b x) j
+  unfolding held
+  held-is x o j u n =
+      ap (map (λ e. e .values)) (from-node x o asked (λ e t. eqb-true (e .node) x (search (first, second))) ∙ ap (λ es. select asked (rowEntries x) ++ es) none ∙ append-nil (select asked (rowEntries x)) ∙ here)
+      ∙ map-map (λ e. e .values) (entryOf x 0 (j .0)) (vals l (formulaAt b x) j) ∙ map-same (vals l (formulaAt b x) j)
+    where
+      asked : Entry → Bool
+      asked e = eqb (e .node) x && eqb (e .mark) 0 && eqb (e .number) (j .0)
+      none : select asked (pairEntries x) ≡ []
+      none = select-map asked (λ p. entryOf x 1 (getD p 0 0) (drop 1 p)) (lastPairs l (formulaAt b x)) ∙ ap (map (λ p. entryOf x 1 (getD p 0 0) (drop 1 p))) (select-no _ (lastPairs l (formulaAt b x)) (λ p m. rw (eq-eqb x x refl)))
+      rowsAt : ℕ → List Entry
+      rowsAt k = select asked (map (entryOf x 0 k) (vals l (formulaAt b x) (point k)))
+      other : (k : ℕ) → (k ≡ j .0 → ⊥) → rowsAt k ≡ []
+      other k d = select-map asked (entryOf x 0 k) (vals l (formulaAt b x) (point k)) ∙ ap (map (entryOf x 0 k)) (select-no _ (vals l (formulaAt b x) (point k)) (λ p m. rw (eq-eqb x x refl, ne-eqb k (j .0) d)))
+      same : rowsAt (j .0) ≡ map (entryOf x 0 (j .0)) (vals l (formulaAt b x) j)
+      same = select-map asked (entryOf x 0 (j .0)) (vals l (formulaAt b x) j) ∙ ap (map (entryOf x 0 (j .0))) (select-yes _ (vals l (formulaAt b x) j) (λ p. rw (eq-eqb x x refl, eq-eqb (j .0) (j .0) refl)))
+      here : select asked (rowEntries x) ≡ map (entryOf x 0 (j .0)) (vals l (formulaAt b x) j)
+      here =
+          select-gather asked (λ k. map (entryOf x 0 (k .0)) (vals l (formulaAt b x) k)) (pointsFrom (wantedFrom b countIn x) (countIn x - wantedFrom b countIn x))
+          ∙ gather-points (λ k. select asked (map (entryOf x 0 (k .0)) (vals l (formulaAt b x) k))) (wantedFrom b countIn x) (countIn x - wantedFrom b countIn x)
+          ∙ gather-one rowsAt (j .0) (wantedFrom b countIn x) (countIn x - wantedFrom b countIn x) u (omega arith) (λ k p q d. other k d) ∙ same
+
+  pub heldPairs-is : (x : ℕ) → x < nodeCount b → heldPairs (entries b l) x ≡ lastPairs l (formulaAt b x)
+  unfolding heldPairs
+  heldPairs-is x o =
+      ap (map (λ e. e .number ∷ e .values)) (from-node x o asked (λ e t. eqb-true (e .node) x (search first)) ∙ ap (λ es. es ++ select asked (pairEntries x)) none ∙ here)
+      ∙ map-map (λ e. e .number ∷ e .values) (λ p. entryOf x 1 (getD p 0 0) (drop 1 p)) (lastPairs l (formulaAt b x)) ∙ map-id _ (lastPairs l (formulaAt b x)) (λ p m. pair-whole x o p m)
+    where
+      asked : Entry → Bool
+      asked e = eqb (e .node) x && eqb (e .mark) 1
+      none : select asked (rowEntries x) ≡ []
+      none =
+          select-gather asked (λ k. map (entryOf x 0 (k .0)) (vals l (formulaAt b x) k)) (pointsFrom (wantedFrom b countIn x) (countIn x - wantedFrom b countIn x))
+          ∙ gather-points (λ k. select asked (map (entryOf x 0 (k .0)) (vals l (formulaAt b x) k))) (wantedFrom b countIn x) (countIn x - wantedFrom b countIn x)
+          ∙ gather-none _ (wantedFrom b countIn x) (countIn x - wantedFrom b countIn x)
+          (λ k u v. select-map asked (entryOf x 0 k) (vals l (formulaAt b x) (point k)) ∙ ap (map (entryOf x 0 k)) (select-no _ (vals l (formulaAt b x) (point k)) (λ p m. rw (eq-eqb x x refl))))
+      here : select asked (pairEntries x) ≡ pairEntries x
+      here = select-map asked (λ p. entryOf x 1 (getD p 0 0) (drop 1 p)) (lastPairs l (formulaAt b x)) ∙ ap (map (λ p. entryOf x 1 (getD p 0 0) (drop 1 p))) (select-yes _ (lastPairs l (formulaAt b x)) (λ p. rw (eq-eqb x x refl)))

@@ -5,3 +5,5 @@ pub mod Lists
 pub mod Parents
 pub mod Keeps
 pub mod Seen
+pub mod Turns
+pub mod Stepped

@@ -5,7 +5,7 @@ use native.Mathlib.Omega.{arith}
 use mathlib.Core.Path.{_≡_, refl, sym, _∙_, ap, ap₂}
 use mathlib.Core.Bool.{Bool, true, false, not, cond, _&&_, _||_, false≢true}
 use mathlib.Core.Logic.{_⊎_, inl, inr}
-use mathlib.Core.List.{List, [], _∷_, _++_, map, append-nil, append-assoc}
+use mathlib.Core.List.{List, [], _∷_, _++_, map, append-nil, append-assoc, List·Memᴰ, List·Memᴰ·head, List·Memᴰ·tail}
 use lib.ListN.{length, getD, length-append, length-map}
 use lib.Dec.{ltb, leb, eqb}
 use borrow.Author.Tests.{le-leb, lt-ltb, le-ltb, lt-leb}
@@ -21,6 +21,14 @@ any-is q n t down up =
     both-ways (any q (range 0 n)) t
     (λ e. let (i, m, h) = any-at q (range 0 n) e in let r = range-at 0 n m in down i (omega (arith, r .1)) h)
     (λ e. let (i, o, h) = up e in any-of q (range-of 0 n (omega arith) (omega arith)) h)
+
+pub select-no : {A : Type 0} (p : A → Bool) (xs : List A) → ((x : A) → List·Memᴰ x xs → p x ≡ false) → select p xs ≡ []
+select-no p [] h = refl
+select-no p (x ∷ xs) h = rw (h x (List·Memᴰ·head refl)) (select-no p xs (λ y m. h y (List·Memᴰ·tail m)))
+
+pub select-yes : {A : Type 0} (p : A → Bool) (xs : List A) → ((x : A) → p x ≡ true) → select p xs ≡ xs
+select-yes p [] h = refl
+select-yes p (x ∷ xs) h = rw (h x) (ap (λ ys. x ∷ ys) (select-yes p xs h))
 
 pub select-all : (p : Point → Bool) (a n : ℕ) → ((j : Point) → a ≤ j .0 → j .0 < a + n → p j ≡ true) → select p (pointsFrom a n) ≡ pointsFrom a n
 select-all p a zero h = refl
@@ -67,6 +75,13 @@ module _ {A B : Type 0} where
   pub map-map : {C : Type 0} (g : B → C) (f : A → B) (xs : List A) → map g (map f xs) ≡ map (λ x. g (f x)) xs
   map-map g f [] = refl
   map-map g f (x ∷ xs) = ap (λ ys. g (f x) ∷ ys) (map-map g f xs)
+
+pub map-id : {A : Type 0} (f : A → A) (xs : List A) → ((x : A) → List·Memᴰ x xs → f x ≡ x) → map f xs ≡ xs
+map-id f [] h = refl
+map-id f (x ∷ xs) h = ap₂ (λ y ys. y ∷ ys) (h x (List·Memᴰ·head refl)) (map-id f xs (λ y m. h y (List·Memᴰ·tail m)))
+
+pub map-same : {A : Type 0} (xs : List A) → map (λ x. x) xs ≡ xs
+map-same xs = map-id (λ x. x) xs (λ x m. refl)
 
 -- a run of lists of which one alone isn't empty
 pub gather-none : {B : Type 0} (f : ℕ → List B) (a n : ℕ) → ((y : ℕ) → a ≤ y → y < a + n → f y ≡ []) → gather f (range a n) ≡ []

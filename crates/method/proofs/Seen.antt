@@ -236,19 +236,19 @@ module _ (v : Sight) (l : Log) (ordered : Ordered l) (F : ℕ → Formula) (i : 
   pairs-right (Since a b w) s f e =
       let p : v .rows a i ≡ vals l (F a) i = seen (Since a b w) s a one i (omega arith) (first (settled l (F a) i) (settled l (F b) i) (since-each (twin l (F a) (F b)) i e i (omega arith))) in
       let q : v .rows b i ≡ vals l (F b) i = seen (Since a b w) s b two i (omega arith) (second (settled l (F a) i) (settled l (F b) i) (since-each (twin l (F a) (F b)) i e i (omega arith))) in
-      grow-seen w (found v a) (among (free (F a)) (vals l (F a))) (v .rows b) (vals l (F b)) _ (s .stamps) (present l (formulaOf F (Since a b w)) i e)
+      grow-seen w (found v a) (among (free (F a)) (vals l (F a))) (v .rows b) (vals l (F b)) (pairsBefore l (formulaOf F (Since a b w)) i) (s .stamps) (present l (formulaOf F (Since a b w)) i e)
       (found-among v l F a i (f .0) (s .variables) p) q
       ∙ sym (grows-at (since-grows l ordered w (age-below w) (F a) (F b) (f .1)) i (present l (formulaOf F (Since a b w)) i e))
   pairs-right (NotSince a b w) s f e =
       let p : v .rows a i ≡ vals l (F a) i = seen (NotSince a b w) s a one i (omega arith) (first (settled l (F a) i) (settled l (F b) i) (since-each (twin l (F a) (F b)) i e i (omega arith))) in
       let q : v .rows b i ≡ vals l (F b) i = seen (NotSince a b w) s b two i (omega arith) (second (settled l (F a) i) (settled l (F b) i) (since-each (twin l (F a) (F b)) i e i (omega arith))) in
-      grow-seen w (λ u k. not (found v a u k)) (λ u k. not (among (free (F a)) (vals l (F a)) u k)) (v .rows b) (vals l (F b)) _ (s .stamps) (present l (formulaOf F (NotSince a b w)) i e)
+      grow-seen w (λ u k. not (found v a u k)) (λ u k. not (among (free (F a)) (vals l (F a)) u k)) (v .rows b) (vals l (F b)) (pairsBefore l (formulaOf F (NotSince a b w)) i) (s .stamps) (present l (formulaOf F (NotSince a b w)) i e)
       (λ u. ap not (found-among v l F a i (f .0) (s .variables) p u)) q
       ∙ sym (grows-at (notSince-grows l ordered w (age-below w) (F a) (F b) (f .1)) i (present l (formulaOf F (NotSince a b w)) i e))
   pairs-right (Until a b w) s f e = refl
   pairs-right (NotUntil a b w) s f e = refl
   pairs-right (Once a w) s f e =
-      grow-seen w (λ u k. true) (λ u k. true) (v .rows a) (vals l (F a)) _ (s .stamps) (present l (formulaOf F (Once a w)) i e)
+      grow-seen w (λ u k. true) (λ u k. true) (v .rows a) (vals l (F a)) (pairsBefore l (formulaOf F (Once a w)) i) (s .stamps) (present l (formulaOf F (Once a w)) i e)
       (λ u. refl) (seen (Once a w) s a one i (omega arith) (since-each (settled l (F a)) i e i (omega arith)))
       ∙ sym (grows-at (once-grows l ordered w (age-below w) (F a) f) i (present l (formulaOf F (Once a w)) i e))
   pairs-right (Eventually a w) s f e = refl

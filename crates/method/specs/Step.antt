@@ -60,7 +60,7 @@ turnOf b es before after v x =
       pairs = newPairs v (nodeAt b x) (before x) (after x - before x) (heldPairs es x);
     }
 
-abbrev noTurn : Turn
+abbrev pub noTurn : Turn
 noTurn = record { low = 0; rows = []; pairs = [] }
 
 -- what node x can look at, after the turns of the nodes below it

@@ -1,0 +1,160 @@
+-- The nodes in turn: from what is stored of a log, each node's turn gives the evaluator's rows on the grown log, from the first point that is still consulted on, and its pairs there.
+use Prim.Native.Nat.{ℕ, zero, suc, _+_, _-_, _≤_, _<_, min}
+use native.Mathlib.Nat.{eq-or-lt-of-le}
+use native.Mathlib.Omega.{arith}
+use mathlib.Core.Path.{_≡_, refl, sym, _∙_, ap, ap₂, subst}
+use mathlib.Core.Bool.{Bool, true, false, not, cond, _&&_, _||_, false≢true}
+use mathlib.Core.Logic.{_⊎_, inl, inr}
+use mathlib.Core.List.{List, [], _∷_, _++_, map, append-nil, List·Memᴰ, cons≢nil}
+use lib.ListN.{length, getD, drop, length-append, length-map, List·getD-append}
+use lib.Seq.{getD-append-seam}
+use lib.Dec.{ltb, leb, eqb}
+use borrow.Author.Tests.{ltb-true, ltb-false, lt-ltb, le-ltb, eqb-true, eq-eqb, eqb-false, ne-eqb}
+use Rattle.meaning.specs.Lists.{range, select, gather}
+use Rattle.meaning.specs.Outcome.{given}
+use Rattle.meaning.specs.Log.{Log, Row, Ordered, beyond, point, stamp, size, time, rowsAt, pointsFrom}
+use Rattle.meaning.specs.Formula.{Formula, free}
+use Rattle.meaning.specs.Evaluator.{vals}
+use Rattle.meaning.specs.Settled.{settled, settledCount}
+use Rattle.meaning.specs.RuleFile.{Accepted, checking, nodeCount, nodeAt, childrenOf, formulaOf, formulaAt, lastNode}
+use Rattle.meaning.specs.Kept.{pairs, lastPairs, Entry, entryOf, parentOf, entries, entriesOf}
+use Rattle.meaning.specs.Event.{pointOf}
+use Rattle.meaning.specs.Keeper.{grown}
+use Rattle.meaning.specs.declared.Point.{Point}
+use Rattle.meaning.specs.declared.Stamp.{Stamp}
+use Rattle.meaning.specs.declared.Node.{Node}
+use Rattle.meaning.specs.declared.Node.the-variants.{Atom, And, AndNot, Keep, Or, Exists, Previous, Next, Since, NotSince, Until, NotUntil, Once, Eventually}
+use Rattle.meaning.proofs.Fine.{Fine}
+use Rattle.meaning.proofs.Tree.{formula-step}
+use Rattle.meaning.proofs.Accepted.{accepted, lower, fine}
+use Rattle.meaning.proofs.Growth.{Extends, extends}
+use Rattle.meaning.proofs.Settles.{stays}
+use Rattle.meaning.proofs.Steady.{steady-by, pairs-by}
+use Rattle.meaning.proofs.Points.{pointsFrom-append, Tested, passed, failed, tested}
+use Rattle.method.specs.Stored.{Stored, baseOf, stampIn, held, heldPairs, leastOf, firstRetained, storedOf}
+use Rattle.method.specs.Counts.{countsTo}
+use Rattle.method.specs.Settle.{Sight, settle, pairsNow, Turn, rowsOfTurn}
+use Rattle.method.specs.Step
+use Rattle.method.specs.Step.{firstWanted, wantedFrom, newRows, newPairs, turnOf, sightOf, turnsTo, noTurn, stampsNow, countBefore, countAfter, countsAfter, turn}
+use Rattle.method.proofs.Counted.{Counted, counted-most, counted-is, counts-right, counts-grow, upto-below, upto-holds}
+use Rattle.method.proofs.Lists.{map-each, range-length}
+use Rattle.method.proofs.Parents.{parent-is, has-parent}
+use Rattle.method.proofs.Keeps.{countIn, count-of, wanted-low, held-is, heldPairs-is}
+use Rattle.method.proofs.Seen.{Sees, pairsBefore, settle-right, pairs-right}
+
+-- ---- lists
+
+pub least-below : (n : ℕ) (c : ℕ → ℕ) (a k y : ℕ) → a ≤ y → y < a + k → leastOf n (map c (range a k)) ≤ c y
+least-below n c a zero y u o = absurd (omega arith)
+least-below n c a (suc k) y u o = go (eq-or-lt-of-le u) (λ v. least-below n c (suc a) k y v (omega arith))
+  where
+    go : (a ≡ y) ⊎ (a < y) → (a < y → leastOf n (map c (range (suc a) k)) ≤ c y) → min (c a) (leastOf n (map c (range (suc a) k))) ≤ c y
+    go (inl e) rest = let h : c a ≡ c y = ap c e in omega arith
+    go (inr v) rest = omega (arith, rest v)
+
+pub least-most : (n : ℕ) (cs : List ℕ) → leastOf n cs ≤ n
+least-most n [] = omega arith
+least-most n (c ∷ cs) = omega (arith, least-most n cs)
+
+pub points-length : (a n : ℕ) → length (pointsFrom a n) ≡ n
+points-length a n = length-map (range a n) point ∙ range-length a n
+
+module _ {A : Type 0} (f : Point → A) (d : A) where
+  pub getD-points : (a n k : ℕ) → k < n → getD (map f (pointsFrom a n)) k d ≡ f (point (a + k))
+  getD-points a zero k h = absurd (omega arith)
+  getD-points a (suc n) zero h = let e : a + 0 ≡ a = omega arith in rw e
+  getD-points a (suc n) (suc k) h = let e : a + suc k ≡ suc a + k = omega arith in rw e (getD-points (suc a) n k (omega arith))
+
+pub map-points : {B : Type 0} (f g : Point → B) (a n : ℕ) → ((j : Point) → a ≤ j .0 → j .0 < a + n → f j ≡ g j) → map f (pointsFrom a n) ≡ map g (pointsFrom a n)
+map-points f g a zero h = refl
+map-points f g a (suc n) h = ap₂ (λ s t. s ∷ t) (h (point a) (omega arith) (omega arith)) (map-points f g (suc a) n (λ j u o. h j (omega arith) (omega arith)))
+
+pub map-append : {A B : Type 0} (f : A → B) (xs ys : List A) → map f (xs ++ ys) ≡ map f xs ++ map f ys
+map-append f [] ys = refl
+map-append f (x ∷ xs) ys = ap (λ zs. f x ∷ zs) (map-append f xs ys)
+
+-- ---- newly settled points in turn
+
+module _ (v : Sight) (l : Log) (ordered : Ordered l) (F : ℕ → Formula) (n : Node) (f : Fine (formulaOf F n)) where
+  abbrev pub Ready : Point → Type 0
+  Ready i = Sees v l F n i × (settled l (formulaOf F n) i ≡ true) × (childrenOf n ≡ [] → v .event ≡ rowsAt l i)
+
+  next : (k : ℕ) → pairs l (formulaOf F n) (point k) ≡ pairsBefore l (formulaOf F n) (point (suc k))
+  next k = let z : suc k - 1 ≡ k = omega arith in rw (ne-eqb (suc k) 0 (λ d. omega arith), z)
+
+  pub new-rows : (i count : ℕ) → ((j : Point) → i ≤ j .0 → j .0 < i + count → Ready j)
+      → newRows v n i count (pairsBefore l (formulaOf F n) (point i)) ≡ map (vals l (formulaOf F n)) (pointsFrom i count)
+  new-rows i zero h = refl
+  new-rows i (suc count) h =
+      let r : Ready (point i) = h (point i) (omega arith) (omega arith) in
+      let p : pairsNow v (pairsBefore l (formulaOf F n) (point i)) (point i) n ≡ pairs l (formulaOf F n) (point i) = pairs-right v l ordered F (point i) n (r .0) f (r .1) in
+      rw p
+      (ap₂ (λ s t. s ∷ t) (settle-right v l ordered F (point i) n (r .0) f (r .1) (r .2))
+      (ap (newRows v n (suc i) count) (next i) ∙ new-rows (suc i) count (λ j u o. h j (omega arith) (omega arith))))
+
+  pub new-pairs : (i count : ℕ) → ((j : Point) → i ≤ j .0 → j .0 < i + count → Ready j)
+      → newPairs v n i count (pairsBefore l (formulaOf F n) (point i)) ≡ pairsBefore l (formulaOf F n) (point (i + count))
+  new-pairs i zero h = let z : i + 0 ≡ i = omega arith in rw z
+  new-pairs i (suc count) h =
+      let r : Ready (point i) = h (point i) (omega arith) (omega arith) in
+      let p : pairsNow v (pairsBefore l (formulaOf F n) (point i)) (point i) n ≡ pairs l (formulaOf F n) (point i) = pairs-right v l ordered F (point i) n (r .0) f (r .1) in
+      let z : i + suc count ≡ suc i + count = omega arith in
+      rw (p, z) (ap (newPairs v n (suc i) count) (next i) ∙ new-pairs (suc i) count (λ j u o. h j (omega arith) (omega arith)))
+
+-- an atom has settled every point
+pub atom-counted : (l : Log) (F : ℕ → Formula) (n : Node) → childrenOf n ≡ [] → Counted l (formulaOf F n) (size l)
+atom-counted l F (Atom r t) e = λ i. refl
+atom-counted l F (And a b) e = absurd (cons≢nil e)
+atom-counted l F (AndNot a b) e = absurd (cons≢nil e)
+atom-counted l F (Keep a c s) e = absurd (cons≢nil e)
+atom-counted l F (Or a b) e = absurd (cons≢nil e)
+atom-counted l F (Exists a x) e = absurd (cons≢nil e)
+atom-counted l F (Previous a w) e = absurd (cons≢nil e)
+atom-counted l F (Next a w) e = absurd (cons≢nil e)
+atom-counted l F (Since a b w) e = absurd (cons≢nil e)
+atom-counted l F (NotSince a b w) e = absurd (cons≢nil e)
+atom-counted l F (Until a b w) e = absurd (cons≢nil e)
+atom-counted l F (NotUntil a b w) e = absurd (cons≢nil e)
+atom-counted l F (Once a w) e = absurd (cons≢nil e)
+atom-counted l F (Eventually a w) e = absurd (cons≢nil e)
+
+-- what is first wanted of a child moves on with its parent
+pub wanted-on : (n : Node) (p q : ℕ) → p ≤ q → firstWanted n p ≤ firstWanted n q
+wanted-on (Atom r t) p q h = h
+wanted-on (And a b) p q h = h
+wanted-on (AndNot a b) p q h = h
+wanted-on (Keep a c s) p q h = h
+wanted-on (Or a b) p q h = h
+wanted-on (Exists a x) p q h = h
+wanted-on (Previous a w) p q h = omega arith
+wanted-on (Next a w) p q h = omega arith
+wanted-on (Since a b w) p q h = h
+wanted-on (NotSince a b w) p q h = h
+wanted-on (Until a b w) p q h = h
+wanted-on (NotUntil a b w) p q h = h
+wanted-on (Once a w) p q h = h
+wanted-on (Eventually a w) p q h = h
+
+-- ---- the turns, one after the other
+
+module _ (b : List ℕ) (es : List Entry) (τ : Point → Stamp) (before after : ℕ → ℕ) (event : List Row) where
+  abbrev pub turnsUp : ℕ → List Turn
+  turnsUp = turnsTo b es τ before after event
+
+  turns-length : (k : ℕ) → length (turnsUp k) ≡ k
+  turns-length zero = refl
+  turns-length (suc k) = length-append (turnsUp k) _ ∙ (let h : length (turnsUp k) ≡ k = turns-length k in omega arith)
+
+  turns-new : (k : ℕ) → getD (turnsUp (suc k)) k noTurn ≡ turnOf b es before after (sightOf b τ after event (turnsUp k)) k
+  turns-new k = ap (λ z. getD (turnsUp (suc k)) z noTurn) (sym (turns-length k)) ∙ getD-append-seam (turnsUp k) _ [] noTurn
+
+  turns-old : (k y : ℕ) → y < k → getD (turnsUp (suc k)) y noTurn ≡ getD (turnsUp k) y noTurn
+  turns-old k y h = List·getD-append (turnsUp k) _ noTurn y (omega (arith, turns-length k))
+
+  -- a turn stays as later nodes take theirs
+  pub turns-stay : (k m y : ℕ) → y < k → getD (turnsUp (k + m)) y noTurn ≡ getD (turnsUp k) y noTurn
+  turns-stay k zero y h = let e : k + 0 ≡ k = omega arith in rw e
+  turns-stay k (suc m) y h = let e : k + suc m ≡ suc (k + m) = omega arith in rw e (turns-old (k + m) y (omega arith) ∙ turns-stay k m y h)
+
+  pub turns-at : (k x : ℕ) → x < k → getD (turnsUp k) x noTurn ≡ turnOf b es before after (sightOf b τ after event (turnsUp x)) x
+  turns-at k x h = let e : k ≡ suc x + (k - suc x) = omega arith in ap (λ z. getD (turnsUp z) x noTurn) e ∙ turns-stay (suc x) (k - suc x) x (omega arith) ∙ turns-new x
