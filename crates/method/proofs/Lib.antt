@@ -7,3 +7,4 @@ pub mod Keeps
 pub mod Seen
 pub mod Turns
 pub mod Stepped
+pub mod Whole

@@ -6,26 +6,27 @@ use mathlib.Core.Path.{_≡_, refl, sym, _∙_, ap, ap₂, subst}
 use mathlib.Core.Bool.{Bool, true, false, not, cond, _&&_, _||_, false≢true}
 use mathlib.Core.Logic.{_⊎_, inl, inr}
 use mathlib.Core.List.{List, [], _∷_, _++_, map, append-nil, List·Memᴰ}
-use lib.ListN.{length, getD, drop, length-append, length-map, List·getD-append}
+use lib.ListN.{length, getD, drop, length-append, length-map, List·getD-append, List·getD-eq-default}
 use lib.Seq.{getD-append-seam}
 use lib.Dec.{ltb, leb, eqb}
-use borrow.Author.Tests.{ltb-true, ltb-false, lt-ltb, le-ltb, eqb-true, eq-eqb, eqb-false, ne-eqb}
+use borrow.Author.Tests.{ltb-true, ltb-false, lt-ltb, le-ltb, le-leb, lt-leb, eqb-true, eq-eqb, eqb-false, ne-eqb}
 use Rattle.meaning.specs.Lists.{range, select, gather}
-use Rattle.meaning.specs.Outcome.{given}
-use Rattle.meaning.specs.Log.{Log, Row, LogPoint, Ordered, beyond, point, stamp, size, time, rowsAt, pointsFrom}
-use Rattle.meaning.specs.Formula.{Formula, free}
+use Rattle.meaning.specs.Outcome.{given, mostRows}
+use Rattle.meaning.specs.Log.{Log, Row, LogPoint, Ordered, beyond, point, stamp, size, time, rowsAt, latest, pointsFrom}
+use Rattle.meaning.specs.Formula.{Formula, free, variables}
 use Rattle.meaning.specs.Evaluator.{vals}
 use Rattle.meaning.specs.Settled.{settled, settledCount}
-use Rattle.meaning.specs.RuleFile.{Accepted, checking, nodeCount, nodeAt, childrenOf, formulaOf, formulaAt, lastNode}
-use Rattle.meaning.specs.Kept.{pairs, lastPairs, Entry, entryOf, parentOf, entries, entriesOf}
+use Rattle.meaning.specs.RuleFile.{Accepted, checking, nodeCount, nodeAt, childrenOf, formulaOf, formulaAt, lastNode, pattern}
+use Rattle.meaning.specs.Kept.{pairs, lastPairs, Entry, entryOf, parentOf, entries, entriesOf, openPoints}
 use Rattle.meaning.specs.Event.{pointOf}
-use Rattle.meaning.specs.Keeper.{grown}
+use Rattle.meaning.specs.Report.{Reported, reportWords}
+use Rattle.meaning.specs.Keeper.{newlySettled, reportRow, reported, report, crowdedAt, grown}
 use Rattle.meaning.specs.declared.Point.{Point}
 use Rattle.meaning.specs.declared.Stamp.{Stamp}
 use Rattle.meaning.specs.declared.Node.{Node}
 use Rattle.meaning.proofs.Fine.{Fine}
 use Rattle.meaning.proofs.Tree.{formula-step}
-use Rattle.meaning.proofs.Accepted.{accepted, lower, fine}
+use Rattle.meaning.proofs.Accepted.{accepted, lower, fine, last-is-node}
 use Rattle.meaning.proofs.Growth.{Extends, extends}
 use Rattle.meaning.proofs.Settles.{stays}
 use Rattle.meaning.proofs.Steady.{steady-by, pairs-by}
@@ -33,42 +34,28 @@ use Rattle.meaning.proofs.Points.{pointsFrom-append, Tested, passed, failed, te
 use Rattle.method.specs.Stored.{Stored, baseOf, stampIn, held, heldPairs, leastOf, firstRetained, storedOf}
 use Rattle.method.specs.Counts.{countsTo}
 use Rattle.method.specs.Settle.{Sight, settle, pairsNow, Turn, rowsOfTurn}
-use Rattle.method.specs.Step.{firstWanted, wantedFrom, newRows, newPairs, turnOf, sightOf, turnsTo, noTurn, stampsNow, countBefore, countAfter, countsAfter, turn}
-use Rattle.method.proofs.Counted.{Counted, counted-most, counted-is, count-counted, counts-right, counts-grow, upto-below, upto-holds}
+use Rattle.method.specs.Step.{firstWanted, wantedFrom, newRows, newPairs, turnOf, sightOf, turnsTo, noTurn, stampsNow, countBefore, countAfter, countsAfter, turn, entriesNow, storedNow, crowdedNow, reportNow, latestStored}
+use Rattle.method.proofs.Counted.{Counted, counted-most, counted-is, count-counted, counts-length, counts-right, counts-grow, upto-below, upto-holds}
+use Rattle.method.proofs.Lists.{gather-each, select-run}
 use Rattle.method.proofs.Parents.{parent-is, has-parent}
-use Rattle.method.proofs.Keeps.{wanted-low, held-is, heldPairs-is}
+use Rattle.method.proofs.Keeps.{wanted-low, held-is, heldPairs-is, entries-run}
 use Rattle.method.proofs.Seen.{Sees, pairsBefore}
-use Rattle.method.proofs.Turns.{least-below, least-most, points-length, getD-points, map-points, map-append, Ready, new-rows, new-pairs, atom-counted, wanted-on, turns-at, turns-stay}
+use Rattle.method.proofs.Turns.{any-over, least-below, least-most, least-grows, drop-points, gather-over, from-getD, points-length, getD-points, map-points, map-append, Ready, new-rows, new-pairs, atom-counted, wanted-on, turns-at, turns-stay}
 
-module _ (b : List ℕ) (a : Accepted) (ok : checking b ≡ given a) (l : Log) (ordered : Ordered l) (w : List ℕ) (ordered' : Ordered (grown b l w)) where
-  abbrev l' : Log
-  l' = grown b l w
+-- no point, no time
+no-time : (l : Log) (i : Point) → size l ≤ i .0 → time l i .0 ≡ 0
+unfolding time
+no-time l i h = ap (λ (p : LogPoint). p .time .0) (List·getD-eq-default l beyond h)
 
+module _ (b : List ℕ) (a : Accepted) (ok : checking b ≡ given a) (l : Log) (ordered : Ordered l) where
   abbrev s : Stored
   s = storedOf b l
 
   abbrev was : ℕ → ℕ
   was x = settledCount l (formulaAt b x)
 
-  abbrev is : ℕ → ℕ
-  is x = settledCount l' (formulaAt b x)
-
-  grows : Extends l l'
-  grows = extends l l' (record { more = pointOf b w ∷ []; begins = refl; ordered = ordered' })
-
-  size-grown : size l' ≡ size l + 1
-  size-grown = length-append l (pointOf b w ∷ [])
-
   was-counted : (x : ℕ) → x < nodeCount b → Counted l (formulaAt b x) (was x)
   was-counted x o = count-counted l (formulaAt b x) ordered (fine b a ok x o)
-
-  is-counted : (x : ℕ) → x < nodeCount b → Counted l' (formulaAt b x) (is x)
-  is-counted x o = count-counted l' (formulaAt b x) ordered' (fine b a ok x o)
-
-  was-is : (x : ℕ) → x < nodeCount b → was x ≤ is x
-  was-is x o = counts-grow l l' grows (formulaAt b x) (was x) (is x) (was-counted x o) (is-counted x o)
-
-  -- ---- the retained times
 
   abbrev base : ℕ
   base = firstRetained (size l) (map was (range 0 (nodeCount b)))
@@ -89,206 +76,377 @@ module _ (b : List ℕ) (a : Accepted) (ok : checking b ≡ given a) (l : Log) (
   unfolding storedOf
   base-is = let h : length timesOf ≡ size l - base = times-length in omega (arith, base-size)
 
-  -- the new point's time and rows
-  new-point : getD l' (size l) beyond ≡ pointOf b w
-  new-point = getD-append-seam l (pointOf b w) [] beyond
-
-  last-time : (j : Point) → j .0 ≡ size l → stamp (getD w 0 0) ≡ time l' j
-  unfolding time pointOf
-  last-time j e = ap (λ (p : LogPoint). p .time) (sym new-point) ∙ ap (λ k. getD l' k beyond .time) (sym e)
-
-  pub stamps-right : (j : Point) → base ≤ j .0 → j .0 < size l' → stampsNow s w j ≡ time l' j
-  unfolding stampsNow storedOf
-  stamps-right j u o = ap (λ k. stamp (getD (timesOf ++ getD w 0 0 ∷ []) (j .0 - k) 0)) base-is ∙ go (tested (ltb (j .0) (size l)))
+  pub latest-now : (w : List ℕ) → latestStored s w ≡ latest l .0
+  unfolding latest storedOf
+  latest-now w = go (tested (ltb 0 (size l)))
     where
-      z : length timesOf ≡ size l - base
-      z = times-length
-      go : Tested (ltb (j .0) (size l)) → stamp (getD (timesOf ++ getD w 0 0 ∷ []) (j .0 - base) 0) ≡ time l' j
+      go : Tested (ltb 0 (size l)) → getD timesOf (length timesOf - 1) 0 ≡ time l (point (size l - 1)) .0
       go (passed e) =
-          let n : j .0 < size l = ltb-true (j .0) (size l) e in
-          let q : base + (j .0 - base) ≡ j .0 = omega arith in
-          ap stamp (List·getD-append timesOf (getD w 0 0 ∷ []) 0 (j .0 - base) (omega (arith, z)) ∙ getD-points (λ i. time l i .0) 0 base (size l - base) (j .0 - base) (omega arith) ∙ ap (λ k. time l (point k) .0) q) ∙ grows .times j n
+          let n : 0 < size l = ltb-true 0 (size l) e in
+          let h : leastOf (size l) (map was (range 0 (nodeCount b))) ≤ size l = least-most (size l) (map was (range 0 (nodeCount b))) in
+          let z : length timesOf - 1 ≡ size l - base - 1 = omega (arith, times-length) in
+          let q : base + (size l - base - 1) ≡ size l - 1 = omega arith in
+          ap (λ k. getD timesOf k 0) z ∙ getD-points (λ i. time l i .0) 0 base (size l - base) (size l - base - 1) (omega arith) ∙ ap (λ k. time l (point k) .0) q
       go (failed e) =
-          let n : j .0 ≡ size l = omega (arith, ltb-false (j .0) (size l) e, size-grown) in
-          let q : j .0 - base ≡ length timesOf = omega (arith, z) in
-          ap (λ k. stamp (getD (timesOf ++ getD w 0 0 ∷ []) k 0)) q ∙ ap stamp (getD-append-seam timesOf (getD w 0 0) [] 0) ∙ last-time j n
+          let n : size l ≤ 0 = ltb-false 0 (size l) e in
+          List·getD-eq-default timesOf 0 (omega (arith, times-length)) ∙ sym (no-time l (point (size l - 1)) (omega arith))
 
-  -- ---- the counts
+  -- an event that may join the log: its time is no earlier than the last
+  module _ (w : List ℕ) (ordered' : Ordered (grown b l w)) where
+    abbrev l' : Log
+    l' = grown b l w
 
-  pub count-before : (x : ℕ) → x < nodeCount b → countBefore s w x ≡ was x
-  unfolding countBefore storedOf
-  count-before x o =
-      sym
-      (counted-is l (formulaAt b x) (getD (countsTo b (stampsNow s w) (size l) (λ y. baseOf s) (nodeCount b)) x 0)
-      (counts-right b a ok l ordered (λ y. baseOf s)
-      (λ y q i u. upto-holds (settled l (formulaAt b y)) (was y) (was-counted y q) i (omega (arith, base-is, base-low y q)))
-      (stampsNow s w)
-      (λ y q i u v. stamps-right i (omega (arith, base-is)) (omega (arith, size-grown)) ∙ sym (grows .times i v)) x o))
+    abbrev is : ℕ → ℕ
+    is x = settledCount l' (formulaAt b x)
 
-  pub count-after : (x : ℕ) → x < nodeCount b → countAfter s w x ≡ is x
-  unfolding countAfter countsAfter storedOf
-  count-after x o =
-      let z : size l + 1 ≡ size l' = sym size-grown in
-      rw z
-      (sym
-      (counted-is l' (formulaAt b x) (getD (countsTo b (stampsNow s w) (size l') (countBefore s w) (nodeCount b)) x 0)
-      (counts-right b a ok l' ordered' (countBefore s w)
-      (λ y q i u. stays l l' grows (formulaAt b y) i (upto-holds (settled l (formulaAt b y)) (was y) (was-counted y q) i (omega (arith, count-before y q))))
-      (stampsNow s w)
-      (λ y q i u v. stamps-right i (omega (arith, count-before y q, base-low y q)) v) x o)))
+    grows : Extends l l'
+    grows = extends l l' (record { more = pointOf b w ∷ []; begins = refl; ordered = ordered' })
 
-  -- ---- the turns
+    size-grown : size l' ≡ size l + 1
+    size-grown = length-append l (pointOf b w ∷ [])
 
-  wanted-same : (c d : ℕ → ℕ) → ((y : ℕ) → y < nodeCount b → c y ≡ d y) → (x : ℕ) → x < nodeCount b → wantedFrom b c x ≡ wantedFrom b d x
-  unfolding wantedFrom
-  wanted-same c d h x o = go (tested (eqb x (lastNode b)))
-    where
-      go : Tested (eqb x (lastNode b)) → wantedFrom b c x ≡ wantedFrom b d x
-      go (passed e) = rw e (h x o)
-      go (failed e) =
-          let q : x ≡ lastNode b → ⊥ = eqb-false x (lastNode b) e in
-          let (p, n, m) = has-parent b a ok x (omega arith) in
-          let r : parentOf b x ≡ p = parent-is b a ok p n x m in
-          rw (e, r, h x o, h p n)
+    is-counted : (x : ℕ) → x < nodeCount b → Counted l' (formulaAt b x) (is x)
+    is-counted x o = count-counted l' (formulaAt b x) ordered' (fine b a ok x o)
 
-  -- a child is wanted from no later than its parent's first unsettled point consults it
-  wanted-child : (x : ℕ) → x < nodeCount b → (y : ℕ) → List·Memᴰ y (childrenOf (nodeAt b x)) → wantedFrom b was y ≤ firstWanted (nodeAt b x) (was x)
-  unfolding wantedFrom
-  wanted-child x o y m =
-      let under : y < x = lower b (nodeCount b) (accepted b a ok .each) x o x (omega arith) y m in
-      let e : eqb y (lastNode b) ≡ false = ne-eqb y (lastNode b) (λ d. omega arith) in
-      rw (e, parent-is b a ok x o y m) (omega arith)
+    was-is : (x : ℕ) → x < nodeCount b → was x ≤ is x
+    was-is x o = counts-grow l l' grows (formulaAt b x) (was x) (is x) (was-counted x o) (is-counted x o)
 
-  abbrev sight : ℕ → Sight
-  sight x = sightOf b (stampsNow s w) (countAfter s w) (pointOf b w .rows) (turnsTo b (entries b l) (stampsNow s w) (countBefore s w) (countAfter s w) (pointOf b w .rows) x)
+    -- the new point's time and rows
+    new-point : getD l' (size l) beyond ≡ pointOf b w
+    new-point = getD-append-seam l (pointOf b w) [] beyond
 
-  turn-is : (x : ℕ) → x < nodeCount b → turn s w x ≡ turnOf b (entries b l) (countBefore s w) (countAfter s w) (sight x) x
-  unfolding turn storedOf
-  turn-is x o = turns-at b (entries b l) (stampsNow s w) (countBefore s w) (countAfter s w) (pointOf b w .rows) (nodeCount b) x o
+    last-time : (j : Point) → j .0 ≡ size l → stamp (getD w 0 0) ≡ time l' j
+    unfolding time pointOf
+    last-time j e = ap (λ (p : LogPoint). p .time) (sym new-point) ∙ ap (λ k. getD l' k beyond .time) (sym e)
 
-  sight-rows : (x y : ℕ) → y < x → x < nodeCount b → sight x .rows y ≡ rowsOfTurn (turn s w y)
-  unfolding turn storedOf
-  sight-rows x y h o =
-      let e : x + (nodeCount b - x) ≡ nodeCount b = omega arith in
-      ap rowsOfTurn (sym (turns-stay b (entries b l) (stampsNow s w) (countBefore s w) (countAfter s w) (pointOf b w .rows) x (nodeCount b - x) y h)
-      ∙ ap (λ k. getD (turnsTo b (entries b l) (stampsNow s w) (countBefore s w) (countAfter s w) (pointOf b w .rows) k) y noTurn) e)
+    pub stamps-right : (j : Point) → base ≤ j .0 → j .0 < size l' → stampsNow s w j ≡ time l' j
+    unfolding stampsNow storedOf
+    stamps-right j u o = ap (λ k. stamp (getD (timesOf ++ getD w 0 0 ∷ []) (j .0 - k) 0)) base-is ∙ go (tested (ltb (j .0) (size l)))
+      where
+        z : length timesOf ≡ size l - base
+        z = times-length
+        go : Tested (ltb (j .0) (size l)) → stamp (getD (timesOf ++ getD w 0 0 ∷ []) (j .0 - base) 0) ≡ time l' j
+        go (passed e) =
+            let n : j .0 < size l = ltb-true (j .0) (size l) e in
+            let q : base + (j .0 - base) ≡ j .0 = omega arith in
+            ap stamp (List·getD-append timesOf (getD w 0 0 ∷ []) 0 (j .0 - base) (omega (arith, z)) ∙ getD-points (λ i. time l i .0) 0 base (size l - base) (j .0 - base) (omega arith) ∙ ap (λ k. time l (point k) .0) q) ∙ grows .times j n
+        go (failed e) =
+            let n : j .0 ≡ size l = omega (arith, ltb-false (j .0) (size l) e, size-grown) in
+            let q : j .0 - base ≡ length timesOf = omega (arith, z) in
+            ap (λ k. stamp (getD (timesOf ++ getD w 0 0 ∷ []) k 0)) q ∙ ap stamp (getD-append-seam timesOf (getD w 0 0) [] 0) ∙ last-time j n
 
-  -- a node's turn gives the evaluator's rows from the first wanted point on, and its pairs
-  pub record TurnRight (x : ℕ) : Type 0 where
-    pub rows : (j : Point) → wantedFrom b was x ≤ j .0 → j .0 < is x → rowsOfTurn (turn s w x) j ≡ vals l' (formulaAt b x) j
-    pub pairs : turn s w x .pairs ≡ lastPairs l' (formulaAt b x)
+    -- ---- the counts
 
-  stepped : (x : ℕ) → x < nodeCount b → formulaAt b x ≡ formulaOf (formulaAt b) (nodeAt b x)
-  stepped x o = formula-step b x (lower b (nodeCount b) (accepted b a ok .each) x o)
+    pub count-before : (x : ℕ) → x < nodeCount b → countBefore s w x ≡ was x
+    unfolding countBefore storedOf
+    count-before x o =
+        sym
+        (counted-is l (formulaAt b x) (getD (countsTo b (stampsNow s w) (size l) (λ y. baseOf s) (nodeCount b)) x 0)
+        (counts-right b a ok l ordered (λ y. baseOf s)
+        (λ y q i u. upto-holds (settled l (formulaAt b y)) (was y) (was-counted y q) i (omega (arith, base-is, base-low y q)))
+        (stampsNow s w)
+        (λ y q i u v. stamps-right i (omega (arith, base-is)) (omega (arith, size-grown)) ∙ sym (grows .times i v)) x o))
 
-  fine-node : (x : ℕ) → x < nodeCount b → Fine (formulaOf (formulaAt b) (nodeAt b x))
-  fine-node x o = subst Fine (stepped x o) (fine b a ok x o)
+    pub count-after : (x : ℕ) → x < nodeCount b → countAfter s w x ≡ is x
+    unfolding countAfter countsAfter storedOf
+    count-after x o =
+        let z : size l + 1 ≡ size l' = sym size-grown in
+        rw z
+        (sym
+        (counted-is l' (formulaAt b x) (getD (countsTo b (stampsNow s w) (size l') (countBefore s w) (nodeCount b)) x 0)
+        (counts-right b a ok l' ordered' (countBefore s w)
+        (λ y q i u. stays l l' grows (formulaAt b y) i (upto-holds (settled l (formulaAt b y)) (was y) (was-counted y q) i (omega (arith, count-before y q))))
+        (stampsNow s w)
+        (λ y q i u v. stamps-right i (omega (arith, count-before y q, base-low y q)) v) x o)))
 
-  -- the new point's rows are what an atom sees
-  new-rows-are : pointOf b w .rows ≡ rowsAt l' (point (size l))
-  unfolding rowsAt
-  new-rows-are = ap (λ (p : LogPoint). p .rows) (sym new-point)
+    -- ---- the turns
 
-  ready : (x : ℕ) (o : x < nodeCount b) → ((y : ℕ) → y < x → TurnRight y) → (i : Point) → was x ≤ i .0 → i .0 < is x → Ready (sight x) l' ordered' (formulaAt b) (nodeAt b x) (fine-node x o) i
-  ready x o under i u v = (sees, holds, event)
-    where
-      low : (y : ℕ) → List·Memᴰ y (childrenOf (nodeAt b x)) → y < x
-      low y m = lower b (nodeCount b) (accepted b a ok .each) x o x (omega arith) y m
-      holds : settled l' (formulaOf (formulaAt b) (nodeAt b x)) i ≡ true
-      holds = subst (λ φ. settled l' φ i ≡ true) (stepped x o) (upto-holds (settled l' (formulaAt b x)) (is x) (is-counted x o) i v)
-      event : childrenOf (nodeAt b x) ≡ [] → pointOf b w .rows ≡ rowsAt l' i
-      event e =
-          let c : was x ≡ size l = ap (settledCount l) (stepped x o) ∙ counted-is l (formulaOf (formulaAt b) (nodeAt b x)) (size l) (atom-counted l (formulaAt b) (nodeAt b x) e) in
-          let k : is x ≤ size l' = counted-most l' (formulaAt b x) (is x) (is-counted x o) in
-          let z : size l ≡ i .0 = omega (arith, size-grown) in
-          new-rows-are ∙ ap (λ j. rowsAt l' (point j)) z
-      sees : Sees (sight x) l' (formulaAt b) (nodeAt b x) i
-      sees =
+    wanted-same : (c d : ℕ → ℕ) → ((y : ℕ) → y < nodeCount b → c y ≡ d y) → (x : ℕ) → x < nodeCount b → wantedFrom b c x ≡ wantedFrom b d x
+    unfolding wantedFrom
+    wanted-same c d h x o = go (tested (eqb x (lastNode b)))
+      where
+        go : Tested (eqb x (lastNode b)) → wantedFrom b c x ≡ wantedFrom b d x
+        go (passed e) = rw e (h x o)
+        go (failed e) =
+            let q : x ≡ lastNode b → ⊥ = eqb-false x (lastNode b) e in
+            let (p, n, m) = has-parent b a ok x (omega arith) in
+            let r : parentOf b x ≡ p = parent-is b a ok p n x m in
+            rw (e, r, h x o, h p n)
+
+    -- a child is wanted from no later than its parent's first unsettled point consults it
+    wanted-child : (x : ℕ) → x < nodeCount b → (y : ℕ) → List·Memᴰ y (childrenOf (nodeAt b x)) → wantedFrom b was y ≤ firstWanted (nodeAt b x) (was x)
+    unfolding wantedFrom
+    wanted-child x o y m =
+        let under : y < x = lower b (nodeCount b) (accepted b a ok .each) x o x (omega arith) y m in
+        let e : eqb y (lastNode b) ≡ false = ne-eqb y (lastNode b) (λ d. omega arith) in
+        rw (e, parent-is b a ok x o y m) (omega arith)
+
+    abbrev sight : ℕ → Sight
+    sight x = sightOf b (stampsNow s w) (countAfter s w) (pointOf b w .rows) (turnsTo b (entries b l) (stampsNow s w) (countBefore s w) (countAfter s w) (pointOf b w .rows) x)
+
+    turn-is : (x : ℕ) → x < nodeCount b → turn s w x ≡ turnOf b (entries b l) (countBefore s w) (countAfter s w) (sight x) x
+    unfolding turn storedOf
+    turn-is x o = turns-at b (entries b l) (stampsNow s w) (countBefore s w) (countAfter s w) (pointOf b w .rows) (nodeCount b) x o
+
+    sight-rows : (x y : ℕ) → y < x → x < nodeCount b → sight x .rows y ≡ rowsOfTurn (turn s w y)
+    unfolding turn storedOf
+    sight-rows x y h o =
+        let e : x + (nodeCount b - x) ≡ nodeCount b = omega arith in
+        ap rowsOfTurn (sym (turns-stay b (entries b l) (stampsNow s w) (countBefore s w) (countAfter s w) (pointOf b w .rows) x (nodeCount b - x) y h)
+        ∙ ap (λ k. getD (turnsTo b (entries b l) (stampsNow s w) (countBefore s w) (countAfter s w) (pointOf b w .rows) k) y noTurn) e)
+
+    -- a node's turn gives the evaluator's rows from the first wanted point on, and its pairs
+    pub record TurnRight (x : ℕ) : Type 0 where
+      pub rows : (j : Point) → wantedFrom b was x ≤ j .0 → j .0 < is x → rowsOfTurn (turn s w x) j ≡ vals l' (formulaAt b x) j
+      pub pairs : turn s w x .pairs ≡ lastPairs l' (formulaAt b x)
+
+    stepped : (x : ℕ) → x < nodeCount b → formulaAt b x ≡ formulaOf (formulaAt b) (nodeAt b x)
+    stepped x o = formula-step b x (lower b (nodeCount b) (accepted b a ok .each) x o)
+
+    fine-node : (x : ℕ) → x < nodeCount b → Fine (formulaOf (formulaAt b) (nodeAt b x))
+    fine-node x o = subst Fine (stepped x o) (fine b a ok x o)
+
+    -- the new point's rows are what an atom sees
+    new-rows-are : pointOf b w .rows ≡ rowsAt l' (point (size l))
+    unfolding rowsAt
+    new-rows-are = ap (λ (p : LogPoint). p .rows) (sym new-point)
+
+    ready : (x : ℕ) (o : x < nodeCount b) → ((y : ℕ) → y < x → TurnRight y) → (i : Point) → was x ≤ i .0 → i .0 < is x → Ready (sight x) l' ordered' (formulaAt b) (nodeAt b x) (fine-node x o) i
+    ready x o under i u v = (sees, holds, event)
+      where
+        low : (y : ℕ) → List·Memᴰ y (childrenOf (nodeAt b x)) → y < x
+        low y m = lower b (nodeCount b) (accepted b a ok .each) x o x (omega arith) y m
+        holds : settled l' (formulaOf (formulaAt b) (nodeAt b x)) i ≡ true
+        holds = subst (λ φ. settled l' φ i ≡ true) (stepped x o) (upto-holds (settled l' (formulaAt b x)) (is x) (is-counted x o) i v)
+        event : childrenOf (nodeAt b x) ≡ [] → pointOf b w .rows ≡ rowsAt l' i
+        event e =
+            let c : was x ≡ size l = ap (settledCount l) (stepped x o) ∙ counted-is l (formulaOf (formulaAt b) (nodeAt b x)) (size l) (atom-counted l (formulaAt b) (nodeAt b x) e) in
+            let k : is x ≤ size l' = counted-most l' (formulaAt b x) (is x) (is-counted x o) in
+            let z : size l ≡ i .0 = omega (arith, size-grown) in
+            new-rows-are ∙ ap (λ j. rowsAt l' (point j)) z
+        sees : Sees (sight x) l' (formulaAt b) (nodeAt b x) i
+        sees =
+            record
+            { stamps = λ j p q. stamps-right j (omega (arith, base-low x o)) q
+            ; variables = refl
+            ; counts = λ y m. subst (Counted l' (formulaAt b y)) (sym (count-after y (omega (arith, low y m)))) (is-counted y (omega (arith, low y m)))
+            ; fine = λ y m. fine b a ok y (omega (arith, low y m))
+            ; rows = λ y m j p q.
+              ap (λ (r : Point → List (List ℕ)). r j) (sight-rows x y (low y m) o)
+              ∙ under y (low y m) .rows j (omega (arith, wanted-child x o y m, wanted-on (nodeAt b x) (was x) (i .0) u)) (omega (arith, count-after y (omega (arith, low y m))))
+            }
+
+    -- the pairs as the turn begins, and as it ends
+    start-pairs : (x : ℕ) → x < nodeCount b → heldPairs (entries b l) x ≡ pairsBefore l' (formulaAt b x) (point (was x))
+    unfolding lastPairs
+    start-pairs x o = heldPairs-is b a ok l ordered x o ∙ go (tested (eqb (was x) 0))
+      where
+        go : Tested (eqb (was x) 0) → cond (eqb (was x) 0) [] (pairs l (formulaAt b x) (point (was x - 1))) ≡ cond (eqb (was x) 0) [] (pairs l' (formulaAt b x) (point (was x - 1)))
+        go (passed e) = rw e
+        go (failed e) =
+            let d : was x ≡ 0 → ⊥ = eqb-false (was x) 0 e in
+            rw (pairs-by l l' grows (formulaAt b x) (fine b a ok x o) (point (was x - 1)) (upto-holds (settled l (formulaAt b x)) (was x) (was-counted x o) (point (was x - 1)) (omega arith)))
+
+    end-pairs : (x : ℕ) → pairsBefore l' (formulaAt b x) (point (is x)) ≡ lastPairs l' (formulaAt b x)
+    unfolding lastPairs
+    end-pairs x = refl
+
+    module _ (x : ℕ) (o : x < nodeCount b) (under : (y : ℕ) → y < x → TurnRight y) where
+      abbrev lo : ℕ
+      lo = wantedFrom b was x
+
+      lo-low : lo ≤ was x
+      lo-low = wanted-low b a ok l ordered x
+
+      abbrev node : Node
+      node = nodeAt b x
+
+      ready-run : (j : Point) → was x ≤ j .0 → j .0 < was x + (is x - was x) → Ready (sight x) l' ordered' (formulaAt b) node (fine-node x o) j
+      ready-run j u v = ready x o under j u (omega (arith, was-is x o))
+
+      old-rows : map (held (entries b l) x) (pointsFrom lo (was x - lo)) ≡ map (vals l' (formulaAt b x)) (pointsFrom lo (was x - lo))
+      old-rows =
+          map-points (held (entries b l) x) (vals l' (formulaAt b x)) lo (was x - lo)
+          (λ j u v. held-is b a ok l ordered x o j u (omega (arith, lo-low))
+          ∙ steady-by l l' grows (formulaAt b x) (fine b a ok x o) j (upto-holds (settled l (formulaAt b x)) (was x) (was-counted x o) j (omega (arith, lo-low))))
+
+      made-rows : newRows (sight x) node (was x) (is x - was x) (heldPairs (entries b l) x) ≡ map (vals l' (formulaAt b x)) (pointsFrom (was x) (is x - was x))
+      made-rows =
+          ap (newRows (sight x) node (was x) (is x - was x)) (start-pairs x o ∙ ap (λ φ. pairsBefore l' φ (point (was x))) (stepped x o))
+          ∙ new-rows (sight x) l' ordered' (formulaAt b) node (fine-node x o) (was x) (is x - was x) ready-run
+          ∙ ap (λ φ. map (vals l' φ) (pointsFrom (was x) (is x - was x))) (sym (stepped x o))
+
+      made-pairs : newPairs (sight x) node (was x) (is x - was x) (heldPairs (entries b l) x) ≡ lastPairs l' (formulaAt b x)
+      made-pairs =
+          let z : was x + (is x - was x) ≡ is x = omega (arith, was-is x o) in
+          ap (newPairs (sight x) node (was x) (is x - was x)) (start-pairs x o ∙ ap (λ φ. pairsBefore l' φ (point (was x))) (stepped x o))
+          ∙ new-pairs (sight x) l' ordered' (formulaAt b) node (fine-node x o) (was x) (is x - was x) ready-run
+          ∙ ap (λ k. pairsBefore l' (formulaOf (formulaAt b) node) (point k)) z ∙ ap (λ φ. pairsBefore l' φ (point (is x))) (sym (stepped x o)) ∙ end-pairs x
+
+      all-rows : map (held (entries b l) x) (pointsFrom lo (was x - lo)) ++ newRows (sight x) node (was x) (is x - was x) (heldPairs (entries b l) x) ≡ map (vals l' (formulaAt b x)) (pointsFrom lo (is x - lo))
+      all-rows =
+          let z : is x - lo ≡ (was x - lo) + (is x - was x) = omega (arith, lo-low, was-is x o) in
+          let q : lo + (was x - lo) ≡ was x = omega (arith, lo-low) in
+          ap₂ (λ s t. s ++ t) old-rows made-rows
+          ∙ sym (map-append (vals l' (formulaAt b x)) (pointsFrom lo (was x - lo)) (pointsFrom (was x) (is x - was x)))
+          ∙ ap (map (vals l' (formulaAt b x))) (ap (λ k. pointsFrom lo (was x - lo) ++ pointsFrom k (is x - was x)) (sym q) ∙ sym (pointsFrom-append lo (was x - lo) (is x - was x)) ∙ ap (pointsFrom lo) (sym z))
+
+      -- the turn with its counts written as the log's
+      turn-with : turn s w x ≡ record { low = lo; rows = map (vals l' (formulaAt b x)) (pointsFrom lo (is x - lo)); pairs = lastPairs l' (formulaAt b x) }
+      unfolding turnOf
+      turn-with =
+          turn-is x o
+          ∙ (rw (wanted-same (countBefore s w) was count-before x o, count-before x o, count-after x o) (ap₂ (λ (r : List (List (List ℕ))) (p : List (List ℕ)). record { low = lo; rows = r; pairs = p }) all-rows made-pairs))
+
+      turn-right : TurnRight x
+      turn-right =
           record
-          { stamps = λ j p q. stamps-right j (omega (arith, base-low x o)) q
-          ; variables = refl
-          ; counts = λ y m. subst (Counted l' (formulaAt b y)) (sym (count-after y (omega (arith, low y m)))) (is-counted y (omega (arith, low y m)))
-          ; fine = λ y m. fine b a ok y (omega (arith, low y m))
-          ; rows = λ y m j p q.
-            ap (λ (r : Point → List (List ℕ)). r j) (sight-rows x y (low y m) o)
-            ∙ under y (low y m) .rows j (omega (arith, wanted-child x o y m, wanted-on (nodeAt b x) (was x) (i .0) u)) (omega (arith, count-after y (omega (arith, low y m))))
+          { rows = λ j u v.
+            let q : lo + (j .0 - lo) ≡ j .0 = omega arith in
+            ap (λ (t : Turn). rowsOfTurn t j) turn-with ∙ getD-points (vals l' (formulaAt b x)) [] lo (is x - lo) (j .0 - lo) (omega arith) ∙ ap (λ k. vals l' (formulaAt b x) (point k)) q
+          ; pairs = ap (λ (t : Turn). t .pairs) turn-with
           }
 
-  -- the pairs as the turn begins, and as it ends
-  start-pairs : (x : ℕ) → x < nodeCount b → heldPairs (entries b l) x ≡ pairsBefore l' (formulaAt b x) (point (was x))
-  unfolding lastPairs
-  start-pairs x o = heldPairs-is b a ok l ordered x o ∙ go (tested (eqb (was x) 0))
-    where
-      go : Tested (eqb (was x) 0) → cond (eqb (was x) 0) [] (pairs l (formulaAt b x) (point (was x - 1))) ≡ cond (eqb (was x) 0) [] (pairs l' (formulaAt b x) (point (was x - 1)))
-      go (passed e) = rw e
-      go (failed e) =
-          let d : was x ≡ 0 → ⊥ = eqb-false (was x) 0 e in
-          rw (pairs-by l l' grows (formulaAt b x) (fine b a ok x o) (point (was x - 1)) (upto-holds (settled l (formulaAt b x)) (was x) (was-counted x o) (point (was x - 1)) (omega arith)))
+    turns-up : (k : ℕ) → k ≤ nodeCount b → (x : ℕ) → x < k → TurnRight x
+    turns-up zero h x u = absurd (omega arith)
+    turns-up (suc k) h x u = turn-right x (omega arith) (λ y v. turns-up k (omega arith) y (omega arith))
 
-  end-pairs : (x : ℕ) → pairsBefore l' (formulaAt b x) (point (is x)) ≡ lastPairs l' (formulaAt b x)
-  unfolding lastPairs
-  end-pairs x = refl
+    -- every node's turn is right
+    pub turns-right : (x : ℕ) → x < nodeCount b → TurnRight x
+    turns-right x o = turns-up (nodeCount b) (omega arith) x o
 
-  module _ (x : ℕ) (o : x < nodeCount b) (under : (y : ℕ) → y < x → TurnRight y) where
-    abbrev lo : ℕ
-    lo = wantedFrom b was x
+    -- ---- the entries
 
-    lo-low : lo ≤ was x
-    lo-low = wanted-low b a ok l ordered x
+    wanted-grows : (x : ℕ) → x < nodeCount b → wantedFrom b was x ≤ wantedFrom b is x
+    unfolding wantedFrom
+    wanted-grows x o = go (tested (eqb x (lastNode b)))
+      where
+        go : Tested (eqb x (lastNode b)) → wantedFrom b was x ≤ wantedFrom b is x
+        go (passed e) = rw e (was-is x o)
+        go (failed e) =
+            let q : x ≡ lastNode b → ⊥ = eqb-false x (lastNode b) e in
+            let (p, n, m) = has-parent b a ok x (omega arith) in
+            rw (e, parent-is b a ok p n x m) (omega (arith, was-is x o, wanted-on (nodeAt b p) (was p) (is p) (was-is p n)))
 
-    abbrev node : Node
-    node = nodeAt b x
+    pub entries-now : (x : ℕ) → x < nodeCount b → entriesNow s w x ≡ entriesOf b l' x
+    unfolding entriesNow storedOf
+    entries-now x o =
+        rw (wanted-same (countAfter s w) is count-after x o, count-after x o)
+        (ap₂ (λ r p. r ++ p)
+        (gather-over (λ j. map (entryOf x 0 (j .0)) (rowsOfTurn (turn s w x) j)) (λ j. map (entryOf x 0 (j .0)) (vals l' (formulaAt b x) j)) (wantedFrom b is x) (is x - wantedFrom b is x)
+        (λ j u v. ap (map (entryOf x 0 (j .0))) (turns-right x o .rows j (omega (arith, wanted-grows x o)) (omega (arith, wanted-low b a ok l' ordered' x)))))
+        (ap (map (λ p. entryOf x 1 (getD p 0 0) (drop 1 p))) (turns-right x o .pairs))
+        ∙ sym (entries-run b a ok l' ordered' x o))
 
-    ready-run : (j : Point) → was x ≤ j .0 → j .0 < was x + (is x - was x) → Ready (sight x) l' ordered' (formulaAt b) node (fine-node x o) j
-    ready-run j u v = ready x o under j u (omega (arith, was-is x o))
+    -- ---- what is stored
 
-    old-rows : map (held (entries b l) x) (pointsFrom lo (was x - lo)) ≡ map (vals l' (formulaAt b x)) (pointsFrom lo (was x - lo))
-    old-rows =
-        map-points (held (entries b l) x) (vals l' (formulaAt b x)) lo (was x - lo)
-        (λ j u v. held-is b a ok l ordered x o j u (omega (arith, lo-low))
-        ∙ steady-by l l' grows (formulaAt b x) (fine b a ok x o) j (upto-holds (settled l (formulaAt b x)) (was x) (was-counted x o) j (omega (arith, lo-low))))
+    counts-many : length (countsAfter s w) ≡ nodeCount b
+    unfolding countsAfter storedOf
+    counts-many = counts-length b (stampsNow s w) (size l + 1) (countBefore s w) (nodeCount b)
 
-    made-rows : newRows (sight x) node (was x) (is x - was x) (heldPairs (entries b l) x) ≡ map (vals l' (formulaAt b x)) (pointsFrom (was x) (is x - was x))
-    made-rows =
-        ap (newRows (sight x) node (was x) (is x - was x)) (start-pairs x o ∙ ap (λ φ. pairsBefore l' φ (point (was x))) (stepped x o))
-        ∙ new-rows (sight x) l' ordered' (formulaAt b) node (fine-node x o) (was x) (is x - was x) ready-run
-        ∙ ap (λ φ. map (vals l' φ) (pointsFrom (was x) (is x - was x))) (sym (stepped x o))
+    count-entry : (x : ℕ) → x < nodeCount b → getD (countsAfter s w) x 0 ≡ is x
+    unfolding countAfter
+    count-entry x o = count-after x o
 
-    made-pairs : newPairs (sight x) node (was x) (is x - was x) (heldPairs (entries b l) x) ≡ lastPairs l' (formulaAt b x)
-    made-pairs =
-        let z : was x + (is x - was x) ≡ is x = omega (arith, was-is x o) in
-        ap (newPairs (sight x) node (was x) (is x - was x)) (start-pairs x o ∙ ap (λ φ. pairsBefore l' φ (point (was x))) (stepped x o))
-        ∙ new-pairs (sight x) l' ordered' (formulaAt b) node (fine-node x o) (was x) (is x - was x) ready-run
-        ∙ ap (λ k. pairsBefore l' (formulaOf (formulaAt b) node) (point k)) z ∙ ap (λ φ. pairsBefore l' φ (point (is x))) (sym (stepped x o)) ∙ end-pairs x
+    counts-now : countsAfter s w ≡ map is (range 0 (nodeCount b))
+    counts-now = from-getD (countsAfter s w) (nodeCount b) is counts-many count-entry
 
-    all-rows : map (held (entries b l) x) (pointsFrom lo (was x - lo)) ++ newRows (sight x) node (was x) (is x - was x) (heldPairs (entries b l) x) ≡ map (vals l' (formulaAt b x)) (pointsFrom lo (is x - lo))
-    all-rows =
-        let z : is x - lo ≡ (was x - lo) + (is x - was x) = omega (arith, lo-low, was-is x o) in
-        let q : lo + (was x - lo) ≡ was x = omega (arith, lo-low) in
-        ap₂ (λ s t. s ++ t) old-rows made-rows
-        ∙ sym (map-append (vals l' (formulaAt b x)) (pointsFrom lo (was x - lo)) (pointsFrom (was x) (is x - was x)))
-        ∙ ap (map (vals l' (formulaAt b x))) (ap (λ k. pointsFrom lo (was x - lo) ++ pointsFrom k (is x - was x)) (sym q) ∙ sym (pointsFrom-append lo (was x - lo) (is x - was x)) ∙ ap (pointsFrom lo) (sym z))
+    base-grows : base ≤ firstRetained (size l') (map is (range 0 (nodeCount b)))
+    base-grows = let h : leastOf (size l) (map was (range 0 (nodeCount b))) ≤ leastOf (size l') (map is (range 0 (nodeCount b))) = least-grows (size l) (size l') was is 0 (nodeCount b) (omega (arith, size-grown)) (λ x u v. was-is x (omega arith)) in omega arith
 
-    -- the turn with its counts written as the log's
-    turn-with : turn s w x ≡ record { low = lo; rows = map (vals l' (formulaAt b x)) (pointsFrom lo (is x - lo)); pairs = lastPairs l' (formulaAt b x) }
-    unfolding turnOf
-    turn-with =
-        turn-is x o
-        ∙ (rw (wanted-same (countBefore s w) was count-before x o, count-before x o, count-after x o) (ap₂ (λ (r : List (List (List ℕ))) (p : List (List ℕ)). record { low = lo; rows = r; pairs = p }) all-rows made-pairs))
+    times-now : timesOf ++ getD w 0 0 ∷ [] ≡ map (λ i. time l' i .0) (pointsFrom base (size l' - base))
+    times-now =
+        let z : size l' - base ≡ (size l - base) + 1 = omega (arith, size-grown, base-size) in
+        let q : base + (size l - base) ≡ size l = omega (arith, base-size) in
+        ap₂ (λ r p. r ++ p)
+        (map-points (λ i. time l i .0) (λ i. time l' i .0) base (size l - base) (λ j u v. ap (λ (t : Stamp). t .0) (grows .times j (omega (arith, base-size)))))
+        (ap (λ k. k ∷ []) (ap (λ (t : Stamp). t .0) (last-time (point (size l)) refl)))
+        ∙ sym (map-append (λ i. time l' i .0) (pointsFrom base (size l - base)) (point (size l) ∷ []))
+        ∙ ap (map (λ i. time l' i .0)) (ap (λ k. pointsFrom base (size l - base) ++ pointsFrom k 1) (sym q) ∙ sym (pointsFrom-append base (size l - base) 1) ∙ ap (pointsFrom base) (sym z))
 
-    turn-right : TurnRight x
-    turn-right =
-        record
-        { rows = λ j u v.
-          let q : lo + (j .0 - lo) ≡ j .0 = omega arith in
-          ap (λ (t : Turn). rowsOfTurn t j) turn-with ∙ getD-points (vals l' (formulaAt b x)) [] lo (is x - lo) (j .0 - lo) (omega arith) ∙ ap (λ k. vals l' (formulaAt b x) (point k)) q
-        ; pairs = ap (λ (t : Turn). t .pairs) turn-with
-        }
+    abbrev base' : ℕ
+    base' = firstRetained (size l') (map is (range 0 (nodeCount b)))
 
-  turns-up : (k : ℕ) → k ≤ nodeCount b → (x : ℕ) → x < k → TurnRight x
-  turns-up zero h x u = absurd (omega arith)
-  turns-up (suc k) h x u = turn-right x (omega arith) (λ y v. turns-up k (omega arith) y (omega arith))
+    base'-size : base' ≤ size l'
+    base'-size = let h : leastOf (size l') (map is (range 0 (nodeCount b))) ≤ size l' = least-most (size l') (map is (range 0 (nodeCount b))) in omega arith
 
-  -- every node's turn is right
-  pub turns-right : (x : ℕ) → x < nodeCount b → TurnRight x
-  turns-right x o = turns-up (nodeCount b) (omega arith) x o
+    first-now : firstRetained (size l + 1) (countsAfter s w) - baseOf s ≡ base' - base
+    first-now = ap₂ (λ r p. r - p) (ap₂ (λ n cs. firstRetained n cs) (sym size-grown) counts-now) base-is
+
+    times-kept : drop (base' - base) (timesOf ++ getD w 0 0 ∷ []) ≡ map (λ i. time l' i .0) (pointsFrom base' (size l' - base'))
+    times-kept =
+        let z : base + (base' - base) ≡ base' = omega (arith, base-grows) in
+        let y : size l' - base - (base' - base) ≡ size l' - base' = omega (arith, base-grows, base'-size) in
+        ap (drop (base' - base)) times-now ∙ drop-points (λ i. time l' i .0) base (size l' - base) (base' - base) (omega (arith, base'-size))
+        ∙ ap₂ (λ r p. map (λ i. time l' i .0) (pointsFrom r p)) z y
+
+    entries-all : gather (entriesNow s w) (range 0 (nodeCount b)) ≡ entries b l'
+    unfolding entries
+    entries-all = gather-each (entriesNow s w) (entriesOf b l') 0 (nodeCount b) (λ x u o. entries-now x (omega arith))
+
+    abbrev stored : ℕ → List ℕ → List Entry → Stored
+    stored n ts es = record { rule = b; points = n; times = ts; entries = es }
+
+    pub stored-now : storedNow s w ≡ storedOf b l'
+    unfolding storedNow storedOf
+    stored-now =
+        ap (λ n. stored n (drop (firstRetained (size l + 1) (countsAfter s w) - baseOf s) (timesOf ++ getD w 0 0 ∷ [])) (gather (entriesNow s w) (range 0 (nodeCount b)))) (sym size-grown)
+        ∙ ap₂ (stored (size l')) (ap (λ k. drop k (timesOf ++ getD w 0 0 ∷ [])) first-now ∙ times-kept) entries-all
+
+    -- ---- the figures
+
+    newly-run : (x : ℕ) → x < nodeCount b → newlySettled l l' (formulaAt b x) ≡ pointsFrom (was x) (is x - was x)
+    unfolding newlySettled
+    newly-run x o =
+        select-run (λ i. settled l' (formulaAt b x) i && not (settled l (formulaAt b x) i)) (size l') (was x) (is x) (was-is x o) (counted-most l' (formulaAt b x) (is x) (is-counted x o))
+        (λ j h. rw (is-counted x o j, was-counted x o j) (ends (was x) (is x) (j .0)))
+      where
+        ends : (c d j : ℕ) → (ltb j d && not (ltb j c)) ≡ (leb c j && ltb j d)
+        ends c d j = go (tested (ltb j c)) (ltb j d)
+          where
+            go : Tested (ltb j c) → (t : Bool) → (t && not (ltb j c)) ≡ (leb c j && t)
+            go (passed e) true = rw (e, lt-leb c j (ltb-true j c e))
+            go (passed e) false = rw (lt-leb c j (ltb-true j c e))
+            go (failed e) true = rw (e, le-leb c j (ltb-false j c e))
+            go (failed e) false = rw (le-leb c j (ltb-false j c e))
+
+    new-rows-right : (x : ℕ) → x < nodeCount b → (j : Point) → was x ≤ j .0 → j .0 < was x + (is x - was x) → rowsOfTurn (turn s w x) j ≡ vals l' (formulaAt b x) j
+    new-rows-right x o j u v = turns-right x o .rows j (omega (arith, wanted-low b a ok l ordered x)) (omega (arith, was-is x o))
+
+    pub crowded-now : (x : ℕ) → x < nodeCount b → crowdedNow s w x ≡ crowdedAt b l l' x
+    unfolding crowdedNow crowdedAt
+    crowded-now x o =
+        rw (count-before x o, count-after x o, newly-run x o)
+        (any-over (λ j. ltb mostRows (length (rowsOfTurn (turn s w x) j))) (λ j. ltb mostRows (length (vals l' (formulaAt b x) j))) (was x) (is x - was x)
+        (λ j u v. ap (λ rows. ltb mostRows (length rows)) (new-rows-right x o j u v)))
+
+    last-node : lastNode b < nodeCount b
+    last-node = last-is-node b a ok
+
+    pub open-now : s .points + 1 - countAfter s w (lastNode (s .rule)) ≡ openPoints b l'
+    unfolding openPoints storedOf
+    open-now =
+        let n : is (lastNode b) ≤ size l' = counted-most l' (pattern b) (is (lastNode b)) (is-counted (lastNode b) last-node) in
+        ap₂ (λ r p. r - p) (sym size-grown) (count-after (lastNode b) last-node)
+        ∙ sym (points-length (is (lastNode b)) (size l' - is (lastNode b)))
+        ∙ ap length (sym (select-run (λ i. not (settled l' (pattern b) i)) (size l') (is (lastNode b)) (size l') n (omega arith) (λ j h. rw (is-counted (lastNode b) last-node j, lt-ltb (j .0) (size l') h) (ends (is (lastNode b)) (j .0)))))
+      where
+        ends : (c j : ℕ) → not (ltb j c) ≡ (leb c j && true)
+        ends c j = go (tested (ltb j c))
+          where
+            go : Tested (ltb j c) → not (ltb j c) ≡ (leb c j && true)
+            go (passed e) = rw (e, lt-leb c j (ltb-true j c e))
+            go (failed e) = rw (e, le-leb c j (ltb-false j c e))
+
+    pub report-now : reportNow s w ≡ report b l l'
+    unfolding reportNow report reported storedOf
+    report-now =
+        ap (reportWords (length (select (free (pattern b)) variables)))
+        (rw (count-before (lastNode b) last-node, count-after (lastNode b) last-node, newly-run (lastNode b) last-node)
+        (map-points _ _ (was (lastNode b)) (is (lastNode b) - was (lastNode b))
+        (λ j u v. ap₂ (λ (t : Stamp) (rows : List (List ℕ)). entry j t (map (reportRow (free (pattern b))) rows))
+          (stamps-right j (omega (arith, base-low (lastNode b) last-node)) (omega (arith, was-is (lastNode b) last-node, counted-most l' (pattern b) (is (lastNode b)) (is-counted (lastNode b) last-node))))
+          (new-rows-right (lastNode b) last-node j u v))))
+      where
+        entry : Point → Stamp → List (List ℕ) → Reported
+        entry i t rows = record { at = i; time = t; rows = rows }

@@ -7,10 +7,10 @@ use mathlib.Core.Bool.{Bool, true, false, not, cond, _&&_, _||_, false≢true}
 use mathlib.Core.Logic.{_⊎_, inl, inr}
 use mathlib.Core.List.{List, [], _∷_, _++_, map, append-nil, List·Memᴰ, cons≢nil}
 use lib.ListN.{length, getD, drop, length-append, length-map, List·getD-append}
-use lib.Seq.{getD-append-seam}
+use lib.Seq.{getD-append-seam, ext-getD}
 use lib.Dec.{ltb, leb, eqb}
 use borrow.Author.Tests.{ltb-true, ltb-false, lt-ltb, le-ltb, eqb-true, eq-eqb, eqb-false, ne-eqb}
-use Rattle.meaning.specs.Lists.{range, select, gather}
+use Rattle.meaning.specs.Lists.{any, range, select, gather}
 use Rattle.meaning.specs.Outcome.{given}
 use Rattle.meaning.specs.Log.{Log, Row, Ordered, beyond, point, stamp, size, time, rowsAt, pointsFrom}
 use Rattle.meaning.specs.Formula.{Formula, free}
@@ -55,6 +55,34 @@ least-below n c a (suc k) y u o = go (eq-or-lt-of-le u) (λ v. least-below n c (
 pub least-most : (n : ℕ) (cs : List ℕ) → leastOf n cs ≤ n
 least-most n [] = omega arith
 least-most n (c ∷ cs) = omega (arith, least-most n cs)
+
+pub least-grows : (n n' : ℕ) (c c' : ℕ → ℕ) (a k : ℕ) → n ≤ n' → ((x : ℕ) → a ≤ x → x < a + k → c x ≤ c' x) → leastOf n (map c (range a k)) ≤ leastOf n' (map c' (range a k))
+least-grows n n' c c' a zero h g = h
+least-grows n n' c c' a (suc k) h g = omega (arith, g a (omega arith) (omega arith), least-grows n n' c c' (suc a) k h (λ x u o. g x (omega arith) (omega arith)))
+
+-- a list by its elements
+getD-range : (f : ℕ → ℕ) (a n k : ℕ) → k < n → getD (map f (range a n)) k 0 ≡ f (a + k)
+getD-range f a zero k h = absurd (omega arith)
+getD-range f a (suc n) zero h = let e : a + 0 ≡ a = omega arith in rw e
+getD-range f a (suc n) (suc k) h = let e : a + suc k ≡ suc a + k = omega arith in rw e (getD-range f (suc a) n k (omega arith))
+
+pub from-getD : (xs : List ℕ) (n : ℕ) (f : ℕ → ℕ) → length xs ≡ n → ((k : ℕ) → k < n → getD xs k 0 ≡ f k) → xs ≡ map f (range 0 n)
+from-getD xs n f e h =
+    ext-getD 0 xs (map f (range 0 n)) (e ∙ sym (length-map (range 0 n) f ∙ range-length 0 n))
+    (λ k o. let z : 0 + k ≡ k = omega arith in h k (omega arith) ∙ sym (getD-range f 0 n k (omega arith) ∙ ap f z))
+
+pub gather-over : {B : Type 0} (f g : Point → List B) (a n : ℕ) → ((j : Point) → a ≤ j .0 → j .0 < a + n → f j ≡ g j) → gather f (pointsFrom a n) ≡ gather g (pointsFrom a n)
+gather-over f g a zero h = refl
+gather-over f g a (suc n) h = ap₂ (λ s t. s ++ t) (h (point a) (omega arith) (omega arith)) (gather-over f g (suc a) n (λ j u o. h j (omega arith) (omega arith)))
+
+pub any-over : (p q : Point → Bool) (a n : ℕ) → ((j : Point) → a ≤ j .0 → j .0 < a + n → p j ≡ q j) → any p (pointsFrom a n) ≡ any q (pointsFrom a n)
+any-over p q a zero h = refl
+any-over p q a (suc n) h = ap₂ (λ s t. s || t) (h (point a) (omega arith) (omega arith)) (any-over p q (suc a) n (λ j u o. h j (omega arith) (omega arith)))
+
+pub drop-points : {B : Type 0} (f : Point → B) (a n k : ℕ) → k ≤ n → drop k (map f (pointsFrom a n)) ≡ map f (pointsFrom (a + k) (n - k))
+drop-points f a n zero h = let z : a + 0 ≡ a = omega arith in let y : n - 0 ≡ n = omega arith in rw (z, y)
+drop-points f a zero (suc k) h = absurd (omega arith)
+drop-points f a (suc n) (suc k) h = let z : a + suc k ≡ suc a + k = omega arith in let y : suc n - suc k ≡ n - k = omega arith in rw (z, y) (drop-points f (suc a) n k (omega arith))
 
 pub points-length : (a n : ℕ) → length (pointsFrom a n) ≡ n
 points-length a n = length-map (range a n) point ∙ range-length a n

@@ -12,7 +12,7 @@ use Rattle.meaning.specs.RuleFile.{nodeCount, nodeAt, formulaAt, lastNode, patt
 use Rattle.meaning.specs.Kept.{Entry, entryOf, parentOf}
 use Rattle.meaning.specs.Event.{pointOf}
 use Rattle.meaning.specs.Report.{Reported, reportWords}
-use Rattle.meaning.specs.Keeper.{Taking, reportRow, admitted, weighed, bufferAfter}
+use Rattle.meaning.specs.Keeper.{Taking, Given, reportRow, admitted, weighed, bufferAfter}
 use Rattle.meaning.specs.declared.Point.{Point}
 use Rattle.meaning.specs.declared.Stamp.{Stamp}
 use Rattle.meaning.specs.declared.Node.{Node}
@@ -134,7 +134,27 @@ module _ (s : Stored) (w : List ℕ) where
       (weighed crowdedNow (nodeCount (s .rule)) (s .points + 1 - countAfter (lastNode (s .rule))) (length (storedNow .entries)) (length reportNow) room)
 
   -- the state after the call: kept on a refusal
-  abbrev pub storedAfter : Outcome ℕ → Stored
+  unfoldable abbrev pub storedAfter : Outcome ℕ → Stored
   unfolding storedNow
   storedAfter (refused number place) = s
   storedAfter (given words) = storedNow
+
+-- What a taking gives back, and what is then stored.
+unfoldable pub givenBy : Stored → Taking → Given
+givenBy s t =
+    record
+    { answer = answerNow s (t .event) (length (t .buffer))
+    ; buffer = bufferAfter (answerNow s (t .event) (length (t .buffer))) (reportNow s (t .event)) (t .buffer)
+    }
+
+unfoldable pub storedBy : Stored → Taking → Stored
+storedBy s t = storedAfter s (t .event) (answerNow s (t .event) (length (t .buffer)))
+
+-- over a list of takings, each given what the last handed back
+abbrev pub givenRun : Stored → List Taking → List Given
+givenRun s [] = []
+givenRun s (t ∷ ts) = givenBy s t ∷ givenRun (storedBy s t) ts
+
+abbrev pub storedRun : Stored → List Taking → Stored
+storedRun s [] = s
+storedRun s (t ∷ ts) = storedRun (storedBy s t) ts
