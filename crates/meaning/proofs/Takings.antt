@@ -77,7 +77,7 @@ accepts b l t n e =
     }
 
 -- the log after a taking: as it was, or with the event's point
-step-holds : (b : List ℕ) (l : Log) (t : Taking) (P : Log → Type 0) → P l → ((n : ℕ) → answer b l t ≡ given n → P (grown b l (t .event))) → P (step b l t)
+pub step-holds : (b : List ℕ) (l : Log) (t : Taking) (P : Log → Type 0) → P l → ((n : ℕ) → answer b l t ≡ given n → P (grown b l (t .event))) → P (step b l t)
 unfolding step
 step-holds b l t P p h = go (answer b l t) refl
   where

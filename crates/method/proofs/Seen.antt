@@ -8,7 +8,7 @@ use mathlib.Core.Logic.{_⊎_, inl, inr}
 use mathlib.Core.List.{List, [], _∷_, _++_, map, append-nil, List·Memᴰ, List·Memᴰ·head, List·Memᴰ·tail}
 use lib.ListN.{length, getD, drop}
 use lib.Dec.{ltb, leb, eqb}
-use borrow.Author.Tests.{ltb-true, ltb-false, lt-ltb, le-ltb, eqb-true, eqb-false, ne-eqb, leb-true}
+use borrow.Author.Tests.{ltb-true, ltb-false, lt-ltb, le-ltb, eqb-true, eqb-false, eq-eqb, ne-eqb, leb-true}
 use Rattle.meaning.specs.Lists.{all, any, select, gather, sameRow}
 use Rattle.meaning.specs.Order.{before, ascending}
 use Rattle.meaning.specs.Log.{Log, Row, Ordered, point, size, time, rowsAt, latest, elapsed, pointBefore, pointAfter, pointsFrom}
@@ -24,37 +24,16 @@ use Rattle.meaning.specs.declared.Window.{Window}
 use Rattle.meaning.specs.declared.Node.{Node}
 use Rattle.meaning.specs.declared.Node.the-variants.{Atom, And, AndNot, Keep, Or, Exists, Previous, Next, Since, NotSince, Until, NotUntil, Once, Eventually}
 use Rattle.meaning.proofs.Fine.{Fine}
-use Rattle.meaning.proofs.Rows.{same-row, member-row, OfLength, before-total, before-apart, before-transitive, head-before, ascending-tail, both-ways, neither, either}
+use Rattle.meaning.proofs.Rows.{all-of}
 use Rattle.meaning.proofs.Points.{both, first, second, all-same, select-same, select-append, select-none, gather-same, pointsFrom-append, Tested, passed, failed, tested}
 use Rattle.meaning.proofs.Agreement.{ascends, rows-length}
 use Rattle.meaning.proofs.Settles.{UntilSettled, until-parts, since-each, twin, present}
 use Rattle.meaning.proofs.Steady.{past-end}
-use Rattle.method.specs.Settle.{Sight, lookUp, found, oldEnough, settle, grownBy, older, grow, pairsNow}
+use Rattle.rowset.proofs.Places.{look-member}
+use Rattle.method.specs.Settle.{Sight, found, oldEnough, settle, grownBy, older, grow, pairsNow}
 use Rattle.method.specs.Step.{firstWanted}
 use Rattle.method.proofs.Counted.{Counted, counted-most}
 use Rattle.method.proofs.Grown.{Grows, since-grows, notSince-grows, once-grows}
-
--- looking a row up in a strictly ascending list of rows as long finds it just where it is
-not-member : (r : List ℕ) (rows : List (List ℕ)) → ((s : List ℕ) → List·Memᴰ s rows → before r s ≡ true) → member r rows ≡ false
-not-member r rows h = go (tested (member r rows))
-  where
-    go : Tested (member r rows) → member r rows ≡ false
-    go (passed e) = absurd (before-apart r r (h r (member-row r rows .0 e)) refl)
-    go (failed e) = e
-
-pub look-up : (r : List ℕ) (rows : List (List ℕ)) → OfLength (length r) rows → ascending rows ≡ true → lookUp r rows ≡ member r rows
-look-up r [] long up = refl
-look-up r (s ∷ rows) long up = go (tested (before s r)) (tested (sameRow r s)) (look-up r rows (λ t m. long t (List·Memᴰ·tail m)) (ascending-tail s rows up))
-  where
-    after : before r s ≡ true → (t : List ℕ) → List·Memᴰ t rows → before r t ≡ true
-    after b t m = before-transitive r s t b (head-before s up m)
-    ahead : before s r ≡ false → sameRow r s ≡ false → before r s ≡ true
-    ahead b d = elim (tested (before r s)) [ passed e ↦ e | failed e ↦ absurd (true≢false (sym (same-row r s .1 (before-total r s (sym (long s (List·Memᴰ·head refl))) e b)) ∙ d)) ]
-    go : Tested (before s r) → Tested (sameRow r s) → lookUp r rows ≡ member r rows → cond (before s r) (lookUp r rows) (sameRow r s) ≡ (sameRow r s || member r rows)
-    go (passed b) (passed d) e = absurd (before-apart s r b (sym (same-row r s .0 d)))
-    go (passed b) (failed d) e = rw (b, d) e
-    go (failed b) (passed d) e = rw (b, d)
-    go (failed b) (failed d) e = rw (b, d) (sym (not-member r rows (after (ahead b d))))
 
 -- What node n's turn at point i has to see: the stamps from the point before on, and its children's variables, counts and rows where the point consults them.
 pub record Sees (v : Sight) (l : Log) (F : ℕ → Formula) (n : Node) (i : Point) : Type 0 where
@@ -67,7 +46,7 @@ pub record Sees (v : Sight) (l : Log) (F : ℕ → Formula) (n : Node) (i : Poin
 -- a child's rows, asked for a row
 found-among : (v : Sight) (l : Log) (F : ℕ → Formula) (a : ℕ) (k : Point) → Fine (F a) → v .free ≡ (λ y. free (F y)) → v .rows a k ≡ vals l (F a) k → (u : List ℕ) → found v a u k ≡ among (free (F a)) (vals l (F a)) u k
 found-among v l F a k f e r u =
-    rw (e, r) (look-up (cutTo (free (F a)) (valuationOf u)) (vals l (F a) k) (rows-length l (F a) f k) (ascends l (F a) f k))
+    rw (e, r) (look-member (cutTo (free (F a)) (valuationOf u)) (vals l (F a) k) (all-of _ (vals l (F a) k) (λ s m. eq-eqb (length s) 4 (rows-length l (F a) f k s m))) (ascends l (F a) f k))
 
 -- until over fewer points, where the others are past the window's end
 until-cut : (τ τ' : Point → Stamp) (m n : ℕ) (w : Window) (left left' : List ℕ → Point → Bool) (right right' : Point → List (List ℕ)) (i : Point)

@@ -17,7 +17,7 @@ use Rattle.meaning.specs.Formula.{Formula, free, variables}
 use Rattle.meaning.specs.Evaluator.{vals}
 use Rattle.meaning.specs.Settled.{settled, settledCount}
 use Rattle.meaning.specs.RuleFile.{Accepted, checking, nodeCount, nodeAt, childrenOf, formulaOf, formulaAt, lastNode, pattern}
-use Rattle.meaning.specs.Kept.{pairs, lastPairs, Entry, entryOf, parentOf, entries, entriesOf, openPoints}
+use Rattle.meaning.specs.Kept.{pairs, lastPairs, Entry, entryOf, parentOf, entries, entriesOf, kept, openPoints}
 use Rattle.meaning.specs.Event.{pointOf}
 use Rattle.meaning.specs.Report.{Reported, reportWords}
 use Rattle.meaning.specs.Keeper.{newlySettled, reportRow, reported, report, crowdedAt, grown}
@@ -34,7 +34,7 @@ use Rattle.meaning.proofs.Points.{pointsFrom-append, Tested, passed, failed, te
 use Rattle.method.specs.Stored.{Stored, baseOf, stampIn, held, heldPairs, leastOf, firstRetained, storedOf}
 use Rattle.method.specs.Counts.{countsTo}
 use Rattle.method.specs.Settle.{Sight, settle, pairsNow, Turn, rowsOfTurn}
-use Rattle.method.specs.Step.{firstWanted, wantedFrom, newRows, newPairs, turnOf, sightOf, turnsTo, noTurn, stampsNow, countBefore, countAfter, countsAfter, turn, entriesNow, storedNow, crowdedNow, reportNow, latestStored}
+use Rattle.method.specs.Step.{firstWanted, wantedFrom, newRows, newPairs, turnOf, sightOf, turnsTo, noTurn, stampsNow, countsStored, countBefore, keptStored, openStored, countAfter, countsAfter, turn, entriesNow, storedNow, crowdedNow, reportNow, latestStored}
 use Rattle.method.proofs.Counted.{Counted, counted-most, counted-is, count-counted, counts-length, counts-right, counts-grow, upto-below, upto-holds}
 use Rattle.method.proofs.Lists.{gather-each, select-run}
 use Rattle.method.proofs.Parents.{parent-is, has-parent}
@@ -91,6 +91,47 @@ module _ (b : List ℕ) (a : Accepted) (ok : checking b ≡ given a) (l : Log) (
           let n : size l ≤ 0 = ltb-false 0 (size l) e in
           List·getD-eq-default timesOf 0 (omega (arith, times-length)) ∙ sym (no-time l (point (size l - 1)) (omega arith))
 
+  -- ---- the counts and figures of what is stored
+
+  stored-stamp : (j : Point) → base ≤ j .0 → j .0 < size l → stampIn base timesOf j ≡ time l j
+  stored-stamp j u n =
+      let q : base + (j .0 - base) ≡ j .0 = omega arith in
+      ap stamp (getD-points (λ i. time l i .0) 0 base (size l - base) (j .0 - base) (omega arith) ∙ ap (λ k. time l (point k) .0) q)
+
+  pub count-before : (x : ℕ) → x < nodeCount b → countBefore s x ≡ was x
+  unfolding countBefore countsStored storedOf
+  count-before x o =
+      ap (λ k. getD (countsTo b (stampIn k timesOf) (size l) (λ y. k) (nodeCount b)) x 0) base-is
+      ∙ sym
+      (counted-is l (formulaAt b x) (getD (countsTo b (stampIn base timesOf) (size l) (λ y. base) (nodeCount b)) x 0)
+      (counts-right b a ok l ordered (λ y. base)
+      (λ y q i u. upto-holds (settled l (formulaAt b y)) (was y) (was-counted y q) i (omega (arith, base-low y q)))
+      (stampIn base timesOf) (λ y q i u v. stored-stamp i u v) x o))
+
+  last-node : lastNode b < nodeCount b
+  last-node = last-is-node b a ok
+
+  -- the points from a count on are those that a prefix test leaves
+  open-run : (m : Log) (c : ℕ) → Counted m (pattern b) c → size m - c ≡ length (select (λ i. not (settled m (pattern b) i)) (pointsFrom 0 (size m)))
+  open-run m c h =
+      sym (points-length c (size m - c))
+      ∙ ap length (sym (select-run (λ i. not (settled m (pattern b) i)) (size m) c (size m) (counted-most m (pattern b) c h) (omega arith) (λ j n. rw (h j, lt-ltb (j .0) (size m) n) (ends c (j .0)))))
+    where
+      ends : (c j : ℕ) → not (ltb j c) ≡ (leb c j && true)
+      ends c j = go (tested (ltb j c))
+        where
+          go : Tested (ltb j c) → not (ltb j c) ≡ (leb c j && true)
+          go (passed e) = rw (e, lt-leb c j (ltb-true j c e))
+          go (failed e) = rw (e, le-leb c j (ltb-false j c e))
+
+  pub open-stored : openStored s ≡ openPoints b l
+  unfolding openStored openPoints storedOf
+  open-stored = ap (λ k. size l - k) (count-before (lastNode b) last-node) ∙ open-run l (was (lastNode b)) (was-counted (lastNode b) last-node)
+
+  pub kept-stored : keptStored s ≡ kept b l
+  unfolding kept storedOf
+  kept-stored = refl
+
   -- an event that may join the log: its time is no earlier than the last
   module _ (w : List ℕ) (ordered' : Ordered (grown b l w)) where
     abbrev l' : Log
@@ -128,8 +169,7 @@ module _ (b : List ℕ) (a : Accepted) (ok : checking b ≡ given a) (l : Log) (
         go : Tested (ltb (j .0) (size l)) → stamp (getD (timesOf ++ getD w 0 0 ∷ []) (j .0 - base) 0) ≡ time l' j
         go (passed e) =
             let n : j .0 < size l = ltb-true (j .0) (size l) e in
-            let q : base + (j .0 - base) ≡ j .0 = omega arith in
-            ap stamp (List·getD-append timesOf (getD w 0 0 ∷ []) 0 (j .0 - base) (omega (arith, z)) ∙ getD-points (λ i. time l i .0) 0 base (size l - base) (j .0 - base) (omega arith) ∙ ap (λ k. time l (point k) .0) q) ∙ grows .times j n
+            ap stamp (List·getD-append timesOf (getD w 0 0 ∷ []) 0 (j .0 - base) (omega (arith, z))) ∙ stored-stamp j u n ∙ grows .times j n
         go (failed e) =
             let n : j .0 ≡ size l = omega (arith, ltb-false (j .0) (size l) e, size-grown) in
             let q : j .0 - base ≡ length timesOf = omega (arith, z) in
@@ -137,24 +177,14 @@ module _ (b : List ℕ) (a : Accepted) (ok : checking b ≡ given a) (l : Log) (
 
     -- ---- the counts
 
-    pub count-before : (x : ℕ) → x < nodeCount b → countBefore s w x ≡ was x
-    unfolding countBefore storedOf
-    count-before x o =
-        sym
-        (counted-is l (formulaAt b x) (getD (countsTo b (stampsNow s w) (size l) (λ y. baseOf s) (nodeCount b)) x 0)
-        (counts-right b a ok l ordered (λ y. baseOf s)
-        (λ y q i u. upto-holds (settled l (formulaAt b y)) (was y) (was-counted y q) i (omega (arith, base-is, base-low y q)))
-        (stampsNow s w)
-        (λ y q i u v. stamps-right i (omega (arith, base-is)) (omega (arith, size-grown)) ∙ sym (grows .times i v)) x o))
-
     pub count-after : (x : ℕ) → x < nodeCount b → countAfter s w x ≡ is x
     unfolding countAfter countsAfter storedOf
     count-after x o =
         let z : size l + 1 ≡ size l' = sym size-grown in
         rw z
         (sym
-        (counted-is l' (formulaAt b x) (getD (countsTo b (stampsNow s w) (size l') (countBefore s w) (nodeCount b)) x 0)
-        (counts-right b a ok l' ordered' (countBefore s w)
+        (counted-is l' (formulaAt b x) (getD (countsTo b (stampsNow s w) (size l') (countBefore s) (nodeCount b)) x 0)
+        (counts-right b a ok l' ordered' (countBefore s)
         (λ y q i u. stays l l' grows (formulaAt b y) i (upto-holds (settled l (formulaAt b y)) (was y) (was-counted y q) i (omega (arith, count-before y q))))
         (stampsNow s w)
         (λ y q i u v. stamps-right i (omega (arith, count-before y q, base-low y q)) v) x o)))
@@ -182,18 +212,18 @@ module _ (b : List ℕ) (a : Accepted) (ok : checking b ≡ given a) (l : Log) (
         rw (e, parent-is b a ok x o y m) (omega arith)
 
     abbrev sight : ℕ → Sight
-    sight x = sightOf b (stampsNow s w) (countAfter s w) (pointOf b w .rows) (turnsTo b (entries b l) (stampsNow s w) (countBefore s w) (countAfter s w) (pointOf b w .rows) x)
+    sight x = sightOf b (stampsNow s w) (countAfter s w) (pointOf b w .rows) (turnsTo b (entries b l) (stampsNow s w) (countBefore s) (countAfter s w) (pointOf b w .rows) x)
 
-    turn-is : (x : ℕ) → x < nodeCount b → turn s w x ≡ turnOf b (entries b l) (countBefore s w) (countAfter s w) (sight x) x
+    turn-is : (x : ℕ) → x < nodeCount b → turn s w x ≡ turnOf b (entries b l) (countBefore s) (countAfter s w) (sight x) x
     unfolding turn storedOf
-    turn-is x o = turns-at b (entries b l) (stampsNow s w) (countBefore s w) (countAfter s w) (pointOf b w .rows) (nodeCount b) x o
+    turn-is x o = turns-at b (entries b l) (stampsNow s w) (countBefore s) (countAfter s w) (pointOf b w .rows) (nodeCount b) x o
 
     sight-rows : (x y : ℕ) → y < x → x < nodeCount b → sight x .rows y ≡ rowsOfTurn (turn s w y)
     unfolding turn storedOf
     sight-rows x y h o =
         let e : x + (nodeCount b - x) ≡ nodeCount b = omega arith in
-        ap rowsOfTurn (sym (turns-stay b (entries b l) (stampsNow s w) (countBefore s w) (countAfter s w) (pointOf b w .rows) x (nodeCount b - x) y h)
-        ∙ ap (λ k. getD (turnsTo b (entries b l) (stampsNow s w) (countBefore s w) (countAfter s w) (pointOf b w .rows) k) y noTurn) e)
+        ap rowsOfTurn (sym (turns-stay b (entries b l) (stampsNow s w) (countBefore s) (countAfter s w) (pointOf b w .rows) x (nodeCount b - x) y h)
+        ∙ ap (λ k. getD (turnsTo b (entries b l) (stampsNow s w) (countBefore s) (countAfter s w) (pointOf b w .rows) k) y noTurn) e)
 
     -- a node's turn gives the evaluator's rows from the first wanted point on, and its pairs
     pub record TurnRight (x : ℕ) : Type 0 where
@@ -296,7 +326,7 @@ module _ (b : List ℕ) (a : Accepted) (ok : checking b ≡ given a) (l : Log) (
       unfolding turnOf
       turn-with =
           turn-is x o
-          ∙ (rw (wanted-same (countBefore s w) was count-before x o, count-before x o, count-after x o) (ap₂ (λ (r : List (List (List ℕ))) (p : List (List ℕ)). record { low = lo; rows = r; pairs = p }) all-rows made-pairs))
+          ∙ (rw (wanted-same (countBefore s) was count-before x o, count-before x o, count-after x o) (ap₂ (λ (r : List (List (List ℕ))) (p : List (List ℕ)). record { low = lo; rows = r; pairs = p }) all-rows made-pairs))
 
       turn-right : TurnRight x
       turn-right =
@@ -342,7 +372,7 @@ module _ (b : List ℕ) (a : Accepted) (ok : checking b ≡ given a) (l : Log) (
 
     counts-many : length (countsAfter s w) ≡ nodeCount b
     unfolding countsAfter storedOf
-    counts-many = counts-length b (stampsNow s w) (size l + 1) (countBefore s w) (nodeCount b)
+    counts-many = counts-length b (stampsNow s w) (size l + 1) (countBefore s) (nodeCount b)
 
     count-entry : (x : ℕ) → x < nodeCount b → getD (countsAfter s w) x 0 ≡ is x
     unfolding countAfter
@@ -420,23 +450,9 @@ module _ (b : List ℕ) (a : Accepted) (ok : checking b ≡ given a) (l : Log) (
         (any-over (λ j. ltb mostRows (length (rowsOfTurn (turn s w x) j))) (λ j. ltb mostRows (length (vals l' (formulaAt b x) j))) (was x) (is x - was x)
         (λ j u v. ap (λ rows. ltb mostRows (length rows)) (new-rows-right x o j u v)))
 
-    last-node : lastNode b < nodeCount b
-    last-node = last-is-node b a ok
-
     pub open-now : s .points + 1 - countAfter s w (lastNode (s .rule)) ≡ openPoints b l'
     unfolding openPoints storedOf
-    open-now =
-        let n : is (lastNode b) ≤ size l' = counted-most l' (pattern b) (is (lastNode b)) (is-counted (lastNode b) last-node) in
-        ap₂ (λ r p. r - p) (sym size-grown) (count-after (lastNode b) last-node)
-        ∙ sym (points-length (is (lastNode b)) (size l' - is (lastNode b)))
-        ∙ ap length (sym (select-run (λ i. not (settled l' (pattern b) i)) (size l') (is (lastNode b)) (size l') n (omega arith) (λ j h. rw (is-counted (lastNode b) last-node j, lt-ltb (j .0) (size l') h) (ends (is (lastNode b)) (j .0)))))
-      where
-        ends : (c j : ℕ) → not (ltb j c) ≡ (leb c j && true)
-        ends c j = go (tested (ltb j c))
-          where
-            go : Tested (ltb j c) → not (ltb j c) ≡ (leb c j && true)
-            go (passed e) = rw (e, lt-leb c j (ltb-true j c e))
-            go (failed e) = rw (e, le-leb c j (ltb-false j c e))
+    open-now = ap₂ (λ r p. r - p) (sym size-grown) (count-after (lastNode b) last-node) ∙ open-run l' (is (lastNode b)) (is-counted (lastNode b) last-node)
 
     pub report-now : reportNow s w ≡ report b l l'
     unfolding reportNow report reported storedOf

@@ -21,10 +21,10 @@ use Rattle.meaning.specs.declared.Point.{Point}
 use Rattle.meaning.specs.declared.Stamp.{Stamp}
 use Rattle.meaning.proofs.Growth.{at-latest}
 use Rattle.meaning.proofs.Points.{Tested, passed, failed, tested, from-first}
-use Rattle.meaning.proofs.Takings.{Accepts, accepts, every-log}
+use Rattle.meaning.proofs.Takings.{accepts, step-holds, every-log}
 use Rattle.method.specs.Stored.{Stored, storedOf}
-use Rattle.method.specs.Step.{countAfter, storedNow, crowdedNow, reportNow, latestStored, answerNow, storedAfter, givenBy, storedBy, givenRun, storedRun}
-use Rattle.method.proofs.Stepped.{stored-now, crowded-now, open-now, report-now, latest-now}
+use Rattle.method.specs.Step.{keptStored, openStored, countAfter, storedNow, crowdedNow, reportNow, latestStored, answerNow, storedAfter, givenBy, storedBy, givenRun, storedRun}
+use Rattle.method.proofs.Stepped.{open-stored, kept-stored, stored-now, crowded-now, open-now, report-now, latest-now}
 
 -- ---- the log with one more point
 
@@ -120,15 +120,13 @@ module _ (b : List ℕ) (a : Accepted) (ok : checking b ≡ given a) (l : Log) (
 
 -- the keeper's log stays in order
 step-ordered : (b : List ℕ) (l : Log) (t : Taking) → Ordered l → Ordered (step b l t)
-unfolding step
-step-ordered b l t o = go (answer b l t) refl
-  where
-    go : (r : Outcome ℕ) → answer b l t ≡ r → Ordered (logAfter r l (grown b l (t .event)))
-    go (refused number place) e = o
-    go (given n) e = grown-ordered b l (t .event) o (accepts b l t n e .later)
+step-ordered b l t o = step-holds b l t Ordered o (λ n e. grown-ordered b l (t .event) o (accepts b l t n e .later))
 
 pub no-points : Ordered []
 no-points = record { steps = λ i j u n. absurd (omega arith) }
+
+pub log-ordered : (b : List ℕ) (ts : List Taking) → Ordered (keeperLog b [] ts)
+log-ordered b ts = every-log b Ordered (λ l t n o p. grown-ordered b l (t .event) o (p .later)) ts [] no-points
 
 module _ (b : List ℕ) (a : Accepted) (ok : checking b ≡ given a) where
   run-given : (ts : List Taking) (l : Log) → Ordered l → givenRun (storedOf b l) ts ≡ keeper b l ts
@@ -146,3 +144,10 @@ module _ (b : List ℕ) (a : Accepted) (ok : checking b ≡ given a) where
   -- what is stored after it
   pub whole-stored : (ts : List Taking) → storedRun (storedOf b []) ts ≡ storedOf b (keeperLog b [] ts)
   whole-stored ts = run-stored ts [] no-points
+
+  -- the figures `kept` and `open` that are then read off
+  pub whole-kept : (ts : List Taking) → keptStored (storedRun (storedOf b []) ts) ≡ kept b (keeperLog b [] ts)
+  whole-kept ts = ap keptStored (whole-stored ts) ∙ kept-stored b a ok (keeperLog b [] ts) (log-ordered b ts)
+
+  pub whole-open : (ts : List Taking) → openStored (storedRun (storedOf b []) ts) ≡ openPoints b (keeperLog b [] ts)
+  whole-open ts = ap openStored (whole-stored ts) ∙ open-stored b a ok (keeperLog b [] ts) (log-ordered b ts)

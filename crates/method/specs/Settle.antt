@@ -4,23 +4,18 @@ use mathlib.Core.Bool.{Bool, true, false, not, cond, _&&_}
 use mathlib.Core.List.{List, [], _∷_, _++_, map}
 use lib.ListN.{getD, drop}
 use lib.Dec.{ltb, leb, eqb}
-use Rattle.meaning.specs.Lists.{select, sameRow}
-use Rattle.meaning.specs.Order.{before}
+use Rattle.meaning.specs.Lists.{select}
 use Rattle.meaning.specs.Log.{Row, elapsed, pointBefore, pointAfter}
 use Rattle.meaning.specs.Formula.{termsOf, inWindow, compares}
 use Rattle.meaning.specs.Definition2.{value}
 use Rattle.meaning.specs.Evaluator.{cutTo, valuationOf, setOf, atomRows, andRows, untilRows}
 use Rattle.meaning.specs.Kept.{belowEnd, countedAge}
+use Rattle.rowset.specs.Rows.{lookUp}
 use Rattle.meaning.specs.declared.Point.{Point}
 use Rattle.meaning.specs.declared.Stamp.{Stamp}
 use Rattle.meaning.specs.declared.Window.{Window}
 use Rattle.meaning.specs.declared.Node.{Node}
 use Rattle.meaning.specs.declared.Node.the-variants.{Atom, And, AndNot, Keep, Or, Exists, Previous, Next, Since, NotSince, Until, NotUntil, Once, Eventually}
-
--- looking for a row stops at the first that isn't before it
-abbrev pub lookUp : List ℕ → List (List ℕ) → Bool
-lookUp r [] = false
-lookUp r (s ∷ rows) = cond (before s r) (lookUp r rows) (sameRow r s)
 
 -- What a node's turn can look at: the free variables, counts and rows of lower nodes, the time stamps, and the rows of the event.
 pub record Sight : Type 0 where

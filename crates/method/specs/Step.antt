@@ -73,26 +73,36 @@ turnsTo b es τ before after event zero = []
 turnsTo b es τ before after event (suc x) =
     turnsTo b es τ before after event x ++ turnOf b es before after (sightOf b τ after event (turnsTo b es τ before after event x)) x ∷ []
 
+-- how many points each node has settled
+unfoldable pub countsStored : Stored → List ℕ
+countsStored s = countsTo (s .rule) (stampIn (baseOf s) (s .times)) (s .points) (λ x. baseOf s) (nodeCount (s .rule))
+
+unfoldable pub countBefore : Stored → ℕ → ℕ
+countBefore s x = getD (countsStored s) x 0
+
+-- the figures `kept` and `open`
+abbrev pub keptStored : Stored → ℕ
+keptStored s = length (s .entries)
+
+unfoldable pub openStored : Stored → ℕ
+openStored s = s .points - countBefore s (lastNode (s .rule))
+
 -- One call, with the event's words.
 module _ (s : Stored) (w : List ℕ) where
   unfoldable pub stampsNow : Point → Stamp
   stampsNow = stampIn (baseOf s) (s .times ++ getD w 0 0 ∷ [])
 
-  unfoldable pub countBefore : ℕ → ℕ
-  unfolding stampsNow
-  countBefore x = getD (countsTo (s .rule) stampsNow (s .points) (λ y. baseOf s) (nodeCount (s .rule))) x 0
-
   unfoldable pub countsAfter : List ℕ
-  unfolding stampsNow countBefore
-  countsAfter = countsTo (s .rule) stampsNow (s .points + 1) countBefore (nodeCount (s .rule))
+  unfolding stampsNow
+  countsAfter = countsTo (s .rule) stampsNow (s .points + 1) (countBefore s) (nodeCount (s .rule))
 
   unfoldable pub countAfter : ℕ → ℕ
   unfolding countsAfter
   countAfter x = getD countsAfter x 0
 
   unfoldable pub turn : ℕ → Turn
-  unfolding stampsNow countBefore countAfter
-  turn x = getD (turnsTo (s .rule) (s .entries) stampsNow countBefore countAfter (pointOf (s .rule) w .rows) (nodeCount (s .rule))) x noTurn
+  unfolding stampsNow countAfter
+  turn x = getD (turnsTo (s .rule) (s .entries) stampsNow (countBefore s) countAfter (pointOf (s .rule) w .rows) (nodeCount (s .rule))) x noTurn
 
   -- what node x keeps
   unfoldable pub entriesNow : ℕ → List Entry
@@ -113,15 +123,15 @@ module _ (s : Stored) (w : List ℕ) where
 
   -- a newly settled point of node x has too many rows
   unfoldable pub crowdedNow : ℕ → Bool
-  unfolding countBefore countAfter turn
-  crowdedNow x = any (λ j. ltb mostRows (length (rowsOfTurn (turn x) j))) (pointsFrom (countBefore x) (countAfter x - countBefore x))
+  unfolding countAfter turn
+  crowdedNow x = any (λ j. ltb mostRows (length (rowsOfTurn (turn x) j))) (pointsFrom (countBefore s x) (countAfter x - countBefore s x))
 
   unfoldable pub reportNow : List ℕ
-  unfolding stampsNow countBefore countAfter turn
+  unfolding stampsNow countAfter turn
   reportNow =
       reportWords (length (select (free (pattern (s .rule))) variables))
       (map (λ i. record { at = i; time = stampsNow i; rows = map (reportRow (free (pattern (s .rule)))) (rowsOfTurn (turn (lastNode (s .rule))) i) })
-      (pointsFrom (countBefore (lastNode (s .rule))) (countAfter (lastNode (s .rule)) - countBefore (lastNode (s .rule)))))
+      (pointsFrom (countBefore s (lastNode (s .rule))) (countAfter (lastNode (s .rule)) - countBefore s (lastNode (s .rule)))))
 
   -- the latest time, 0 before any point
   abbrev pub latestStored : ℕ

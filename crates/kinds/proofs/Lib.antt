@@ -1,0 +1,3 @@
+-- Facts about the kinds' rows.
+pub mod Atoms
+pub mod Candidates

@@ -1,0 +1,38 @@
+-- `and_not` meets its contract: each row of the left run that has none in the right run is put in.
+use Prim.Native.Nat.{ℕ, _-_}
+use native.Mathlib.Omega.{arith}
+use mathlib.Core.Path.{refl, ap, _∙_}
+use mathlib.Core.Bool.{Bool, not, cond}
+use mathlib.Core.List.{List, [], _∷_}
+use borrow.Author.Needs.{needs}
+use Rattle.meaning.specs.Lists.{select}
+use Rattle.meaning.specs.Evaluator.{cutTo, valuationOf}
+use Rattle.kinds.specs.Kinds.{inMask}
+use Rattle.rowset.specs.Rows.{rowAt, rowsFrom, lookUp}
+use Rattle.rowset.proofs.Growing.{Through, begun, turned, ended, select-one, chosen}
+use Rattle.kinds.proofs.and_not.Statement.{statement}
+use Rattle.kinds.proofs.and_not.Tie as tie
+
+abbrev Inv-loop : tie.InvT-loop
+Inv-loop g rows from to start end out₀ n k₀ i₀ out k i = Through (rowAt rows) (select (λ u. not (lookUp (cutTo (inMask g) (valuationOf u)) (rowsFrom rows start (end - start))))) to out₀ n (select (λ u. not (lookUp (cutTo (inMask g) (valuationOf u)) (rowsFrom rows start (end - start)))) (rowsFrom rows from (to - from))) out k i
+
+abbrev μ-loop : tie.MeasureT-loop
+μ-loop g rows from to start end out₀ n k₀ i₀ out k i = to - i
+
+loop-holds : tie.Need-loop-holds Inv-loop μ-loop
+unfolding rowsFrom
+loop-holds c = begun (c .before .before .pre .0 .ordered) (c .before .before .pre .1 .1)
+
+loop-again : tie.Need-loop-again Inv-loop μ-loop
+loop-again c =
+    let a = c .before .before .before .before .before .before .before .before .before .before .before .args in
+    let rights : List (List ℕ) = rowsFrom (a .rows .now) (a .start) (a .end - a .start) in
+    let p : List ℕ → Bool = λ u. not (lookUp (cutTo (inMask (a .g)) (valuationOf u)) rights) in
+    turned (c .before .before .before .before .before .before .before .before .loop .inv) (λ u. cond (p u) (u ∷ []) []) (select-one p) (c .before .before .before .before .before .before .before .loop-test .taken) (c .before .before .add-if .ensures)
+    (chosen p (λ u. u) (ap not (c .before .before .before .before .contains .ensures ∙ ap (λ r. lookUp r rights) (c .before .before .before .before .before .cut .ensures))) refl (c .before .before .before .before .before .before .row-at .ensures))
+
+returns : tie.Need-returns Inv-loop μ-loop
+returns c = ended (c .before .loop .inv) refl (c .loop-test .left)
+
+pub and-not-spec : {M : Type 1} → statement M
+and-not-spec = tie.close (tie.spec Inv-loop μ-loop loop-holds (λ c κs. omega arith) (λ c κs. search needs) (λ c κs. omega arith) (λ c κs. omega arith) (λ c. omega arith) (λ c. omega arith) loop-again (λ c. c .before .loop .inv .long) returns)

@@ -1,0 +1,2 @@
+-- What the kinds read.
+pub mod Kinds

@@ -1,0 +1,431 @@
+// What each kind puts into a set of valuations, from its children's sets in a lent slice.
+use meaning::Comparison;
+use meaning::Term;
+use meaning::Terms;
+use rowset::Row;
+ghost use mathlib.Core.Path.{_≡_};
+ghost use mathlib.Core.Bool.{_&&_, _||_, not, cond};
+ghost use mathlib.Core.List.{[], _∷_, map};
+ghost use Prim.Native.Nat.{_+_, _-_, _*_, _≤_, _<_};
+ghost use lib.ListN.{length, getD, take};
+ghost use lib.Dec.{eqb};
+ghost use Rattle.meaning.specs.Lists.{select, sameRow};
+ghost use Rattle.meaning.specs.Formula.{termsOf, compares, isVariable, variables};
+ghost use Rattle.meaning.specs.Definition2.{value};
+ghost use Rattle.meaning.specs.Event.{rowCount, columnsOf};
+ghost use Rattle.meaning.specs.Evaluator.{cutTo, valuationOf, bound, matches, atomRows, agrees, joined, andRows};
+ghost use Rattle.rowset.specs.Rows.{wordsOf, rowsFrom, lookUp};
+ghost use Rattle.rowset.specs.Sets.{Run, Room, Added};
+ghost use Rattle.kinds.specs.Kinds.{inMask, EventThere, rowFrom, rowsWith, pairsFrom, aged};
+
+// Four variables: whether each is in a set.
+pub struct Vars {
+    pub b0: bool,
+    pub b1: bool,
+    pub b2: bool,
+    pub b3: bool,
+}
+
+fn vars_of(mask: u8) -> Vars
+    ensures { λ v. ⌜ (v .b0 ≡ inMask mask 0) × (v .b1 ≡ inMask mask 1) × (v .b2 ≡ inMask mask 2) × (v .b3 ≡ inMask mask 3) ⌝ }
+{
+    Vars {
+        b0: mask / 1 % 2 == 1,
+        b1: mask / 2 % 2 == 1,
+        b2: mask / 4 % 2 == 1,
+        b3: mask / 8 % 2 == 1,
+    }
+}
+
+fn pick(t: bool, a: u32, b: u32) -> u32
+    ensures { λ r. ⌜ r ≡ cond t a b ⌝ }
+{
+    if t {
+        return a;
+    }
+    b
+}
+
+// The row cut down to the variables of the mask.
+pub fn cut(mask: u8, u: Row) -> Row
+    ensures { λ r. ⌜ wordsOf r ≡ cutTo (inMask mask) (valuationOf (wordsOf u)) ⌝ }
+{
+    let v = vars_of(mask);
+    Row {
+        v0: pick(v.b0, u.v0, 0),
+        v1: pick(v.b1, u.v1, 0),
+        v2: pick(v.b2, u.v2, 0),
+        v3: pick(v.b3, u.v3, 0),
+    }
+}
+
+// The row with variable x set to 0.
+fn without(x: u32, u: Row) -> Row
+    ensures { λ r. ⌜ wordsOf r ≡ cutTo (λ y. not (eqb y x)) (valuationOf (wordsOf u)) ⌝ }
+{
+    Row {
+        v0: pick(0 != x, u.v0, 0),
+        v1: pick(1 != x, u.v1, 0),
+        v2: pick(2 != x, u.v2, 0),
+        v3: pick(3 != x, u.v3, 0),
+    }
+}
+
+// Two rows put together: the variables of the mask from the first, the others from the second.
+fn join(f: u8, u: Row, w: Row) -> Row
+    ensures { λ r. ⌜ wordsOf r ≡ joined (inMask f) (wordsOf u) (wordsOf w) ⌝ }
+{
+    let v = vars_of(f);
+    Row {
+        v0: pick(v.b0, u.v0, w.v0),
+        v1: pick(v.b1, u.v1, w.v1),
+        v2: pick(v.b2, u.v2, w.v2),
+        v3: pick(v.b3, u.v3, w.v3),
+    }
+}
+
+// The words are equal where both tests passed, and the rest agrees.
+fn word_agrees(f: bool, g: bool, a: u32, b: u32, rest: bool) -> bool
+    ensures { λ t. ⌜ t ≡ ((not (f && g) || eqb a b) && rest) ⌝ }
+{
+    if f {
+        if g {
+            if a == b {
+                return rest;
+            }
+            return false;
+        }
+        return rest;
+    }
+    rest
+}
+
+fn agree(f: u8, g: u8, u: Row, w: Row) -> bool
+    ensures { λ t. ⌜ t ≡ agrees (inMask f) (inMask g) (wordsOf u) (wordsOf w) ⌝ }
+{
+    let p = vars_of(f);
+    let q = vars_of(g);
+    let last = word_agrees(p.b3, q.b3, u.v3, w.v3, true);
+    let third = word_agrees(p.b2, q.b2, u.v2, w.v2, last);
+    let second = word_agrees(p.b1, q.b1, u.v1, w.v1, third);
+    word_agrees(p.b0, q.b0, u.v0, w.v0, second)
+}
+
+// The value of variable x in the row; 0 for a variable above 3.
+fn column(u: Row, x: u32) -> u32
+    ensures { λ r. ⌜ r ≡ getD (wordsOf u) x 0 ⌝ }
+{
+    if x == 0 {
+        return u.v0;
+    }
+    if x == 1 {
+        return u.v1;
+    }
+    if x == 2 {
+        return u.v2;
+    }
+    if x == 3 {
+        return u.v3;
+    }
+    0
+}
+
+fn term_value(u: Row, t: Term) -> u32
+    ensures { λ r. ⌜ r ≡ value (valuationOf (wordsOf u)) t ⌝ }
+{
+    match t {
+        Term::Variable(x) => column(u, x),
+        Term::Constant(c) => c,
+    }
+}
+
+fn compare(c: Comparison, a: u32, b: u32) -> bool
+    ensures { λ t. ⌜ t ≡ compares c a b ⌝ }
+{
+    match c {
+        Comparison::Equal => a == b,
+        Comparison::Different => a != b,
+        Comparison::Less => a < b,
+        Comparison::NotLess => !(a < b),
+    }
+}
+
+// Copies the rows of a run: serves "or", "previous" and "next".
+pub fn copy(rows: &[u32], from: usize, to: usize, out: &mut [u32], n: usize) -> usize
+    requires { ⌜ Run (now rows) from to ⌝ }
+    requires { ⌜ Room (now out) n ⌝ }
+    ensures { λ k. ⌜ Added (now (out .entry)) n (now (out .exit)) k (rowsFrom (now (rows .entry)) from (to - from)) ⌝ }
+{
+    let mut k = n;
+    let mut i = from;
+    while i < to {
+        k = rowset::add(out, k, rowset::row_at(rows, i));
+        i += 1;
+    }
+    k
+}
+
+// The rows that join a row of the left child with those of the right child that agree with it.
+fn and_row(
+    f: u8,
+    g: u8,
+    u: Row,
+    rows: &[u32],
+    from: usize,
+    to: usize,
+    out: &mut [u32],
+    n: usize,
+) -> usize
+    requires { ⌜ Run (now rows) from to ⌝ }
+    requires { ⌜ Room (now out) n ⌝ }
+    ensures { λ k. ⌜ Added (now (out .entry)) n (now (out .exit)) k (map (joined (inMask f) (wordsOf u)) (select (agrees (inMask f) (inMask g) (wordsOf u)) (rowsFrom (now (rows .entry)) from (to - from)))) ⌝ }
+{
+    let mut k = n;
+    let mut i = from;
+    while i < to {
+        let w = rowset::row_at(rows, i);
+        let ok = agree(f, g, u, w);
+        let row = join(f, u, w);
+        k = rowset::add_if(ok, out, k, row);
+        i += 1;
+    }
+    k
+}
+
+// "and": f and g are the masks of the children's variables; the left child's rows are from..to, the right child's start..end.
+pub fn and(
+    f: u8,
+    g: u8,
+    rows: &[u32],
+    from: usize,
+    to: usize,
+    start: usize,
+    end: usize,
+    out: &mut [u32],
+    n: usize,
+) -> usize
+    requires { ⌜ Run (now rows) from to ⌝ }
+    requires { ⌜ Run (now rows) start end ⌝ }
+    requires { ⌜ Room (now out) n ⌝ }
+    ensures { λ k. ⌜ Added (now (out .entry)) n (now (out .exit)) k (andRows (inMask f) (inMask g) (rowsFrom (now (rows .entry)) from (to - from)) (rowsFrom (now (rows .entry)) start (end - start))) ⌝ }
+{
+    let mut k = n;
+    let mut i = from;
+    while i < to {
+        let u = rowset::row_at(rows, i);
+        k = and_row(f, g, u, rows, start, end, out, k);
+        i += 1;
+    }
+    k
+}
+
+// "and not": g is the mask of the right child's variables; the rows are as for "and".
+pub fn and_not(
+    g: u8,
+    rows: &[u32],
+    from: usize,
+    to: usize,
+    start: usize,
+    end: usize,
+    out: &mut [u32],
+    n: usize,
+) -> usize
+    requires { ⌜ Run (now rows) from to ⌝ }
+    requires { ⌜ Run (now rows) start end ⌝ }
+    requires { ⌜ Room (now out) n ⌝ }
+    ensures { λ k. ⌜ Added (now (out .entry)) n (now (out .exit)) k (select (λ u. not (lookUp (cutTo (inMask g) (valuationOf u)) (rowsFrom (now (rows .entry)) start (end - start)))) (rowsFrom (now (rows .entry)) from (to - from))) ⌝ }
+{
+    let mut k = n;
+    let mut i = from;
+    while i < to {
+        let u = rowset::row_at(rows, i);
+        let found = rowset::contains(rows, start, end, cut(g, u));
+        k = rowset::add_if(!found, out, k, u);
+        i += 1;
+    }
+    k
+}
+
+// "keep": a row is put in where its values of the two terms compare so.
+pub fn keep(
+    c: Comparison,
+    s: Term,
+    t: Term,
+    rows: &[u32],
+    from: usize,
+    to: usize,
+    out: &mut [u32],
+    n: usize,
+) -> usize
+    requires { ⌜ Run (now rows) from to ⌝ }
+    requires { ⌜ Room (now out) n ⌝ }
+    ensures { λ k. ⌜ Added (now (out .entry)) n (now (out .exit)) k (select (λ u. compares c (value (valuationOf u) s) (value (valuationOf u) t)) (rowsFrom (now (rows .entry)) from (to - from))) ⌝ }
+{
+    let mut k = n;
+    let mut i = from;
+    while i < to {
+        let u = rowset::row_at(rows, i);
+        let a = term_value(u, s);
+        let b = term_value(u, t);
+        let ok = compare(c, a, b);
+        k = rowset::add_if(ok, out, k, u);
+        i += 1;
+    }
+    k
+}
+
+// "exists": variable x is no longer free.
+pub fn exists(x: u32, rows: &[u32], from: usize, to: usize, out: &mut [u32], n: usize) -> usize
+    requires { ⌜ Run (now rows) from to ⌝ }
+    requires { ⌜ Room (now out) n ⌝ }
+    ensures { λ k. ⌜ Added (now (out .entry)) n (now (out .exit)) k (map (λ u. cutTo (λ y. not (eqb y x)) (valuationOf u)) (rowsFrom (now (rows .entry)) from (to - from))) ⌝ }
+{
+    let mut k = n;
+    let mut i = from;
+    while i < to {
+        let u = without(x, rowset::row_at(rows, i));
+        k = rowset::add(out, k, u);
+        i += 1;
+    }
+    k
+}
+
+// The rows of the pairs from..to that are at least as old as age says.
+pub fn old_enough(
+    age: u32,
+    ages: &[u32],
+    values: &[u32],
+    from: usize,
+    to: usize,
+    out: &mut [u32],
+    n: usize,
+) -> usize
+    requires { ⌜ Run (now values) from to ⌝ }
+    requires { ⌜ to ≤ length (now ages) ⌝ }
+    requires { ⌜ Room (now out) n ⌝ }
+    ensures { λ k. ⌜ Added (now (out .entry)) n (now (out .exit)) k (aged age (pairsFrom (now (ages .entry)) (now (values .entry)) from (to - from))) ⌝ }
+{
+    let mut k = n;
+    let mut i = from;
+    while i < to {
+        let row = rowset::row_at(values, i);
+        let ok = age <= ages[i];
+        k = rowset::add_if(ok, out, k, row);
+        i += 1;
+    }
+    k
+}
+
+fn is_variable(x: u32, t: Term) -> bool
+    ensures { λ r. ⌜ r ≡ isVariable x t ⌝ }
+{
+    match t {
+        Term::Variable(y) => x == y,
+        Term::Constant(_) => false,
+    }
+}
+
+// The column where the term is used and is the variable, else what the later columns give.
+fn bound_in(used: bool, x: u32, t: Term, column: u32, rest: u32) -> u32
+    ensures { λ r. ⌜ r ≡ cond (used && isVariable x t) column rest ⌝ }
+{
+    if used {
+        return pick(is_variable(x, t), column, rest);
+    }
+    rest
+}
+
+// The value that the columns give to variable x.
+fn bound_of(ts: Terms, c: Row, x: u32) -> u32
+    ensures { λ r. ⌜ r ≡ bound (termsOf ts) (take (ts .count) (wordsOf c)) x ⌝ }
+{
+    let count = ts.count;
+    let t0 = ts.first;
+    let t1 = ts.second;
+    let t2 = ts.third;
+    let t3 = ts.fourth;
+    let last = bound_in(3 < count, x, t3, c.v3, 0);
+    let third = bound_in(2 < count, x, t2, c.v2, last);
+    let second = bound_in(1 < count, x, t1, c.v1, third);
+    bound_in(0 < count, x, t0, c.v0, second)
+}
+
+// The values that the columns give to the four variables.
+fn bound_row(ts: Terms, c: Row) -> Row
+    ensures { λ r. ⌜ wordsOf r ≡ map (bound (termsOf ts) (take (ts .count) (wordsOf c))) variables ⌝ }
+{
+    Row {
+        v0: bound_of(ts, c, 0),
+        v1: bound_of(ts, c, 1),
+        v2: bound_of(ts, c, 2),
+        v3: bound_of(ts, c, 3),
+    }
+}
+
+fn term_bound(ts: Terms, c: Row, t: Term) -> u32
+    ensures { λ r. ⌜ r ≡ value (bound (termsOf ts) (take (ts .count) (wordsOf c))) t ⌝ }
+{
+    match t {
+        Term::Variable(x) => bound_of(ts, c, x),
+        Term::Constant(a) => a,
+    }
+}
+
+// The columns are the terms' values.
+fn columns_match(ts: Terms, c: Row) -> bool
+    ensures { λ t. ⌜ t ≡ sameRow (map (value (bound (termsOf ts) (take (ts .count) (wordsOf c)))) (termsOf ts)) (take (ts .count) (wordsOf c)) ⌝ }
+{
+    let count = ts.count;
+    let t0 = ts.first;
+    let t1 = ts.second;
+    let t2 = ts.third;
+    let t3 = ts.fourth;
+    let last = word_agrees(3 < count, true, term_bound(ts, c, t3), c.v3, true);
+    let third = word_agrees(2 < count, true, term_bound(ts, c, t2), c.v2, last);
+    let second = word_agrees(1 < count, true, term_bound(ts, c, t1), c.v1, third);
+    word_agrees(0 < count, true, term_bound(ts, c, t0), c.v0, second)
+}
+
+// The columns of row k of an event of m rows.
+fn columns_at(event: &[u32], m: usize, k: usize) -> Row
+    requires { ⌜ (m ≡ rowCount (now event)) × (2 + m + 4 * k + 4 ≤ length (now event)) ⌝ }
+    ensures { λ r. ⌜ wordsOf r ≡ columnsOf (now (event .entry)) k ⌝ }
+{
+    let at = 2 + m + 4 * k;
+    Row {
+        v0: event[at],
+        v1: event[at + 1],
+        v2: event[at + 2],
+        v3: event[at + 3],
+    }
+}
+
+// What an atom puts in for one row of an event.
+fn atom_row(relation: u32, found: u32, ts: Terms, c: Row, out: &mut [u32], n: usize) -> usize
+    requires { ⌜ Room (now out) n ⌝ }
+    ensures { λ k. ⌜ Added (now (out .entry)) n (now (out .exit)) k (cond (matches relation (termsOf ts) (rowFrom (ts .count) found (wordsOf c))) (map (bound (termsOf ts) (take (ts .count) (wordsOf c))) variables ∷ []) []) ⌝ }
+{
+    if found == relation {
+        let ok = columns_match(ts, c);
+        let row = bound_row(ts, c);
+        return rowset::add_if(ok, out, n, row);
+    }
+    n
+}
+
+// "atom": a row of the event has as many values as the atom has terms.
+pub fn atom(relation: u32, ts: Terms, event: &[u32], out: &mut [u32], n: usize) -> usize
+    requires { ⌜ EventThere (now event) ⌝ }
+    requires { ⌜ Room (now out) n ⌝ }
+    ensures { λ k. ⌜ Added (now (out .entry)) n (now (out .exit)) k (atomRows relation (termsOf ts) (rowsWith (ts .count) (now (event .entry)))) ⌝ }
+{
+    let m = event[1] as usize;
+    let mut k = n;
+    let mut i = 0;
+    while i < m {
+        let c = columns_at(event, m, i);
+        k = atom_row(relation, event[2 + i], ts, c, out, k);
+        i += 1;
+    }
+    k
+}

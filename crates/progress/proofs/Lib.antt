@@ -1,0 +1,4 @@
+-- Facts about the definitions that the proofs use, and callers too.
+pub mod Scans
+pub mod Withins
+pub mod Fills

@@ -1,0 +1,163 @@
+// How many points each node has settled, from the time stamps alone.
+use meaning::Node;
+use meaning::Point;
+use meaning::Stamp;
+ghost use mathlib.Core.Path.{_≡_};
+ghost use Prim.Native.Nat.{_+_, _-_, _*_, _≤_, _<_, min};
+ghost use mathlib.Core.Bool.{cond};
+ghost use lib.ListN.{length, getD};
+ghost use lib.Dec.{ltb, leb};
+ghost use Rattle.meaning.specs.Log.{point};
+ghost use Rattle.meaning.specs.RuleFile.{nodeCount, nodeAt};
+ghost use Rattle.method.specs.Stored.{stampIn};
+ghost use Rattle.method.specs.Counts.{scan, untilCount, advance};
+ghost use Rattle.progress.specs.Bounds.{Within};
+ghost use Rattle.progress.specs.Filled.{Filled};
+
+// A difference that stops at 0, as it does in the definitions.
+fn less(a: u32, b: u32) -> u32
+    ensures { λ r. ⌜ r ≡ a - b ⌝ }
+{
+    if b < a { a - b } else { 0 }
+}
+
+// The lower of two numbers.
+fn lower(a: u32, b: u32) -> u32
+    ensures { λ r. ⌜ r ≡ min a b ⌝ }
+{
+    if a < b { a } else { b }
+}
+
+// A word of a slice, 0 past its end.
+fn word_in(words: &[u32], k: usize) -> u32
+    ensures { λ r. ⌜ r ≡ getD (now (words .entry)) k 0 ⌝ }
+{
+    if k < words.len() { words[k] } else { 0 }
+}
+
+// The time stamp of point i, read off retained times of which the first is point base's.
+pub fn time_in(times: &[u32], base: Point, i: Point) -> Stamp
+    ensures { λ r. ⌜ r ≡ stampIn (base .0) (now (times .entry)) i ⌝ }
+{
+    let k = less(i.0, base.0);
+    Stamp(word_in(times, k as usize))
+}
+
+// Whether a window's end d after a stamp comes no later than the bound.
+fn ends_by(t: Stamp, d: u32, bound: Stamp) -> bool
+    ensures { λ r. ⌜ r ≡ leb (t .0 + d) (bound .0) ⌝ }
+{
+    (t.0 as u64) + (d as u64) <= (bound.0 as u64)
+}
+
+// The first point, from `from` on and before m, whose window has not ended by the bound; where each has, the one after them.
+fn first_open(times: &[u32], base: Point, d: u32, bound: Stamp, from: Point, m: Point) -> Point
+    ensures { λ r. ⌜ r ≡ point (scan (stampIn (base .0) (now (times .entry))) d (bound .0) (from .0) (m .0 - from .0)) ⌝ }
+{
+    let end = m.0;
+    let mut i = from.0;
+    while i < end {
+        if !ends_by(time_in(times, base, Point(i)), d, bound) {
+            return Point(i);
+        }
+        i += 1;
+    }
+    Point(i)
+}
+
+// The point whose time stamp bounds the windows that have ended: the first that the children have not settled, or the last of all.
+fn bound_at(n: u32, m: u32) -> Point
+    ensures { λ r. ⌜ r ≡ point (cond (ltb m n) m (n - 1)) ⌝ }
+{
+    if m < n { Point(m) } else { Point(less(n, 1)) }
+}
+
+// How many points until has settled, where its children have settled m of n.
+pub fn until_count(times: &[u32], base: Point, n: u32, d: u32, m: u32, from: u32) -> u32
+    ensures { λ r. ⌜ r ≡ untilCount (stampIn (base .0) (now (times .entry))) n d m from ⌝ }
+{
+    let bound = time_in(times, base, bound_at(n, m));
+    let open = first_open(times, base, d, bound, Point(from), Point(m));
+    open.0
+}
+
+// The count of a child, 0 where there is none.
+fn count_at(counts: &[u32], y: u8) -> u32
+    ensures { λ r. ⌜ r ≡ getD (now (counts .entry)) y 0 ⌝ }
+{
+    word_in(counts, y as usize)
+}
+
+// The lower count of two children.
+fn both_at(counts: &[u32], a: u8, b: u8) -> u32
+    ensures { λ r. ⌜ r ≡ min (getD (now (counts .entry)) a 0) (getD (now (counts .entry)) b 0) ⌝ }
+{
+    lower(count_at(counts, a), count_at(counts, b))
+}
+
+// One more, and no more than n.
+fn one_more(n: u32, m: u32) -> u32
+    ensures { λ r. ⌜ r ≡ min n (m + 1) ⌝ }
+{
+    if m < n { m + 1 } else { n }
+}
+
+// The count of a node, from its children's counts and a count that is not too high.
+pub fn advance(node: Node, times: &[u32], base: Point, n: u32, counts: &[u32], from: u32) -> u32
+    ensures { λ r. ⌜ r ≡ advance (stampIn (base .0) (now (times .entry))) n (λ y. getD (now (counts .entry)) y 0) from node ⌝ }
+    ensures { λ r. ⌜ (Within n (now (counts .entry)) → from ≤ n → r ≤ n) ⌝ }
+{
+    match node {
+        Node::Atom(_, _) => n,
+        Node::And(a, b) => both_at(counts, a, b),
+        Node::AndNot(a, b) => both_at(counts, a, b),
+        Node::Keep(a, _, _) => count_at(counts, a),
+        Node::Or(a, b) => both_at(counts, a, b),
+        Node::Exists(a, _) => count_at(counts, a),
+        Node::Previous(a, _) => one_more(n, count_at(counts, a)),
+        Node::Next(a, _) => less(count_at(counts, a), 1),
+        Node::Since(a, b, _) => both_at(counts, a, b),
+        Node::NotSince(a, b, _) => both_at(counts, a, b),
+        Node::Until(a, b, w) => until_count(times, base, n, w.end, both_at(counts, a, b), from),
+        Node::NotUntil(a, b, w) => until_count(times, base, n, w.end, both_at(counts, a, b), from),
+        Node::Once(a, _) => count_at(counts, a),
+        Node::Eventually(a, w) => until_count(times, base, n, w.end, count_at(counts, a), from),
+    }
+}
+
+// The count of node x, from the counts of the nodes below it.
+fn count_of(
+    rule: &[u8],
+    times: &[u32],
+    base: Point,
+    n: u32,
+    below: &[u32],
+    from: &[u32],
+    x: u8,
+) -> u32
+    requires { ⌜ (length (now rule) ≡ 12 + 20 * nodeCount (now rule)) × (x < nodeCount (now rule)) ⌝ }
+    ensures { λ r. ⌜ r ≡ advance (stampIn (base .0) (now (times .entry))) n (λ y. getD (now (below .entry)) y 0) (getD (now (from .entry)) x 0) (nodeAt (now (rule .entry)) x) ⌝ }
+{
+    advance(
+        rulenodes::node_at(rule, x),
+        times,
+        base,
+        n,
+        below,
+        count_at(from, x),
+    )
+}
+
+// The counts of every node of a rule, lowest first; words past them stay.
+pub fn counts(rule: &[u8], times: &[u32], base: Point, n: u32, from: &[u32], out: &mut [u32])
+    requires { ⌜ (length (now rule) ≡ 12 + 20 * nodeCount (now rule)) × (nodeCount (now rule) ≤ length (now out)) ⌝ }
+    ensures { λ _. ⌜ Filled (now (rule .entry)) (stampIn (base .0) (now (times .entry))) n (now (from .entry)) (now (out .entry)) (now (out .exit)) ⌝ }
+{
+    let nodes = rule[2];
+    let mut x: u8 = 0;
+    while x < nodes {
+        let k = x as usize;
+        out[k] = count_of(rule, times, base, n, &out[0..k], from, x);
+        x += 1;
+    }
+}

@@ -1,0 +1,105 @@
+-- Loops that put rows into a set: what was put in and what is still to come make up the whole, from the first turn to the last.
+-- Then what the set holds in the end.
+use Prim.Native.Nat.{ℕ, _+_, _-_, _≤_, _<_}
+use mathlib.Core.Path.{_≡_, refl, sym, ap, _∙_}
+use mathlib.Core.Bool.{Bool, true, false, cond}
+use mathlib.Core.List.{List, [], _∷_, _++_, map}
+use native.Mathlib.Omega.{arith}
+use lib.ListN.{length}
+use lib.Dec.{leb}
+use borrow.Author.Tests.{leb-true, leb-false}
+use Rattle.meaning.specs.Lists.{range, select}
+use Rattle.meaning.specs.Evaluator.{setOf}
+use Rattle.meaning.proofs.Points.{Tested, passed, failed, tested}
+use Rattle.rowset.specs.Rows.{rowsFrom, mostHeld, addAllCapped}
+use Rattle.rowset.specs.Sets.{Room, Added}
+use Rattle.rowset.proofs.Saturation.{addAll-append, whole, crowded}
+use Rattle.rowset.proofs.Runs.{run-first, run-end, rows-none, rows-length}
+
+-- a loop at item i of those up to to; gives says what rows a list of items gives. With the rows of the items still to come put into the new set too,
+-- it is the old one with all put in
+pub record Through {A : Type 0} (at : ℕ → A) (gives : List A → List (List ℕ)) (to : ℕ) (old : List ℕ) (n : ℕ) (all : List (List ℕ)) (new : List ℕ) (k i : ℕ) : Type 0 where
+  pub reached : i ≤ to
+  pub most : k ≤ mostHeld
+  pub long : length new ≡ length old
+  pub set : addAllCapped (rowsFrom new 0 k) (gives (map at (range i (to - i)))) ≡ addAllCapped (rowsFrom old 0 n) all
+
+module _ {A : Type 0} {at : ℕ → A} {gives : List A → List (List ℕ)} {to : ℕ} {old : List ℕ} {n : ℕ} where
+  pub begun : {i : ℕ} → i ≤ to → Room old n → Through at gives to old n (gives (map at (range i (to - i)))) old n i
+  begun l h = record { reached = l; most = h .most; long = refl; set = refl }
+
+  pub begun-all : Room old n → Through at gives to old n (gives (map at (range 0 to))) old n 0
+  begun-all h =
+      let e : to - 0 ≡ to = omega arith in
+      rw e at (begun {i = 0} (omega arith) h)
+
+  module _ {all : List (List ℕ)} {new : List ℕ} {k i : ℕ} (t : Through at gives to old n all new k i) where
+    -- a turn puts in what one item gives
+    pub turned : (one : A → List (List ℕ)) → ((x : A) (xs : List A) → gives (x ∷ xs) ≡ one x ++ gives xs) → i < to
+        → {new' : List ℕ} {k' : ℕ} {rows : List (List ℕ)} → Added new k new' k' rows → rows ≡ one (at i) → Through at gives to old n all new' k' (i + 1)
+    turned one splits l {new'} {k'} h r =
+        let rest : List A = map at (range (i + 1) (to - (i + 1))) in
+        let e : addAllCapped (rowsFrom new' 0 k') (gives rest) ≡ addAllCapped (rowsFrom old 0 n) all
+        = ap (λ s. addAllCapped s (gives rest)) (h .set ∙ ap (addAllCapped (rowsFrom new 0 k)) r)
+        ∙ sym (addAll-append (rowsFrom new 0 k) (one (at i)) (gives rest))
+        ∙ ap (addAllCapped (rowsFrom new 0 k)) (sym (splits (at i) rest) ∙ ap gives (sym (run-first at to i l)))
+        ∙ t .set in
+        record { reached = omega arith; most = h .most; long = h .long ∙ t .long; set = e }
+
+    pub ended : gives [] ≡ [] → to ≤ i → Added old n new k all
+    ended none l =
+        record { most = t .most; long = t .long; set = ap (addAllCapped (rowsFrom new 0 k)) (sym (ap gives (run-end at to i l) ∙ none)) ∙ t .set }
+
+-- the rows put in, written in another way
+pub added-as : {old : List ℕ} {n : ℕ} {new : List ℕ} {k : ℕ} {rows rows' : List (List ℕ)} → Added old n new k rows → rows ≡ rows' → Added old n new k rows'
+added-as {old} {n} h e = record { most = h .most; long = h .long; set = h .set ∙ ap (addAllCapped (rowsFrom old 0 n)) e }
+
+-- one list of rows put in after another
+pub added-then : {old : List ℕ} {n : ℕ} {mid : List ℕ} {m : ℕ} {new : List ℕ} {k : ℕ} {xs ys : List (List ℕ)} → Added old n mid m xs → Added mid m new k ys → Added old n new k (xs ++ ys)
+added-then {old} {n} {xs = xs} {ys = ys} g h =
+    record { most = h .most; long = h .long ∙ g .long; set = h .set ∙ ap (λ s. addAllCapped s ys) (g .set) ∙ sym (addAll-append (rowsFrom old 0 n) xs ys) }
+
+-- rows put into an empty set: up to 32 it is the set of them, and a count of 33 says that they are more
+module _ {old new : List ℕ} {k : ℕ} {rows : List (List ℕ)} (h : Added old 0 new k rows) where
+  from-none : rowsFrom new 0 k ≡ addAllCapped [] rows
+  from-none = h .set ∙ ap (λ s. addAllCapped s rows) (rows-none old)
+
+  counted : length (addAllCapped [] rows) ≡ k
+  counted = ap length (sym from-none) ∙ rows-length new 0 k
+
+  pub set-whole : k ≤ 32 → rowsFrom new 0 k ≡ setOf rows
+  set-whole l = go (tested (leb (length (setOf rows)) 32))
+    where
+      go : Tested (leb (length (setOf rows)) 32) → rowsFrom new 0 k ≡ setOf rows
+      go (passed e) = from-none ∙ whole rows (leb-true (length (setOf rows)) 32 e)
+      go (failed e) = absurd (omega (arith, counted, crowded rows (leb-false (length (setOf rows)) 32 e)))
+
+  pub set-crowded : 32 < k → 32 < length (setOf rows)
+  set-crowded l = go (tested (leb (length (setOf rows)) 32))
+    where
+      go : Tested (leb (length (setOf rows)) 32) → 32 < length (setOf rows)
+      go (passed e) =
+          let m : length (setOf rows) ≤ 32 = leb-true (length (setOf rows)) 32 e in
+          absurd (omega (arith, counted, ap length (whole rows m)))
+      go (failed e) = leb-false (length (setOf rows)) 32 e
+
+-- what one item gives where some are chosen
+module _ {A : Type 0} (p : A → Bool) where
+  pub select-one : (x : A) (xs : List A) → select p (x ∷ xs) ≡ cond (p x) (x ∷ []) [] ++ select p xs
+  select-one x xs = go (p x)
+    where
+      go : (t : Bool) → cond t (x ∷ select p xs) (select p xs) ≡ cond t (x ∷ []) [] ++ select p xs
+      go true = refl
+      go false = refl
+
+  pub map-select-one : {B : Type 0} (f : A → B) (x : A) (xs : List A) → map f (select p (x ∷ xs)) ≡ cond (p x) (f x ∷ []) [] ++ map f (select p xs)
+  map-select-one f x xs = go (p x)
+    where
+      go : (t : Bool) → map f (cond t (x ∷ select p xs) (select p xs)) ≡ cond t (f x ∷ []) [] ++ map f (select p xs)
+      go true = refl
+      go false = refl
+
+  -- a test and a row that the code computed from a row like x
+  pub chosen : (f : A → List ℕ) {t : Bool} {r : List ℕ} {w x : A} → t ≡ p w → r ≡ f w → w ≡ x → cond t (r ∷ []) [] ≡ cond (p x) (f x ∷ []) []
+  chosen f {t} {r} {w} {x} e g h =
+      ap (λ b. cond b (r ∷ []) []) e ∙ ap (λ v. cond (p w) (v ∷ []) []) g ∙ ap (λ v. cond (p v) (f v ∷ []) []) h

@@ -1,0 +1,8 @@
+-- Facts about sets of rows.
+pub mod Order
+pub mod Saturation
+pub mod Ascending
+pub mod Places
+pub mod Runs
+pub mod Adding
+pub mod Growing

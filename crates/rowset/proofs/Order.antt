@@ -1,0 +1,35 @@
+-- What the laws of the rows' order say of two rows told apart: nothing here looks into the order itself.
+use Prim.Native.Nat.{ℕ}
+use mathlib.Core.Path.{_≡_, sym, _∙_}
+use mathlib.Core.Bool.{true, false, true≢false}
+use mathlib.Core.List.{List}
+use lib.ListN.{length}
+use Rattle.meaning.specs.Lists.{sameRow}
+use Rattle.meaning.specs.Order.{before}
+use Rattle.meaning.proofs.Points.{Tested, passed, failed, tested}
+use Rattle.meaning.proofs.Rows.{before-irreflexive, before-transitive, before-total, before-apart, same-row}
+
+pub asymmetric : (x y : List ℕ) → before x y ≡ true → before y x ≡ false
+asymmetric x y e = go (tested (before y x))
+  where
+    go : Tested (before y x) → before y x ≡ false
+    go (passed d) = absurd (true≢false (sym (before-transitive x y x e d) ∙ before-irreflexive x))
+    go (failed d) = d
+
+pub total : (x y : List ℕ) → length x ≡ length y → before x y ≡ false → before y x ≡ false → sameRow x y ≡ true
+total x y n p q = same-row x y .1 (before-total x y n p q)
+
+-- rows that aren't equal aren't the same
+pub apart : (x y : List ℕ) → (x ≡ y → ⊥) → sameRow x y ≡ false
+apart x y d = go (tested (sameRow x y))
+  where
+    go : Tested (sameRow x y) → sameRow x y ≡ false
+    go (passed e) = absurd (d (same-row x y .0 e))
+    go (failed e) = e
+
+-- a row that stands before another isn't the same, either way round
+pub before-other : (x y : List ℕ) → before x y ≡ true → sameRow x y ≡ false
+before-other x y p = apart x y (before-apart x y p)
+
+pub after-other : (x y : List ℕ) → before y x ≡ true → sameRow x y ≡ false
+after-other x y p = apart x y (λ e. before-apart y x p (sym e))

@@ -1,0 +1,84 @@
+-- A set that takes rows up to 33: rows put in one list after another, and when it is the whole set.
+use Prim.Native.Nat.{ℕ, suc, _≤_, _<_}
+use mathlib.Core.Path.{_≡_, refl, ap, _∙_}
+use mathlib.Core.Bool.{Bool, true, false, cond}
+use mathlib.Core.List.{List, [], _∷_, _++_}
+use native.Mathlib.Omega.{arith}
+use lib.ListN.{length}
+use lib.Dec.{ltb}
+use borrow.Author.Tests.{ltb-true, ltb-false, lt-ltb, le-ltb}
+use Rattle.meaning.specs.Order.{before}
+use Rattle.meaning.specs.Evaluator.{insert, insertAll, setOf}
+use Rattle.meaning.proofs.Points.{Tested, passed, failed, tested}
+use Rattle.rowset.specs.Rows.{mostHeld, addCapped, addAllCapped}
+
+pub addAll-append : (set xs ys : List (List ℕ)) → addAllCapped set (xs ++ ys) ≡ addAllCapped (addAllCapped set xs) ys
+addAll-append set [] ys = refl
+addAll-append set (x ∷ xs) ys = addAll-append (addCapped set x) xs ys
+
+-- a set with room, and a full one
+pub with-room : (set : List (List ℕ)) (r : List ℕ) → length set < mostHeld → addCapped set r ≡ insert r set
+with-room set r l = ap (λ t. cond t (insert r set) set) (lt-ltb (length set) mostHeld l)
+
+pub when-full : (set : List (List ℕ)) (r : List ℕ) → mostHeld ≤ length set → addCapped set r ≡ set
+when-full set r l = ap (λ t. cond t (insert r set) set) (le-ltb (length set) mostHeld l)
+
+pub full-stays : (set rows : List (List ℕ)) → mostHeld ≤ length set → addAllCapped set rows ≡ set
+full-stays set [] l = refl
+full-stays set (r ∷ rows) l = ap (λ s. addAllCapped s rows) (when-full set r l) ∙ full-stays set rows l
+
+-- a row more lengthens a set by one at most, and never shortens it
+pub insert-longer : (r : List ℕ) (set : List (List ℕ)) → length set ≤ length (insert r set)
+insert-longer r [] = omega arith
+insert-longer r (s ∷ set) = go (before r s) (before s r) (insert-longer r set)
+  where
+    go : (p q : Bool) → length set ≤ length (insert r set) → length (s ∷ set) ≤ length (cond p (r ∷ s ∷ set) (cond q (s ∷ insert r set) (s ∷ set)))
+    go true q h = omega arith
+    go false true h = omega arith
+    go false false h = omega arith
+
+pub insert-by-one : (r : List ℕ) (set : List (List ℕ)) → length (insert r set) ≤ suc (length set)
+insert-by-one r [] = omega arith
+insert-by-one r (s ∷ set) = go (before r s) (before s r) (insert-by-one r set)
+  where
+    go : (p q : Bool) → length (insert r set) ≤ suc (length set) → length (cond p (r ∷ s ∷ set) (cond q (s ∷ insert r set) (s ∷ set))) ≤ suc (length (s ∷ set))
+    go true q h = omega arith
+    go false true h = omega arith
+    go false false h = omega arith
+
+pub insertAll-longer : (set rows : List (List ℕ)) → length set ≤ length (insertAll set rows)
+insertAll-longer set [] = omega arith
+insertAll-longer set (r ∷ rows) =
+    let h = insert-longer r set in
+    let k = insertAll-longer (insert r set) rows in
+    omega arith
+
+exact-from : (set rows : List (List ℕ)) → length (insertAll set rows) < mostHeld → addAllCapped set rows ≡ insertAll set rows
+exact-from set [] l = refl
+exact-from set (r ∷ rows) l =
+    let h = insert-longer r set in
+    let k = insertAll-longer (insert r set) rows in
+    ap (λ s. addAllCapped s rows) (with-room set r (omega arith)) ∙ exact-from (insert r set) rows l
+
+full-from : (set rows : List (List ℕ)) → length set ≤ mostHeld → mostHeld ≤ length (insertAll set rows) → length (addAllCapped set rows) ≡ mostHeld
+full-from set [] l m = omega arith
+full-from set (r ∷ rows) l m = go (tested (ltb (length set) mostHeld)) (full-from (insert r set) rows)
+  where
+    go : Tested (ltb (length set) mostHeld)
+        → (length (insert r set) ≤ mostHeld → mostHeld ≤ length (insertAll (insert r set) rows) → length (addAllCapped (insert r set) rows) ≡ mostHeld)
+        → length (addAllCapped (addCapped set r) rows) ≡ mostHeld
+    go (passed p) rest =
+        let q = ltb-true (length set) mostHeld p in
+        let h = insert-by-one r set in
+        ap (λ s. length (addAllCapped s rows)) (with-room set r q) ∙ rest (omega arith) m
+    go (failed p) rest =
+        let q = ltb-false (length set) mostHeld p in
+        let e : length set ≡ mostHeld = omega arith in
+        ap length (full-stays set (r ∷ rows) q) ∙ e
+
+-- the set is whole where it has at most 32 rows, and shows 33 where it has more
+pub whole : (rows : List (List ℕ)) → length (setOf rows) ≤ 32 → addAllCapped [] rows ≡ setOf rows
+whole rows l = exact-from [] rows (omega arith)
+
+pub crowded : (rows : List (List ℕ)) → 32 < length (setOf rows) → length (addAllCapped [] rows) ≡ 33
+crowded rows l = full-from [] rows (omega arith) (omega arith)

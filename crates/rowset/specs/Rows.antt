@@ -1,0 +1,46 @@
+-- Sets of valuations as they stand in words: rows of four words, looked up and put in up to a limit.
+use Prim.Native.Nat.{ℕ, suc, _+_, _*_}
+use mathlib.Core.Bool.{Bool, false, cond}
+use mathlib.Core.List.{List, [], _∷_, map}
+use lib.ListN.{length, getD, set}
+use lib.Dec.{ltb}
+use Rattle.meaning.specs.Lists.{range, sameRow}
+use Rattle.meaning.specs.Order.{before}
+use Rattle.meaning.specs.Evaluator.{insert}
+use Rattle.rowset.specs.declared.Row.{Row}
+
+abbrev pub wordsOf : Row → List ℕ
+wordsOf r = r .v0 ∷ r .v1 ∷ r .v2 ∷ r .v3 ∷ []
+
+-- row k of a run of words, four to a row
+abbrev pub rowAt : List ℕ → ℕ → List ℕ
+rowAt ws k = getD ws (k * 4) 0 ∷ getD ws (k * 4 + 1) 0 ∷ getD ws (k * 4 + 2) 0 ∷ getD ws (k * 4 + 3) 0 ∷ []
+
+-- the words with the four of row k replaced
+unfoldable pub setRow : List ℕ → ℕ → Row → List ℕ
+setRow ws k r = set (set (set (set ws (k * 4) (r .v0)) (k * 4 + 1) (r .v1)) (k * 4 + 2) (r .v2)) (k * 4 + 3) (r .v3)
+
+-- as many rows as count says, from row from on
+unfoldable pub rowsFrom : List ℕ → ℕ → ℕ → List (List ℕ)
+rowsFrom ws from count = map (rowAt ws) (range from count)
+
+-- looking for a row stops at the first that isn't before it
+abbrev pub lookUp : List ℕ → List (List ℕ) → Bool
+lookUp r [] = false
+lookUp r (s ∷ rows) = cond (before s r) (lookUp r rows) (sameRow r s)
+
+-- how many rows at the front stand before a row
+abbrev pub placeOf : List ℕ → List (List ℕ) → ℕ
+placeOf r [] = 0
+placeOf r (s ∷ rows) = cond (before s r) (suc (placeOf r rows)) 0
+
+-- a set takes rows up to 33: one more than a node may have, so that too many shows
+abbrev pub mostHeld : ℕ
+mostHeld = 33
+
+abbrev pub addCapped : List (List ℕ) → List ℕ → List (List ℕ)
+addCapped set r = cond (ltb (length set) mostHeld) (insert r set) set
+
+abbrev pub addAllCapped : List (List ℕ) → List (List ℕ) → List (List ℕ)
+addAllCapped set [] = set
+addAllCapped set (r ∷ rows) = addAllCapped (addCapped set r) rows

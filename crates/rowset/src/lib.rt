@@ -1,0 +1,166 @@
+// Sets of valuations as rows of four words in lent slices.
+ghost use mathlib.Core.Path.{_≡_};
+ghost use mathlib.Core.Bool.{_&&_, _||_, not, cond};
+ghost use mathlib.Core.List.{[], _∷_, _++_};
+ghost use Prim.Native.Nat.{_+_, _-_, _*_, _≤_, _<_};
+ghost use lib.ListN.{length};
+ghost use lib.Dec.{ltb, eqb};
+ghost use Rattle.meaning.specs.Lists.{sameRow};
+ghost use Rattle.meaning.specs.Order.{before};
+ghost use Rattle.rowset.specs.Rows.{wordsOf, rowAt, setRow, rowsFrom, lookUp, placeOf};
+ghost use Rattle.rowset.specs.Sets.{Run, Room, Added};
+
+// A valuation: the values of variables 0 to 3, 0 where one isn't free.
+pub struct Row {
+    pub v0: u32,
+    pub v1: u32,
+    pub v2: u32,
+    pub v3: u32,
+}
+
+// Row k of the words.
+pub fn row_at(ws: &[u32], k: usize) -> Row
+    requires { ⌜ k * 4 + 4 ≤ length (now ws) ⌝ }
+    ensures { λ r. ⌜ wordsOf r ≡ rowAt (now (ws .entry)) k ⌝ }
+{
+    Row {
+        v0: ws[k * 4],
+        v1: ws[k * 4 + 1],
+        v2: ws[k * 4 + 2],
+        v3: ws[k * 4 + 3],
+    }
+}
+
+// Puts a row in place of row k.
+pub fn put_row(ws: &mut [u32], k: usize, r: Row)
+    requires { ⌜ k * 4 + 4 ≤ length (now ws) ⌝ }
+    ensures { λ _. ⌜ now (ws .exit) ≡ setRow (now (ws .entry)) k r ⌝ }
+{
+    ws[k * 4] = r.v0;
+    ws[k * 4 + 1] = r.v1;
+    ws[k * 4 + 2] = r.v2;
+    ws[k * 4 + 3] = r.v3;
+}
+
+// The first word is less, or the words are equal and the rest stands before.
+fn word_before(a: u32, b: u32, rest: bool) -> bool
+    ensures { λ t. ⌜ t ≡ (ltb a b || (eqb a b && rest)) ⌝ }
+{
+    if a < b {
+        return true;
+    }
+    if a == b {
+        return rest;
+    }
+    false
+}
+
+// The order of rows.
+pub fn is_before(x: Row, y: Row) -> bool
+    ensures { λ t. ⌜ t ≡ before (wordsOf x) (wordsOf y) ⌝ }
+{
+    let last = word_before(x.v3, y.v3, false);
+    let third = word_before(x.v2, y.v2, last);
+    let second = word_before(x.v1, y.v1, third);
+    word_before(x.v0, y.v0, second)
+}
+
+// The words are equal, and the rest is the same.
+fn word_same(a: u32, b: u32, rest: bool) -> bool
+    ensures { λ t. ⌜ t ≡ (eqb a b && rest) ⌝ }
+{
+    if a == b {
+        return rest;
+    }
+    false
+}
+
+pub fn same_row(x: Row, y: Row) -> bool
+    ensures { λ t. ⌜ t ≡ sameRow (wordsOf x) (wordsOf y) ⌝ }
+{
+    let last = word_same(x.v3, y.v3, true);
+    let third = word_same(x.v2, y.v2, last);
+    let second = word_same(x.v1, y.v1, third);
+    word_same(x.v0, y.v0, second)
+}
+
+// The number of the first row of the run that isn't before r, or the run's end.
+pub fn place(ws: &[u32], from: usize, to: usize, r: Row) -> usize
+    requires { ⌜ Run (now ws) from to ⌝ }
+    ensures { λ p. ⌜ p ≡ from + placeOf (wordsOf r) (rowsFrom (now (ws .entry)) from (to - from)) ⌝ }
+{
+    let mut i = from;
+    while i < to {
+        if !is_before(row_at(ws, i), r) {
+            return i;
+        }
+        i += 1;
+    }
+    i
+}
+
+// The row is in the run: looking for it stops at the first row that isn't before it.
+pub fn contains(ws: &[u32], from: usize, to: usize, r: Row) -> bool
+    requires { ⌜ Run (now ws) from to ⌝ }
+    ensures { λ t. ⌜ t ≡ lookUp (wordsOf r) (rowsFrom (now (ws .entry)) from (to - from)) ⌝ }
+{
+    let p = place(ws, from, to, r);
+    if p < to {
+        return same_row(r, row_at(ws, p));
+    }
+    false
+}
+
+// Row p is one of the first n, and doesn't stand after r.
+fn stands(ws: &[u32], n: usize, p: usize, r: Row) -> bool
+    requires { ⌜ n * 4 ≤ length (now ws) ⌝ }
+    ensures { λ t. ⌜ t ≡ (ltb p n && not (before (wordsOf r) (rowAt (now (ws .entry)) p))) ⌝ }
+{
+    if p < n {
+        return !is_before(r, row_at(ws, p));
+    }
+    false
+}
+
+// Puts r at row p, with the rows from there to row n moved up by one.
+fn put_in(out: &mut [u32], n: usize, p: usize, r: Row)
+    requires { ⌜ (p ≤ n) × (n * 4 + 4 ≤ length (now out)) ⌝ }
+    ensures { λ _. ⌜ rowsFrom (now (out .exit)) 0 (n + 1) ≡ rowsFrom (now (out .entry)) 0 p ++ wordsOf r ∷ rowsFrom (now (out .entry)) p (n - p) ⌝ }
+{
+    let mut held = r;
+    let mut i = p;
+    while i < n {
+        let next = row_at(out, i);
+        put_row(out, i, held);
+        held = next;
+        i += 1;
+    }
+    put_row(out, n, held);
+}
+
+// Puts a row into a set of n rows, unless it is there or the set is full; the number of rows then.
+pub fn add(out: &mut [u32], n: usize, r: Row) -> usize
+    requires { ⌜ Room (now out) n ⌝ }
+    ensures { λ k. ⌜ Added (now (out .entry)) n (now (out .exit)) k (wordsOf r ∷ []) ⌝ }
+{
+    if n < 33 {
+        let p = place(out, 0, n, r);
+        if stands(out, n, p, r) {
+            return n;
+        }
+        put_in(out, n, p, r);
+        return n + 1;
+    }
+    n
+}
+
+// Puts a row into a set where the test passed.
+pub fn add_if(ok: bool, out: &mut [u32], n: usize, r: Row) -> usize
+    requires { ⌜ Room (now out) n ⌝ }
+    ensures { λ k. ⌜ Added (now (out .entry)) n (now (out .exit)) k (cond ok (wordsOf r ∷ []) []) ⌝ }
+{
+    if ok {
+        return add(out, n, r);
+    }
+    n
+}
