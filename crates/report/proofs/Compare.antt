@@ -1,74 +1,49 @@
--- Two rows compared word by word: as long as the words passed are equal, what is left to compare decides. The only file that looks into `before`.
-use Prim.Native.Nat.{ℕ, suc, _+_, _-_, _≤_, _<_}
-use native.Mathlib.Nat.{le-antisymm}
+-- Rows of at most four words stand in the order of the rows that zeros make of them; the one file here that looks into `before`.
+use Prim.Native.Nat.{ℕ, suc, _+_, _≤_, _<_}
 use native.Mathlib.Omega.{arith}
-use mathlib.Core.Bool.{true, false}
+use mathlib.Core.Bool.{Bool, true, false}
 use mathlib.Core.List.{List, [], _∷_}
-use mathlib.Core.Path.{_≡_, refl, sym, _∙_}
-use lib.ListN.{length, getD, take, drop}
-use lib.Seq.{drop-cons}
-use borrow.Author.Tests.{lt-ltb, le-ltb, eq-eqb, ne-eqb}
+use mathlib.Core.Path.{_≡_, refl, sym, _∙_, ap, ap₂}
+use lib.ListN.{length, getD, take, drop, length-drop, List·getD-eq-default}
+use lib.Seq.{getD-take, getD-drop, length-take-le}
 use Rattle.meaning.specs.Order.{before}
-
--- ---- the three cases of the first words
-
-first-less : (x y : ℕ) (xs ys : List ℕ) → x < y → before (x ∷ xs) (y ∷ ys) ≡ true
-first-less x y xs ys h = rw (lt-ltb x y h)
-
-first-greater : (x y : ℕ) (xs ys : List ℕ) → y < x → before (x ∷ xs) (y ∷ ys) ≡ false
-first-greater x y xs ys h = rw (le-ltb x y (omega arith), ne-eqb x y (λ e. omega arith))
-
-first-equal : (x y : ℕ) (xs ys : List ℕ) → x ≤ y → y ≤ x → before (x ∷ xs) (y ∷ ys) ≡ before xs ys
-first-equal x y xs ys h k = rw (le-ltb x y k, eq-eqb x y (le-antisymm h k))
+use Rattle.report.specs.Form.{four}
 
 -- a row of no words stands before none
 pub none-before : (ys : List ℕ) → before [] ys ≡ false
 none-before ys = refl
 
--- ---- the loop
+pub four-before : (xs ys : List ℕ) → length xs ≡ length ys → length xs ≤ 4 → before (four xs) (four ys) ≡ before xs ys
+four-before [] [] e h = refl
+four-before [] (y ∷ ys) e h = absurd (omega arith)
+four-before (x ∷ xs) [] e h = absurd (omega arith)
+four-before (x ∷ []) (y ∷ []) e h = refl
+four-before (x ∷ []) (y ∷ z ∷ ys) e h = absurd (omega arith)
+four-before (x ∷ z ∷ xs) (y ∷ []) e h = absurd (omega arith)
+four-before (x ∷ a ∷ []) (y ∷ b ∷ []) e h = refl
+four-before (x ∷ a ∷ []) (y ∷ b ∷ c ∷ ys) e h = absurd (omega arith)
+four-before (x ∷ a ∷ c ∷ xs) (y ∷ b ∷ []) e h = absurd (omega arith)
+four-before (x ∷ a ∷ c ∷ []) (y ∷ b ∷ d ∷ []) e h = refl
+four-before (x ∷ a ∷ c ∷ []) (y ∷ b ∷ d ∷ u ∷ ys) e h = absurd (omega arith)
+four-before (x ∷ a ∷ c ∷ u ∷ xs) (y ∷ b ∷ d ∷ []) e h = absurd (omega arith)
+four-before (x ∷ a ∷ c ∷ u ∷ []) (y ∷ b ∷ d ∷ v ∷ []) e h = refl
+four-before (x ∷ a ∷ c ∷ u ∷ []) (y ∷ b ∷ d ∷ v ∷ w ∷ ys) e h = absurd (omega arith)
+four-before (x ∷ a ∷ c ∷ u ∷ w ∷ xs) (y ∷ b ∷ d ∷ v ∷ ys) e h = absurd (omega arith)
 
--- what is left of a row of n words at i, once c of them are passed
-abbrev pub rest : List ℕ → ℕ → ℕ → ℕ → List ℕ
-rest w i n c = take (n - c) (drop (i + c) w)
+-- the length of a row that lies within the words
+pub row-length : (w : List ℕ) (i n : ℕ) → i + n ≤ length w → length (take n (drop i w)) ≡ n
+row-length w i n h = length-take-le n (drop i w) (simp length-drop (omega arith))
 
-rest-none : (w : List ℕ) (i n : ℕ) → rest w i n 0 ≡ take n (drop i w)
-rest-none w i n =
-    let e : n - 0 ≡ n = omega arith in
-    let d : i + 0 ≡ i = omega arith in
-    rw (e, d)
+-- two such rows
+pub rows-before : (w : List ℕ) (i j n : ℕ) → i + n ≤ length w → j + n ≤ length w → n ≤ 4 → {x y : List ℕ} → x ≡ four (take n (drop i w)) → y ≡ four (take n (drop j w)) → {r : Bool} → r ≡ before x y → r ≡ before (take n (drop i w)) (take n (drop j w))
+rows-before w i j n a b c p q e =
+    let u : length (take n (drop i w)) ≡ n = row-length w i n a in
+    let v : length (take n (drop j w)) ≡ n = row-length w j n b in
+    e ∙ ap₂ before p q ∙ four-before (take n (drop i w)) (take n (drop j w)) (u ∙ sym v) (omega arith)
 
-rest-all : (w : List ℕ) (i n c : ℕ) → n ≤ c → rest w i n c ≡ []
-rest-all w i n c h =
-    let e : n - c ≡ 0 = omega arith in
-    rw e
+-- a word of a row, and past its end
+pub word-in : (w : List ℕ) (i n c : ℕ) → c < n → getD w (i + c) 0 ≡ getD (take n (drop i w)) c 0
+word-in w i n c h = sym (getD-take n (drop i w) c 0 h ∙ getD-drop i w c 0)
 
-rest-next : (w : List ℕ) (i n c : ℕ) → i + n ≤ length w → c < n → rest w i n c ≡ getD w (i + c) 0 ∷ rest w i n (c + 1)
-rest-next w i n c room h =
-    let e : n - c ≡ suc (n - (c + 1)) = omega arith in
-    let d : i + (c + 1) ≡ suc (i + c) = omega arith in
-    let l : i + c < length w = omega arith in
-    rw (e, d, drop-cons w (i + c) 0 l)
-
--- the first c words of the two rows are equal
-pub record Tied (w : List ℕ) (i j n c : ℕ) : Type 0 where
-  pub within : c ≤ n
-  pub same : before (take n (drop i w)) (take n (drop j w)) ≡ before (rest w i n c) (rest w j n c)
-
-pub tied-none : (w : List ℕ) (i j n : ℕ) → Tied w i j n 0
-tied-none w i j n = record { within = omega arith; same = rw (rest-none w i n, rest-none w j n) }
-
-pub tied-all : {w : List ℕ} {i j n c : ℕ} → Tied w i j n c → n ≤ c → false ≡ before (take n (drop i w)) (take n (drop j w))
-tied-all {w} {i} {j} {n} {c} t h = sym (t .same ∙ rw (rest-all w i n c h))
-
-module _ {w : List ℕ} {i j n c : ℕ} (t : Tied w i j n c) (ri : i + n ≤ length w) (rj : j + n ≤ length w) (h : c < n) where
-  opened : before (take n (drop i w)) (take n (drop j w)) ≡ before (getD w (i + c) 0 ∷ rest w i n (c + 1)) (getD w (j + c) 0 ∷ rest w j n (c + 1))
-  opened = t .same ∙ rw (rest-next w i n c ri h, rest-next w j n c rj h)
-
-  pub tied-less : getD w (i + c) 0 < getD w (j + c) 0 → true ≡ before (take n (drop i w)) (take n (drop j w))
-  tied-less l = sym (opened ∙ first-less (getD w (i + c) 0) (getD w (j + c) 0) (rest w i n (c + 1)) (rest w j n (c + 1)) l)
-
-  pub tied-greater : getD w (j + c) 0 < getD w (i + c) 0 → false ≡ before (take n (drop i w)) (take n (drop j w))
-  tied-greater l = sym (opened ∙ first-greater (getD w (i + c) 0) (getD w (j + c) 0) (rest w i n (c + 1)) (rest w j n (c + 1)) l)
-
-  pub tied-more : getD w (j + c) 0 ≤ getD w (i + c) 0 → getD w (i + c) 0 ≤ getD w (j + c) 0 → Tied w i j n (c + 1)
-  tied-more k l = record { within = omega arith; same = opened ∙ first-equal (getD w (i + c) 0) (getD w (j + c) 0) (rest w i n (c + 1)) (rest w j n (c + 1)) l k }
+pub word-past : (w : List ℕ) (i n c : ℕ) → i + n ≤ length w → n ≤ c → 0 ≡ getD (take n (drop i w)) c 0
+word-past w i n c a h = let u : length (take n (drop i w)) ≡ n = row-length w i n a in sym (List·getD-eq-default (take n (drop i w)) 0 (omega arith))

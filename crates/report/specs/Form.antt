@@ -12,6 +12,10 @@ abbrev pub rowsFrom : List ℕ → ℕ → ℕ → ℕ → ℕ → List (List �
 rowsFrom words at stride width zero = []
 rowsFrom words at stride width (suc count) = take width (drop at words) ∷ rowsFrom words (at + stride) stride width count
 
+-- a row of at most four words, made up to four with zeros
+abbrev pub four : List ℕ → List ℕ
+four row = getD row 0 0 ∷ getD row 1 0 ∷ getD row 2 0 ∷ getD row 3 0 ∷ []
+
 -- a word of the report, which is below 2 to the 32
 pub record WordAt (r : List ℕ) (i word : ℕ) : Type 0 where
   pub is : word ≡ getD r i 0

@@ -1,15 +1,17 @@
 // "Read rows": the row count and the rows of one entry of a report, from words of which nothing is assumed.
+use rowset::Row;
 ghost use mathlib.Core.Path.{_≡_};
 ghost use mathlib.Core.Bool.{_&&_};
 ghost use mathlib.Core.List.{[], _∷_, map};
 ghost use Prim.Native.Nat.{_+_, _*_, _≤_, _<_};
-ghost use lib.ListN.{length, take, drop};
+ghost use lib.ListN.{length, getD, take, drop};
 ghost use lib.Dec.{ltb, eqb};
 ghost use Rattle.meaning.specs.Lists.{all, range};
 ghost use Rattle.meaning.specs.Order.{before, ascending};
 ghost use Rattle.meaning.specs.Report.{pointsIn, freeIn, totalIn, pointIn, countIn, rowsBefore, rowsIn, inForm, readCount, readRows};
 ghost use Rattle.report.specs.Answer.{answerOf, partOf};
-ghost use Rattle.report.specs.Form.{rowsFrom, WordAt, sizesFit, Sized, Summed, Sum};
+ghost use Rattle.rowset.specs.Rows.{wordsOf};
+ghost use Rattle.report.specs.Form.{four, rowsFrom, WordAt, sizesFit, Sized, Summed, Sum};
 
 // What reading the row count of an entry answers. Refused is 01's number 17, place 0.
 pub enum Counted {
@@ -23,30 +25,39 @@ pub struct Part {
     pub len: usize,
 }
 
-// Whether the row of `width` words at `i` stands before the row at `j`. This is the one place where rows are compared.
-pub fn row_before(words: &[u32], i: usize, j: usize, width: usize) -> bool
-    requires { ⌜ (i + width ≤ length (now words)) × (j + width ≤ length (now words)) ⌝ }
+// Word `c` of the row of `width` words at `i`, 0 past its end.
+fn word_of(words: &[u32], i: usize, width: usize, c: usize) -> u32
+    requires { ⌜ i + width ≤ length (now words) ⌝ }
+    ensures { λ r. ⌜ r ≡ getD (take width (drop i (now (words .entry)))) c 0 ⌝ }
+{
+    if c < width { words[i + c] } else { 0 }
+}
+
+// The row of `width` words at `i`, made up to four with zeros.
+fn row_of(words: &[u32], i: usize, width: usize) -> Row
+    requires { ⌜ i + width ≤ length (now words) ⌝ }
+    ensures { λ r. ⌜ wordsOf r ≡ four (take width (drop i (now (words .entry)))) ⌝ }
+{
+    Row {
+        v0: word_of(words, i, width, 0),
+        v1: word_of(words, i, width, 1),
+        v2: word_of(words, i, width, 2),
+        v3: word_of(words, i, width, 3),
+    }
+}
+
+// Whether the row of `width` words at `i` stands before the row at `j`: rows are compared in one place, that of the sets of valuations.
+fn row_before(words: &[u32], i: usize, j: usize, width: usize) -> bool
+    requires { ⌜ (i + width ≤ length (now words)) × (j + width ≤ length (now words)) × (width ≤ 4) ⌝ }
     ensures { λ r. ⌜ r ≡ before (take width (drop i (now (words .entry)))) (take width (drop j (now (words .entry)))) ⌝ }
 {
-    let mut c = 0;
-    while c < width {
-        let x = words[i + c];
-        let y = words[j + c];
-        if x < y {
-            return true;
-        }
-        if y < x {
-            return false;
-        }
-        c += 1;
-    }
-    false
+    rowset::is_before(row_of(words, i, width), row_of(words, j, width))
 }
 
 // Whether `count` rows of `width` words, `stride` words apart, ascend. Rows of no words are refused at the first pair, so that no
 // count, however large, is counted out.
 fn run_ascends(words: &[u32], start: usize, stride: usize, width: usize, count: usize) -> bool
-    requires { ⌜ (width ≤ stride) × (start + stride * count ≤ length (now words)) ⌝ }
+    requires { ⌜ (width ≤ stride) × (width ≤ 4) × (start + stride * count ≤ length (now words)) ⌝ }
     ensures { λ r. ⌜ r ≡ ascending (rowsFrom (now (words .entry)) start stride width count) ⌝ }
 {
     let mut at = start;

@@ -43,7 +43,7 @@ word-requires-3 : tie.Need-word-requires-3 Inv-loop μ-loop
 word-requires-3 c κs = search needs
 
 run-ascends-requires : tie.Need-run-ascends-requires Inv-loop μ-loop
-run-ascends-requires c κs = (search needs, entry-room (c .before .before .loop .inv) (omega arith) (c .before .before .before .word2 .ensures .is) (c .word3 .ensures .is) (c .before .before .before .before .before .before .pre))
+run-ascends-requires c κs = (search needs, search needs, entry-room (c .before .before .loop .inv) (omega arith) (c .before .before .before .word2 .ensures .is) (c .word3 .ensures .is) (c .before .before .before .before .before .before .pre))
 
 returns : tie.Need-returns Inv-loop μ-loop
 returns c = passed-broken (c .before .before .before .before .loop .inv) (omega arith) (c .before .before .before .before .before .word2 .ensures .is) (c .before .before .word3 .ensures .is) (c .before .run-ascends .ensures) (not-true _ (c .if1 .taken))

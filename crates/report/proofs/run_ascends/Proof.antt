@@ -26,7 +26,7 @@ add-next : tie.Need-add-next Inv-loop μ-loop
 add-next c = omega (arith, two-fit c)
 
 row-before-requires : tie.Need-row-before-requires Inv-loop μ-loop
-row-before-requires c κs = (omega (arith, two-fit c), two-fit c)
+row-before-requires c κs = (omega (arith, two-fit c), two-fit c, search needs)
 
 returns : tie.Need-returns Inv-loop μ-loop
 returns c = rising-broken (c .before .before .before .loop .inv) (omega arith) (c .before .row-before .ensures) (not-true _ (c .if1 .taken))
