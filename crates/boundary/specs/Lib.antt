@@ -1,2 +1,3 @@
 -- What the exported functions give, in plain numbers.
+pub mod Parts
 pub mod Exported

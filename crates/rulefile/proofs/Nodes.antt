@@ -1,0 +1,134 @@
+-- The nodes weighed one by one, lowest first: what holds after the first x of them, and that a refusal on the way, or none, is what "Check a rule" says.
+use Prim.Native.Nat.{ℕ, _+_, _-_, _<_, _≤_}
+use native.Mathlib.Omega.{arith}
+use mathlib.Core.Path.{_≡_, refl, sym, ap, _∙_}
+use mathlib.Core.Bool.{Bool, true, false, not}
+use mathlib.Core.List.{List, List·Memᴰ}
+use lib.ListN.{length, getD, set}
+use lib.Seq.{getD-set-same, getD-set-other}
+use borrow.Author.Count.{below-more}
+use Rattle.meaning.specs.Lists.{range}
+use Rattle.meaning.specs.Outcome.{Outcome, when, misshapen, windowOut, freeBroken}
+use Rattle.meaning.specs.Formula.{free, freeFits}
+use Rattle.meaning.specs.RuleFile.{Accepted as Answer, nodeCount, arity, headAt, bodyAt, bodies, nodeOf, nodeAt, childrenOf, formulaAt, shapeFits, rangeFits, maskOf, weighNode, weighNodes}
+use Rattle.meaning.specs.declared.Head.{Head}
+use Rattle.meaning.specs.declared.Body.{Body}
+use Rattle.meaning.specs.declared.Node.{Node}
+use Rattle.meaning.proofs.Tree.{ChildrenLower, formula-step}
+use Rattle.ruleshape.specs.Sound.{NodeFits, NodeSound}
+use Rattle.ruleshape.proofs.Sound.{node-sound}
+use Rattle.rulefree.specs.Mask.{nodeMask, nodeFits}
+use Rattle.rulefree.proofs.Free.{mask-right, fits-right}
+use Rattle.rulefile.specs.declared.Checked.{Checked}
+use Rattle.rulefile.specs.declared.Weighed.{Weighed}
+use Rattle.rulefile.specs.declared.Weighed.the-variants.{Free, Refused}
+use Rattle.rulefile.specs.Checked.{answerOf}
+use Rattle.rulefile.specs.Weighing.{weighedBy, weighing, NodesPass}
+use Rattle.rulefile.proofs.Ranges.{range-first}
+
+-- the first x nodes pass, their masks are in the list, and the rest are still to be weighed
+pub record WeighedTo (b masks : List ℕ) (x : ℕ) : Type 0 where
+  pub each : (y : ℕ) → y < x → NodeFits b y
+  pub known : (y : ℕ) → y < x → getD masks y 0 ≡ maskOf (free (formulaAt b y))
+  pub passed : (rest : Outcome Answer) → weighNodes b (range 0 (nodeCount b)) rest ≡ weighNodes b (range x (nodeCount b - x)) rest
+
+-- what a weighed node answers, where `rest` follows it
+abbrev after : Weighed → Outcome Answer → Outcome Answer
+after (Free m) rest = rest
+after (Refused c) rest = answerOf c
+
+tests-answer : (s r f g : Bool) (x m : ℕ) (rest : Outcome Answer) → (s ≡ true → r ≡ true → f ≡ g)
+    → when (not s) misshapen x (when (not r) windowOut x (when (not g) freeBroken x rest)) ≡ after (weighedBy s r f x m) rest
+tests-answer true true f g x m rest h = ap (λ t. when (not t) freeBroken x rest) (sym (h refl refl)) ∙ go f
+  where
+    go : (t : Bool) → when (not t) freeBroken x rest ≡ after (weighedBy true true t x m) rest
+    go true = refl
+    go false = refl
+tests-answer true false f g x m rest h = refl
+tests-answer false r f g x m rest h = refl
+
+tests-pass : (s r f : Bool) (x m k : ℕ) → weighedBy s r f x m ≡ Free k → (s ≡ true) × (r ≡ true) × (k ≡ m)
+tests-pass true true true x m k e = (refl, refl, (cc))
+tests-pass true true false x m k e = absurd (let z : _≡_ {A = ℕ} 0 1 = cc in omega arith)
+tests-pass true false f x m k e = absurd (let z : _≡_ {A = ℕ} 0 1 = cc in omega arith)
+tests-pass false r f x m k e = absurd (let z : _≡_ {A = ℕ} 0 1 = cc in omega arith)
+
+-- a node weighed step by step, as code does
+pub weighed-from : (b : List ℕ) (x : ℕ) (masks : List ℕ) (h : Head) (w : Body) (a : ℕ) (n : Node) (s r f : Bool)
+    → h ≡ headAt b x → w ≡ bodyAt (bodies b) x → a ≡ arity b (h .left) → n ≡ nodeOf a h w
+    → s ≡ shapeFits b x h w → r ≡ rangeFits h w → f ≡ nodeFits masks n
+    → weighedBy s r f x (nodeMask masks n) ≡ weighing b x masks
+unfolding weighing nodeAt
+weighed-from b x masks h w a n s r f eh ew ea en es er ef = cc
+
+pub weighed-none : (b masks : List ℕ) → WeighedTo b masks 0
+weighed-none b masks = record {
+  each = λ y l. absurd (omega arith);
+  known = λ y l. absurd (omega arith);
+  passed = λ rest. let e : nodeCount b - 0 ≡ nodeCount b = omega arith in rw e;
+}
+
+-- nodes up to x that pass have lower children
+pub children-lower : (b : List ℕ) (x : ℕ) → ((y : ℕ) → y < x + 1 → NodeFits b y) → ChildrenLower b x
+children-lower b x each y l c m = node-sound b y (each y (omega arith)) .lower c m
+
+module _ (b masks : List ℕ) (x : ℕ) (w : WeighedTo b masks x) where
+  module _ (fits : NodeFits b x) where
+    sound : NodeSound x (nodeAt b x)
+    sound = node-sound b x fits
+
+    lower : ChildrenLower b x
+    lower = children-lower b x (below-more (NodeFits b) x (w .each) fits)
+
+    children-known : (c : ℕ) → List·Memᴰ c (childrenOf (nodeAt b x)) → getD masks c 0 ≡ maskOf (free (formulaAt b c))
+    children-known c m = w .known c (sound .lower c m)
+
+    node-free : nodeFits masks (nodeAt b x) ≡ freeFits (formulaAt b x)
+    node-free = fits-right masks (formulaAt b) (nodeAt b x) (sound .variables) children-known ∙ sym (ap freeFits (formula-step b x lower))
+
+    node-mask : nodeMask masks (nodeAt b x) ≡ maskOf (free (formulaAt b x))
+    node-mask = mask-right masks (formulaAt b) (nodeAt b x) children-known ∙ sym (ap (λ u. maskOf (free u)) (formula-step b x lower))
+
+  abbrev shape : Bool
+  shape = shapeFits b x (headAt b x) (bodyAt (bodies b) x)
+
+  abbrev window : Bool
+  window = rangeFits (headAt b x) (bodyAt (bodies b) x)
+
+  node-answers : (rest : Outcome Answer) → weighNode b x rest ≡ after (weighing b x masks) rest
+  unfolding weighNode weighing
+  node-answers rest =
+      tests-answer shape window (nodeFits masks (nodeAt b x)) (freeFits (formulaAt b x)) x (nodeMask masks (nodeAt b x)) rest
+      (λ s r. node-free (record { shape = s; range = r }))
+
+  -- the nodes from x on, with node x weighed
+  nodes-answer : x < nodeCount b → (v : Weighed) → weighing b x masks ≡ v → (rest : Outcome Answer)
+      → weighNodes b (range 0 (nodeCount b)) rest ≡ after v (weighNodes b (range (x + 1) (nodeCount b - (x + 1))) rest)
+  nodes-answer l v e rest =
+      w .passed rest ∙ ap (λ s. weighNodes b s rest) (range-first x (nodeCount b) l)
+      ∙ node-answers (weighNodes b (range (x + 1) (nodeCount b - (x + 1))) rest)
+      ∙ ap (λ u. after u (weighNodes b (range (x + 1) (nodeCount b - (x + 1))) rest)) e
+
+  pub node-refused : x < nodeCount b → (c : Checked) → weighing b x masks ≡ Refused c → (rest : Outcome Answer) → weighNodes b (range 0 (nodeCount b)) rest ≡ answerOf c
+  node-refused l c e = nodes-answer l (Refused c) e
+
+  pub weighed-more : x < nodeCount b → x < length masks → (m : ℕ) → weighing b x masks ≡ Free m → WeighedTo b (set masks x m) (x + 1)
+  unfolding weighing
+  weighed-more l room m e =
+      let t = tests-pass shape window (nodeFits masks (nodeAt b x)) x (nodeMask masks (nodeAt b x)) m e in
+      let fits : NodeFits b x = record { shape = t .0; range = t .1 } in
+      record {
+        each = below-more (NodeFits b) x (w .each) fits;
+        known = below-more (λ y. getD (set masks x m) y 0 ≡ maskOf (free (formulaAt b y))) x
+            (λ y k. getD-set-other masks x y m 0 (omega arith) ∙ w .known y k)
+            (getD-set-same masks x m 0 room ∙ t .2 ∙ node-mask fits);
+        passed = nodes-answer l (Free m) e;
+      }
+
+pub weighed-all : (b masks : List ℕ) (x : ℕ) → 1 ≤ nodeCount b → x ≡ nodeCount b → WeighedTo b masks x → NodesPass b masks (getD masks (nodeCount b - 1) 0)
+weighed-all b masks x some e w = record {
+  each = λ y l. w .each y (omega arith);
+  passed = λ rest. let z : nodeCount b - x ≡ 0 = omega arith in w .passed rest ∙ ap (λ k. weighNodes b (range x k) rest) z;
+  known = λ y l. w .known y (omega arith);
+  mask = w .known (nodeCount b - 1) (omega arith);
+}

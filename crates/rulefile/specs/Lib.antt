@@ -1,0 +1,3 @@
+-- What the contracts of this crate cite beside the definitions of `meaning`.
+pub mod Checked
+pub mod Weighing

@@ -1,0 +1,262 @@
+// Check a rule: whether bytes are a rule file, and its reach and free variables.
+use meaning::Node;
+use rulefree::node_fits;
+use rulefree::node_mask;
+use rulenodes::Children;
+use rulenodes::arity_at;
+use rulenodes::body_of;
+use rulenodes::children_of;
+use rulenodes::head_at;
+use rulenodes::node_at;
+use rulenodes::node_of;
+use ruleshape::range_fits;
+use ruleshape::shape_fits;
+ghost use mathlib.Core.Path.{_≡_};
+ghost use mathlib.Core.List.{[], _∷_, List·Memᴰ};
+ghost use Prim.Native.Nat.{ℕ, _+_, _≤_, _<_, max};
+ghost use lib.ListN.{length, getD};
+ghost use Rattle.meaning.specs.Lists.{range, occurrences};
+ghost use Rattle.meaning.specs.Formula.{free, reach};
+ghost use Rattle.meaning.specs.RuleFile.{nodeCount, arityFits, sizesFit, maskOf, pattern, formulaAt, timesChild, weighNodes, checking};
+ghost use Rattle.rulenodes.specs.Children.{childrenIn};
+ghost use Rattle.ruleshape.specs.Sound.{windowReach};
+ghost use Rattle.rulefile.specs.Checked.{answerOf};
+ghost use Rattle.rulefile.specs.Weighing.{Sized, AllFit, weighing, NodesWeighed, firstOf, FirstStray, afterNodes};
+
+// The answer: the reach and the mask of free variables, or the refusal, with its node where it has one.
+pub enum Checked {
+    Accepted(u32, u8),
+    Cut,
+    OtherVersion,
+    SizeOut,
+    Misshapen(u8),
+    WindowOut(u8),
+    FreeBroken(u8),
+    NotOneParent(u8),
+}
+
+// A node weighed, or all of them: the mask of free variables, or the refusal.
+pub enum Weighed {
+    Free(u8),
+    Refused(Checked),
+}
+
+// The first node that isn't a child exactly once.
+pub enum Stray {
+    At(u8),
+    Nowhere,
+}
+
+fn arity_fits(rule: &[u8], relation: u8) -> bool
+    requires { ⌜ 12 ≤ length (now rule) ⌝ }
+    ensures { λ r. ⌜ r ≡ arityFits (now (rule .entry)) relation ⌝ }
+{
+    let a = arity_at(rule, relation);
+    (a <= 4) & ((relation < rule[1]) | (a == 0))
+}
+
+fn sizes_fit(rule: &[u8]) -> bool
+    requires { ⌜ 12 ≤ length (now rule) ⌝ }
+    ensures { λ r. ⌜ r ≡ sizesFit (now (rule .entry)) ⌝ }
+{
+    let later = arity_fits(rule, 4)
+        & (arity_fits(rule, 5) & (arity_fits(rule, 6) & arity_fits(rule, 7)));
+    let arities = arity_fits(rule, 0)
+        & (arity_fits(rule, 1) & (arity_fits(rule, 2) & (arity_fits(rule, 3) & later)));
+    (1 <= rule[1]) & (rule[1] <= 8) & (1 <= rule[2]) & (rule[2] <= 32) & (rule[3] == 0) & arities
+}
+
+// Refusals 4, 5 and 6 of node x, with the masks of the nodes below it.
+fn weigh_node(rule: &[u8], x: u8, masks: &[u8]) -> Weighed
+    requires { ⌜ Sized (now rule) × (x < nodeCount (now rule)) ⌝ }
+    ensures { λ r. ⌜ r ≡ weighing (now (rule .entry)) x (now (masks .entry)) ⌝ }
+{
+    let h = head_at(rule, x);
+    let w = body_of(rule, x);
+    let node = node_of(arity_at(rule, h.left), h, w);
+    let shape = shape_fits(rule, x, h, w);
+    let window = range_fits(h, w);
+    let free = node_fits(masks, node);
+    if !shape {
+        return Weighed::Refused(Checked::Misshapen(x));
+    }
+    if !window {
+        return Weighed::Refused(Checked::WindowOut(x));
+    }
+    if !free {
+        return Weighed::Refused(Checked::FreeBroken(x));
+    }
+    Weighed::Free(node_mask(masks, node))
+}
+
+// All nodes, lowest first; where they pass, the lent bytes hold the mask of each.
+pub fn weigh_nodes(rule: &[u8], masks: &mut [u8]) -> Weighed
+    requires { ⌜ Sized (now rule) × (32 ≤ length (now masks)) ⌝ }
+    ensures { λ r. ⌜ NodesWeighed (now (rule .entry)) (now (masks .exit)) r ⌝ }
+{
+    let n = rule[2];
+    let mut x: u8 = 0;
+    while x < n {
+        let w = weigh_node(rule, x, masks);
+        let Weighed::Free(mask) = w else {
+            return w;
+        };
+        masks[x as usize] = mask;
+        x += 1;
+    }
+    let last = (n - 1) as usize;
+    Weighed::Free(masks[last])
+}
+
+// Counts a child.
+fn count_child(uses: &mut [u8], c: u8)
+    requires { ⌜ (c < length (now uses)) × (getD (now uses) c 0 < 255) ⌝ }
+    ensures { λ _. ⌜ ((y : ℕ) → getD (now (uses .exit)) y 0 ≡ getD (now (uses .entry)) y 0 + occurrences y (c ∷ [])) ⌝ }
+{
+    let at = c as usize;
+    uses[at] = uses[at] + 1;
+}
+
+// Counts a node's children.
+fn count_children(uses: &mut [u8], children: Children)
+    requires { ⌜ ((c : ℕ) → List·Memᴰ c (childrenIn children) → c < length (now uses)) × ((y : ℕ) → getD (now uses) y 0 < 254) ⌝ }
+    ensures { λ _. ⌜ ((y : ℕ) → getD (now (uses .exit)) y 0 ≡ getD (now (uses .entry)) y 0 + occurrences y (childrenIn children)) ⌝ }
+{
+    match children {
+        Children::None => {}
+        Children::One(a) => count_child(uses, a),
+        Children::Two(a, b) => {
+            count_child(uses, a);
+            count_child(uses, b);
+        }
+    }
+}
+
+// Counts how often each node is a child.
+fn count_uses(rule: &[u8], uses: &mut [u8])
+    requires { ⌜ AllFit (now rule) × (32 ≤ length (now uses)) × ((y : ℕ) → getD (now uses) y 0 ≡ 0) ⌝ }
+    ensures { λ _. ⌜ ((y : ℕ) → getD (now (uses .exit)) y 0 ≡ timesChild (now (rule .entry)) y) ⌝ }
+{
+    let n = rule[2];
+    let mut x: u8 = 0;
+    while x < n {
+        let children = children_of(node_at(rule, x));
+        count_children(uses, children);
+        x += 1;
+    }
+}
+
+// The stray node found so far; else node y, where its count isn't 1.
+fn first_of(found: Stray, count: u8, y: u8) -> Stray
+    ensures { λ r. ⌜ r ≡ firstOf found count y ⌝ }
+{
+    if count == 1 {
+        return found;
+    }
+    let Stray::At(first) = found else {
+        return Stray::At(y);
+    };
+    Stray::At(first)
+}
+
+// The lowest node below n that isn't a child exactly once.
+fn first_stray(uses: &[u8], n: u8) -> Stray
+    requires { ⌜ n ≤ length (now uses) ⌝ }
+    ensures { λ r. ⌜ FirstStray (now (uses .entry)) n r ⌝ }
+{
+    let mut found = Stray::Nowhere;
+    let mut y: u8 = 0;
+    while y < n {
+        found = first_of(found, uses[y as usize], y);
+        y += 1;
+    }
+    found
+}
+
+fn greater(a: u32, b: u32) -> u32
+    ensures { λ r. ⌜ r ≡ max a b ⌝ }
+{
+    if a < b { b } else { a }
+}
+
+// What a node adds to the greatest reach of its children.
+fn window_reach(node: Node) -> u32
+    ensures { λ r. ⌜ r ≡ windowReach node ⌝ }
+{
+    match node {
+        Node::Until(_, _, w) => w.end,
+        Node::NotUntil(_, _, w) => w.end,
+        Node::Eventually(_, w) => w.end,
+        Node::Atom(_, _) => 0,
+        Node::And(_, _) => 0,
+        Node::AndNot(_, _) => 0,
+        Node::Keep(_, _, _) => 0,
+        Node::Or(_, _) => 0,
+        Node::Exists(_, _) => 0,
+        Node::Previous(_, _) => 0,
+        Node::Next(_, _) => 0,
+        Node::Since(_, _, _) => 0,
+        Node::NotSince(_, _, _) => 0,
+        Node::Once(_, _) => 0,
+    }
+}
+
+// The reach of node x, down the tree below it.
+fn reach_of(rule: &[u8], x: u8) -> u32
+    requires { ⌜ AllFit (now rule) × (x < nodeCount (now rule)) ⌝ }
+    ensures { λ r. ⌜ r ≡ reach (formulaAt (now (rule .entry)) x) ⌝ }
+{
+    let node = node_at(rule, x);
+    let own = window_reach(node);
+    let children = children_of(node);
+    match children {
+        Children::None => own,
+        Children::One(a) => own + reach_of(rule, a),
+        Children::Two(a, b) => own + greater(reach_of(rule, a), reach_of(rule, b)),
+    }
+}
+
+// Refusal 7, and the answer where nothing is refused; `mask` is the pattern's free variables.
+fn check_parents(rule: &[u8], mask: u8) -> Checked
+    requires { ⌜ AllFit (now rule) × (mask ≡ maskOf (free (pattern (now rule)))) ⌝ }
+    ensures { λ r. ⌜ answerOf r ≡ afterNodes (now (rule .entry)) ⌝ }
+{
+    let n = rule[2];
+    let mut uses = [0u8; 32];
+    count_uses(rule, &mut uses);
+    let Stray::At(y) = first_stray(&uses, n - 1) else {
+        return Checked::Accepted(reach_of(rule, n - 1), mask);
+    };
+    Checked::NotOneParent(y)
+}
+
+// Refusals 4 to 7 of a file whose sizes and length are right.
+fn check_nodes(rule: &[u8]) -> Checked
+    requires { ⌜ Sized (now rule) ⌝ }
+    ensures { λ r. ⌜ answerOf r ≡ weighNodes (now (rule .entry)) (range 0 (nodeCount (now (rule .entry)))) (afterNodes (now (rule .entry))) ⌝ }
+{
+    let mut masks = [0u8; 32];
+    match weigh_nodes(rule, &mut masks) {
+        Weighed::Free(mask) => check_parents(rule, mask),
+        Weighed::Refused(refusal) => refusal,
+    }
+}
+
+// Checks a rule: any bytes.
+pub fn check(rule: &[u8]) -> Checked
+    ensures { λ r. ⌜ answerOf r ≡ checking (now (rule .entry)) ⌝ }
+{
+    if rule.len() < 12 {
+        return Checked::Cut;
+    }
+    if rule[0] != 1 {
+        return Checked::OtherVersion;
+    }
+    if !sizes_fit(rule) {
+        return Checked::SizeOut;
+    }
+    if rule.len() != 12 + 20 * (rule[2] as usize) {
+        return Checked::Cut;
+    }
+    check_nodes(rule)
+}

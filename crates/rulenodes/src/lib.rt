@@ -1,0 +1,188 @@
+// Reading a rule file: its words, heads, bodies, and each node as one of the fourteen kinds.
+use meaning::Body;
+use meaning::Comparison;
+use meaning::Head;
+use meaning::Node;
+use meaning::Sides;
+use meaning::Term;
+use meaning::Terms;
+use meaning::Window;
+ghost use mathlib.Core.Path.{_≡_};
+ghost use Prim.Native.Nat.{_+_, _*_, _≤_, _<_};
+ghost use lib.ListN.{length};
+ghost use Rattle.meaning.specs.RuleFile.{wordAt, nodeCount, arity, headAt, bodyAt, bodies, bit, termOf, comparisonOf, termsOfBody, nodeOf, nodeAt, childrenOf};
+ghost use Rattle.rulenodes.specs.Children.{childrenIn};
+
+// A byte as a word.
+fn wide(b: u8) -> u32
+    ensures { λ r. ⌜ (r ≡ b) × (r < 256) ⌝ }
+{
+    b as u32
+}
+
+// The word at byte k.
+pub fn word_at(s: &[u8], k: usize) -> u32
+    requires { ⌜ k + 4 ≤ length (now s) ⌝ }
+    ensures { λ r. ⌜ r ≡ wordAt (now (s .entry)) k ⌝ }
+{
+    wide(s[k]) + 256 * wide(s[k + 1]) + 65536 * wide(s[k + 2]) + 16777216 * wide(s[k + 3])
+}
+
+// The head of node x.
+pub fn head_at(rule: &[u8], x: u8) -> Head
+    requires { ⌜ 12 + 4 * x + 4 ≤ length (now rule) ⌝ }
+    ensures { λ r. ⌜ r ≡ headAt (now (rule .entry)) x ⌝ }
+{
+    let at = 12 + 4 * (x as usize);
+    Head {
+        kind: rule[at],
+        left: rule[at + 1],
+        right: rule[at + 2],
+        mask: rule[at + 3],
+    }
+}
+
+// The body of node x, from the part of the rule that begins with the bodies.
+pub fn body_at(bodies: &[u8], x: u8) -> Body
+    requires { ⌜ 16 * x + 16 ≤ length (now bodies) ⌝ }
+    ensures { λ r. ⌜ r ≡ bodyAt (now (bodies .entry)) x ⌝ }
+{
+    let at = 16 * (x as usize);
+    Body {
+        word0: word_at(bodies, at),
+        word1: word_at(bodies, at + 4),
+        word2: word_at(bodies, at + 8),
+        word3: word_at(bodies, at + 12),
+    }
+}
+
+// The body of node x of a whole rule.
+pub fn body_of(rule: &[u8], x: u8) -> Body
+    requires { ⌜ (length (now rule) ≡ 12 + 20 * nodeCount (now rule)) × (x < nodeCount (now rule)) ⌝ }
+    ensures { λ r. ⌜ r ≡ bodyAt (bodies (now (rule .entry))) x ⌝ }
+{
+    let b = 12 + 4 * (rule[2] as usize);
+    body_at(&rule[b..], x)
+}
+
+// The arity at a relation's number, 0 past the end of the file.
+pub fn arity_at(rule: &[u8], r: u8) -> u8
+    ensures { λ n. ⌜ n ≡ arity (now (rule .entry)) r ⌝ }
+{
+    let at = 4 + (r as usize);
+    if at < rule.len() { rule[at] } else { 0 }
+}
+
+// Bit k of a mask, with p the k-th power of 2.
+pub fn has_bit(mask: u8, p: u8) -> bool
+    requires { ⌜ 0 < p ⌝ }
+    ensures { λ r. ⌜ r ≡ bit mask p ⌝ }
+{
+    mask / p % 2 == 1
+}
+
+// A constant where the mask has the bit, else a variable.
+fn term_of(mask: u8, p: u8, w: u32) -> Term
+    requires { ⌜ 0 < p ⌝ }
+    ensures { λ r. ⌜ r ≡ termOf mask p w ⌝ }
+{
+    if has_bit(mask, p) {
+        Term::Constant(w)
+    } else {
+        Term::Variable(w)
+    }
+}
+
+fn comparison_of(n: u8) -> Comparison
+    ensures { λ r. ⌜ r ≡ comparisonOf n ⌝ }
+{
+    match n {
+        0 => Comparison::Equal,
+        1 => Comparison::Different,
+        2 => Comparison::Less,
+        _ => Comparison::NotLess,
+    }
+}
+
+fn terms_of(count: u8, mask: u8, w: Body) -> Terms
+    ensures { λ r. ⌜ r ≡ termsOfBody count mask w ⌝ }
+{
+    Terms {
+        count,
+        first: term_of(mask, 1, w.word0),
+        second: term_of(mask, 2, w.word1),
+        third: term_of(mask, 4, w.word2),
+        fourth: term_of(mask, 8, w.word3),
+    }
+}
+
+// The node that a head and a body make, with the arity of the relation that the head may name.
+pub fn node_of(arity: u8, h: Head, w: Body) -> Node
+    ensures { λ r. ⌜ r ≡ nodeOf arity h w ⌝ }
+{
+    let kind = h.kind;
+    let window = Window {
+        start: w.word0,
+        end: w.word1,
+    };
+    match kind {
+        1 => Node::Atom(h.left, terms_of(arity, h.mask, w)),
+        2 => Node::And(h.left, h.right),
+        3 => Node::AndNot(h.left, h.right),
+        4 => Node::Keep(
+            h.left,
+            comparison_of(h.right),
+            Sides {
+                first: term_of(h.mask, 1, w.word0),
+                second: term_of(h.mask, 2, w.word1),
+            },
+        ),
+        5 => Node::Or(h.left, h.right),
+        6 => Node::Exists(h.left, w.word0),
+        7 => Node::Previous(h.left, window),
+        8 => Node::Next(h.left, window),
+        9 => Node::Since(h.left, h.right, window),
+        10 => Node::NotSince(h.left, h.right, window),
+        11 => Node::Until(h.left, h.right, window),
+        12 => Node::NotUntil(h.left, h.right, window),
+        13 => Node::Once(h.left, window),
+        _ => Node::Eventually(h.left, window),
+    }
+}
+
+// Node x of a rule.
+pub fn node_at(rule: &[u8], x: u8) -> Node
+    requires { ⌜ (length (now rule) ≡ 12 + 20 * nodeCount (now rule)) × (x < nodeCount (now rule)) ⌝ }
+    ensures { λ r. ⌜ r ≡ nodeAt (now (rule .entry)) x ⌝ }
+{
+    let h = head_at(rule, x);
+    node_of(arity_at(rule, h.left), h, body_of(rule, x))
+}
+
+// The children of a node, left first.
+pub enum Children {
+    None,
+    One(u8),
+    Two(u8, u8),
+}
+
+pub fn children_of(node: Node) -> Children
+    ensures { λ r. ⌜ childrenIn r ≡ childrenOf node ⌝ }
+{
+    match node {
+        Node::Atom(_, _) => Children::None,
+        Node::And(a, b) => Children::Two(a, b),
+        Node::AndNot(a, b) => Children::Two(a, b),
+        Node::Keep(a, _, _) => Children::One(a),
+        Node::Or(a, b) => Children::Two(a, b),
+        Node::Exists(a, _) => Children::One(a),
+        Node::Previous(a, _) => Children::One(a),
+        Node::Next(a, _) => Children::One(a),
+        Node::Since(a, b, _) => Children::Two(a, b),
+        Node::NotSince(a, b, _) => Children::Two(a, b),
+        Node::Until(a, b, _) => Children::Two(a, b),
+        Node::NotUntil(a, b, _) => Children::Two(a, b),
+        Node::Once(a, _) => Children::One(a),
+        Node::Eventually(a, _) => Children::One(a),
+    }
+}

@@ -1,0 +1,60 @@
+-- What a node has that passes 4 and 5: lower children, variables below 4, and a window that adds at most the longest to the reach.
+use Prim.Native.Nat.{ℕ, _≤_, _<_}
+use mathlib.Core.Path.{_≡_}
+use mathlib.Core.Bool.{true}
+use mathlib.Core.List.{List, List·Memᴰ}
+use Rattle.meaning.specs.Outcome.{longestWindow}
+use Rattle.meaning.specs.RuleFile.{headAt, bodyAt, bodies, childrenOf, shapeFits, rangeFits}
+use Rattle.meaning.specs.declared.Term.{Term}
+use Rattle.meaning.specs.declared.Term.the-variants.{Variable, Constant}
+use Rattle.meaning.specs.declared.Node.{Node}
+use Rattle.meaning.specs.declared.Node.the-variants.{Atom, And, AndNot, Keep, Or, Exists, Previous, Next, Since, NotSince, Until, NotUntil, Once, Eventually}
+
+-- node x of the file b passes 4 and 5
+pub record NodeFits (b : List ℕ) (x : ℕ) : Type 0 where
+  pub shape : shapeFits b x (headAt b x) (bodyAt (bodies b) x) ≡ true
+  pub range : rangeFits (headAt b x) (bodyAt (bodies b) x) ≡ true
+
+abbrev pub TermBelow : Term → Type 0
+TermBelow (Variable v) = v < 4
+TermBelow (Constant w) = Unit
+
+-- the variables on which a node's kind sets a condition are below 4
+abbrev pub VariablesBelow : Node → Type 0
+VariablesBelow (Atom r t) = Unit
+VariablesBelow (And a b) = Unit
+VariablesBelow (AndNot a b) = Unit
+VariablesBelow (Keep a c s) = TermBelow (s .first) × TermBelow (s .second)
+VariablesBelow (Or a b) = Unit
+VariablesBelow (Exists a v) = v < 4
+VariablesBelow (Previous a w) = Unit
+VariablesBelow (Next a w) = Unit
+VariablesBelow (Since a b w) = Unit
+VariablesBelow (NotSince a b w) = Unit
+VariablesBelow (Until a b w) = Unit
+VariablesBelow (NotUntil a b w) = Unit
+VariablesBelow (Once a w) = Unit
+VariablesBelow (Eventually a w) = Unit
+
+-- what a node adds to the greatest reach of its children
+abbrev pub windowReach : Node → ℕ
+windowReach (Atom r t) = 0
+windowReach (And a b) = 0
+windowReach (AndNot a b) = 0
+windowReach (Keep a c s) = 0
+windowReach (Or a b) = 0
+windowReach (Exists a v) = 0
+windowReach (Previous a w) = 0
+windowReach (Next a w) = 0
+windowReach (Since a b w) = 0
+windowReach (NotSince a b w) = 0
+windowReach (Until a b w) = w .end
+windowReach (NotUntil a b w) = w .end
+windowReach (Once a w) = 0
+windowReach (Eventually a w) = w .end
+
+-- the node n, with the number x
+pub record NodeSound (x : ℕ) (n : Node) : Type 0 where
+  pub lower : (c : ℕ) → List·Memᴰ c (childrenOf n) → c < x
+  pub variables : VariablesBelow n
+  pub adds : windowReach n ≤ longestWindow
