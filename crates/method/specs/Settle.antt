@@ -33,22 +33,26 @@ found v a u k = lookUp (cutTo (v .free a) (valuationOf u)) (v .rows a k)
 abbrev pub oldEnough : Window → List (List ℕ) → List (List ℕ)
 oldEnough w pairs = map (drop 1) (select (λ p. leb (w .start) (getD p 0 0)) pairs)
 
--- the valuations at point i; pairs are the node's own there
+-- the rows that node's kind gives at point i; pairs are the node's own there
+abbrev pub candidates : Sight → List (List ℕ) → Point → Node → List (List ℕ)
+candidates v pairs i (Atom r t) = atomRows r (termsOf t) (v .event)
+candidates v pairs i (And a b) = andRows (v .free a) (v .free b) (v .rows a i) (v .rows b i)
+candidates v pairs i (AndNot a b) = select (λ u. not (found v b u i)) (v .rows a i)
+candidates v pairs i (Keep a c s) = select (λ u. compares c (value (valuationOf u) (s .first)) (value (valuationOf u) (s .second))) (v .rows a i)
+candidates v pairs i (Or a b) = v .rows a i ++ v .rows b i
+candidates v pairs i (Exists a x) = map (λ u. cutTo (λ y. not (eqb y x)) (valuationOf u)) (v .rows a i)
+candidates v pairs i (Previous a w) = cond (ltb 0 (i .0) && inWindow w (elapsed (v .stamps (pointBefore i)) (v .stamps i))) (v .rows a (pointBefore i)) []
+candidates v pairs i (Next a w) = cond (inWindow w (elapsed (v .stamps i) (v .stamps (pointAfter i)))) (v .rows a (pointAfter i)) []
+candidates v pairs i (Since a b w) = oldEnough w pairs
+candidates v pairs i (NotSince a b w) = oldEnough w pairs
+candidates v pairs i (Until a b w) = untilRows (v .stamps) (min (v .count a) (v .count b)) w (found v a) (v .rows b) i
+candidates v pairs i (NotUntil a b w) = untilRows (v .stamps) (min (v .count a) (v .count b)) w (λ u k. not (found v a u k)) (v .rows b) i
+candidates v pairs i (Once a w) = oldEnough w pairs
+candidates v pairs i (Eventually a w) = untilRows (v .stamps) (v .count a) w (λ u k. true) (v .rows a) i
+
+-- the valuations there
 unfoldable pub settle : Sight → List (List ℕ) → Point → Node → List (List ℕ)
-settle v pairs i (Atom r t) = setOf (atomRows r (termsOf t) (v .event))
-settle v pairs i (And a b) = setOf (andRows (v .free a) (v .free b) (v .rows a i) (v .rows b i))
-settle v pairs i (AndNot a b) = setOf (select (λ u. not (found v b u i)) (v .rows a i))
-settle v pairs i (Keep a c s) = setOf (select (λ u. compares c (value (valuationOf u) (s .first)) (value (valuationOf u) (s .second))) (v .rows a i))
-settle v pairs i (Or a b) = setOf (v .rows a i ++ v .rows b i)
-settle v pairs i (Exists a x) = setOf (map (λ u. cutTo (λ y. not (eqb y x)) (valuationOf u)) (v .rows a i))
-settle v pairs i (Previous a w) = setOf (cond (ltb 0 (i .0) && inWindow w (elapsed (v .stamps (pointBefore i)) (v .stamps i))) (v .rows a (pointBefore i)) [])
-settle v pairs i (Next a w) = setOf (cond (inWindow w (elapsed (v .stamps i) (v .stamps (pointAfter i)))) (v .rows a (pointAfter i)) [])
-settle v pairs i (Since a b w) = setOf (oldEnough w pairs)
-settle v pairs i (NotSince a b w) = setOf (oldEnough w pairs)
-settle v pairs i (Until a b w) = setOf (untilRows (v .stamps) (min (v .count a) (v .count b)) w (found v a) (v .rows b) i)
-settle v pairs i (NotUntil a b w) = setOf (untilRows (v .stamps) (min (v .count a) (v .count b)) w (λ u k. not (found v a u k)) (v .rows b) i)
-settle v pairs i (Once a w) = setOf (oldEnough w pairs)
-settle v pairs i (Eventually a w) = setOf (untilRows (v .stamps) (v .count a) w (λ u k. true) (v .rows a) i)
+settle v pairs i node = setOf (candidates v pairs i node)
 
 -- how much older pairs grow up to point i
 abbrev pub grownBy : (Point → Stamp) → Point → ℕ

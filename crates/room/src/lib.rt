@@ -1,0 +1,1 @@
+// Where the sets of one call stand: definitions alone.

@@ -1,0 +1,3 @@
+-- Facts about until's sets and rows.
+pub mod Spans
+pub mod Passing

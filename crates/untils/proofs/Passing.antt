@@ -1,0 +1,69 @@
+-- Left's test over a run of points, one point at a time; and what one point adds to until's rows.
+use Prim.Native.Nat.{ℕ, suc, _+_, _-_, _≤_, _<_}
+use mathlib.Core.Path.{_≡_, refl, sym, ap, _∙_}
+use mathlib.Core.Bool.{Bool, true, false, cond}
+use mathlib.Core.List.{List, [], _∷_, _++_}
+use native.Mathlib.Numerals.{add-one}
+use native.Mathlib.Omega.{arith}
+use Rattle.meaning.specs.Lists.{all, select, gather}
+use Rattle.meaning.specs.Log.{point, elapsed, pointsFrom}
+use Rattle.meaning.specs.Formula.{inWindow}
+use Rattle.meaning.specs.Evaluator.{leading}
+use Rattle.meaning.specs.declared.Point.{Point}
+use Rattle.meaning.specs.declared.Stamp.{Stamp}
+use Rattle.meaning.specs.declared.Window.{Window}
+use Rattle.untils.specs.Until.{passes, passesAt}
+use Rattle.untils.specs.declared.Left.{Left}
+use Rattle.untils.specs.declared.Left.the-variants.{Always}
+
+-- a test at every point from k on before end
+module _ (p : Point → Bool) (k end : ℕ) where
+  pub all-more : k < end → p (point k) ≡ true → all p (pointsFrom k (end - k)) ≡ all p (pointsFrom (k + 1) (end - (k + 1)))
+  all-more l e =
+      let s : end - k ≡ suc (end - (k + 1)) = omega arith in
+      rw (s, e, add-one k)
+
+  pub all-stops : k < end → p (point k) ≡ false → all p (pointsFrom k (end - k)) ≡ false
+  all-stops l e =
+      let s : end - k ≡ suc (end - (k + 1)) = omega arith in
+      rw (s, e)
+
+  pub all-ends : end ≤ k → all p (pointsFrom k (end - k)) ≡ true
+  all-ends l =
+      let s : end - k ≡ 0 = omega arith in
+      rw s
+
+-- left's test at a point as the code computes it
+pub passes-as : (left : Left) {looked found t v : Bool} → found ≡ looked → t ≡ passes left found → t ≡ v → passes left looked ≡ v
+passes-as left e f g = ap (passes left) (sym e) ∙ sym f ∙ g
+
+-- where nothing is asked, left passes
+all-true : (ps : List Point) → all (λ k. true) ps ≡ true
+all-true [] = refl
+all-true (k ∷ ps) = all-true ps
+
+pub nothing-asked : {left : Left} (sets : Point → List (List ℕ)) (r : List ℕ) (ps : List Point) → left ≡ Always → true ≡ all (passesAt left sets r) ps
+nothing-asked sets r ps e = rw e (sym (all-true ps))
+
+-- what one element gives where some are chosen
+gather-one : {A B : Type 0} (p : A → Bool) (f : A → List B) (x : A) (xs : List A) → gather f (select p (x ∷ xs)) ≡ cond (p x) (f x) [] ++ gather f (select p xs)
+gather-one p f x xs = go (p x)
+  where
+    go : (t : Bool) → gather f (cond t (x ∷ select p xs) (select p xs)) ≡ cond t (f x) [] ++ gather f (select p xs)
+    go true = refl
+    go false = refl
+
+-- until's rows over some points, and what one point gives
+module _ (τ : Point → Stamp) (w : Window) (left : List ℕ → Point → Bool) (right : Point → List (List ℕ)) (i : Point) where
+  abbrev pub overPoints : List Point → List (List ℕ)
+  overPoints js = gather (leading left right i) (select (λ j. inWindow w (elapsed (τ i) (τ j))) js)
+
+  abbrev pub atPoint : Point → List (List ℕ)
+  atPoint j = cond (inWindow w (elapsed (τ i) (τ j))) (leading left right i j) []
+
+  pub point-one : (j : Point) (js : List Point) → overPoints (j ∷ js) ≡ atPoint j ++ overPoints js
+  point-one j js = gather-one (λ j. inWindow w (elapsed (τ i) (τ j))) (leading left right i) j js
+
+  -- the same as the code computes it
+  pub point-as : (j : Point) {start : Stamp} {ok : Bool} → start ≡ τ i → ok ≡ inWindow w (elapsed start (τ j)) → cond ok (leading left right i j) [] ≡ atPoint j
+  point-as j e f = ap (λ t. cond t (leading left right i j) []) (f ∙ ap (λ s. inWindow w (elapsed s (τ j))) e)

@@ -1,0 +1,38 @@
+-- `put_leading` meets its contract: each row of the run for which left passes is put in.
+use Prim.Native.Nat.{ℕ, _-_}
+use native.Mathlib.Omega.{arith}
+use mathlib.Core.Path.{refl}
+use mathlib.Core.Bool.{Bool, cond}
+use mathlib.Core.List.{List, [], _∷_}
+use borrow.Author.Needs.{needs}
+use Rattle.meaning.specs.Lists.{select}
+use Rattle.rowset.specs.Rows.{rowAt, rowsFrom}
+use Rattle.rowset.proofs.Growing.{Through, begun, turned, ended, select-one, chosen}
+use Rattle.room.specs.Room.{setAt}
+use Rattle.untils.specs.Until.{leads}
+use Rattle.untils.proofs.put_leading.Statement.{statement}
+use Rattle.untils.proofs.put_leading.Tie as tie
+
+abbrev Inv-loop : tie.InvT-loop
+Inv-loop left mask rows at fa la from to i j out₀ n k₀ x₀ out k x =
+    Through (rowAt rows) (select (leads left mask (setAt rows at fa (la .0)) i j)) to out₀ n (select (leads left mask (setAt rows at fa (la .0)) i j) (rowsFrom rows from (to - from))) out k x
+
+abbrev μ-loop : tie.MeasureT-loop
+μ-loop left mask rows at fa la from to i j out₀ n k₀ x₀ out k x = to - x
+
+loop-holds : tie.Need-loop-holds Inv-loop μ-loop
+unfolding rowsFrom
+loop-holds c = begun (c .before .before .before .pre .1 .0 .ordered) (c .before .before .before .pre .1 .1)
+
+loop-again : tie.Need-loop-again Inv-loop μ-loop
+loop-again c =
+    let a = c .before .before .before .before .before .before .before .before .before .before .before .args in
+    let p : List ℕ → Bool = leads (a .left) (a .mask) (setAt (a .rows .now) (a .at .now) (a .fa) (a .la .0)) (a .i) (a .j) in
+    turned (c .before .before .before .before .before .before .before .loop .inv) (λ u. cond (p u) (u ∷ []) []) (select-one p) (c .before .before .before .before .before .before .loop-test .taken) (c .before .before .add-if .ensures)
+    (chosen p (λ u. u) (c .before .before .before .before .leads .ensures) refl (c .before .before .before .before .before .row-at .ensures))
+
+returns : tie.Need-returns Inv-loop μ-loop
+returns c = ended (c .before .loop .inv) refl (c .loop-test .left)
+
+pub put-leading-spec : {M : Type 1} → statement M
+put-leading-spec = tie.close (tie.spec Inv-loop μ-loop loop-holds (λ c κs. omega arith) (λ c κs. search needs) (λ c κs. omega arith) (λ c. omega arith) (λ c. omega arith) loop-again (λ c. c .before .loop .inv .long) returns)

@@ -1,0 +1,55 @@
+-- `until` meets its contract: each point from i on before m puts in what it gives.
+use Prim.Native.Nat.{ℕ, _+_, _-_, _≤_}
+use native.Mathlib.Omega.{arith}
+use mathlib.Core.Path.{refl}
+use mathlib.Core.Bool.{Bool}
+use mathlib.Core.List.{List}
+use borrow.Author.Needs.{needs}
+use Rattle.meaning.specs.Log.{point}
+use Rattle.meaning.specs.Evaluator.{untilRows}
+use Rattle.meaning.specs.declared.Point.{Point}
+use Rattle.meaning.specs.declared.Stamp.{Stamp}
+use Rattle.method.specs.Stored.{stampIn}
+use Rattle.rowset.proofs.Growing.{Through, begun, turned, ended}
+use Rattle.room.specs.Room.{setAt}
+use Rattle.untils.specs.Until.{leftTest}
+use Rattle.untils.proofs.Spans.{stand-part}
+use Rattle.untils.proofs.Passing.{overPoints, atPoint, point-one, point-as}
+use Rattle.untils.proofs.until.Statement.{statement}
+use Rattle.untils.proofs.until.Tie as tie
+
+abbrev Inv-loop : tie.InvT-loop
+Inv-loop left mask rows at fa la fb lb times base w i m out₀ n start k₀ j₀ out k j =
+    (i .0 ≤ j) × Through point (overPoints (stampIn (base .0) times) w (leftTest left mask (setAt rows at fa (la .0))) (setAt rows at fb (lb .0)) i) m out₀ n (untilRows (stampIn (base .0) times) m w (leftTest left mask (setAt rows at fa (la .0))) (setAt rows at fb (lb .0)) i) out k j
+
+abbrev μ-loop : tie.MeasureT-loop
+μ-loop left mask rows at fa la fb lb times base w i m out₀ n start k₀ j₀ out k j = m - j
+
+loop-holds : tie.Need-loop-holds Inv-loop μ-loop
+loop-holds c =
+    let s = c .before .before .before .before .before .pre in
+    (omega arith, begun (s .0 .ordered) (s .1 .1))
+
+put-point-if-requires : tie.Need-put-point-if-requires Inv-loop μ-loop
+put-point-if-requires c κs =
+    let s = c .before .before .before .before .before .before .before .before .before .pre in
+    let j : ℕ = c .before .before .before .loop .j in
+    (stand-part (s .0) _ j (omega arith) (omega arith) (omega arith), (stand-part (s .1 .0) j (j + 1) (omega arith) (omega arith) (omega arith), search needs))
+
+loop-again : tie.Need-loop-again Inv-loop μ-loop
+loop-again c =
+    let a = c .before .before .before .before .before .before .before .before .before .before .before .before .args in
+    let τ : Point → Stamp = stampIn (a .base .0) (a .times .now) in
+    let left : List ℕ → Point → Bool = leftTest (a .left) (a .mask) (setAt (a .rows .now) (a .at .now) (a .fa) (a .la .0)) in
+    let right : Point → List (List ℕ) = setAt (a .rows .now) (a .at .now) (a .fb) (a .lb .0) in
+    let v = c .before .before .before .before .before .before .loop .inv in (
+      omega arith,
+      turned (v .1) (atPoint τ (a .w) left right (a .i)) (point-one τ (a .w) left right (a .i)) (c .before .before .before .before .before .loop-test .taken) (c .before .before .put-point-if .ensures)
+          (point-as τ (a .w) left right (a .i) (point (c .before .before .before .before .before .before .loop .j)) (c .before .before .before .before .before .before .before .time-in .ensures) (c .before .before .before .before .due .ensures)),
+    )
+
+returns : tie.Need-returns Inv-loop μ-loop
+returns c = ended (c .before .loop .inv .1) refl (c .loop-test .left)
+
+pub until-spec : {M : Type 1} → statement M
+until-spec = tie.close (tie.spec Inv-loop μ-loop (λ c κs. search needs) loop-holds (λ c κs. search needs) put-point-if-requires (λ c. omega arith) (λ c. omega arith) loop-again (λ c. c .before .loop .inv .1 .long) returns)

@@ -1,0 +1,37 @@
+-- The test of left that until makes, over a node's sets, and where these sets stand.
+use Prim.Native.Nat.{ℕ, _+_, _-_, _≤_}
+use mathlib.Core.Bool.{Bool, true, not}
+use mathlib.Core.List.{List}
+use Rattle.meaning.specs.Lists.{all}
+use Rattle.meaning.specs.Log.{pointsFrom}
+use Rattle.meaning.specs.Evaluator.{cutTo, valuationOf}
+use Rattle.meaning.specs.declared.Point.{Point}
+use Rattle.rowset.specs.Rows.{lookUp}
+use Rattle.kinds.specs.Kinds.{inMask}
+use Rattle.room.specs.Room.{Laid}
+use Rattle.untils.specs.declared.Left.{Left}
+use Rattle.untils.specs.declared.Left.the-variants.{Holds, Denied, Always}
+
+-- left passes, where a row was found in its set or not
+abbrev pub passes : Left → Bool → Bool
+passes Holds found = found
+passes Denied found = not found
+passes Always found = true
+
+-- left passes at point k for a row that is cut down already
+abbrev pub passesAt : Left → (Point → List (List ℕ)) → List ℕ → Point → Bool
+passesAt l sets r k = passes l (lookUp r (sets k))
+
+-- left's test of row u at a point, over left's sets; the mask has left's variables
+abbrev pub leftTest : Left → ℕ → (Point → List (List ℕ)) → List ℕ → Point → Bool
+leftTest l mask sets u = passesAt l sets (cutTo (inMask mask) (valuationOf u))
+
+-- left's test of row u passes at every point from i on before j
+abbrev pub leads : Left → ℕ → (Point → List (List ℕ)) → Point → Point → List ℕ → Bool
+leads l mask sets i j u = all (leftTest l mask sets u) (pointsFrom (i .0) (j .0 - i .0))
+
+-- a node's sets at the points from i on before m stand in the words, where set `first` is its set at point `low`
+pub record Stand (rows at : List ℕ) (first low i m : ℕ) : Type 0 where
+  pub low-most : low ≤ i
+  pub ordered : i ≤ m
+  pub laid : Laid rows at (first + (m - low))

@@ -1,0 +1,232 @@
+// The valuations of until at a point, from its children's sets in a lent slice.
+use meaning::Point;
+use meaning::Stamp;
+use meaning::Window;
+use rowset::Row;
+ghost use mathlib.Core.Path.{_≡_};
+ghost use mathlib.Core.Bool.{cond};
+ghost use mathlib.Core.List.{[]};
+ghost use Prim.Native.Nat.{_+_, _-_, _≤_, _<_};
+ghost use lib.ListN.{length, getD};
+ghost use Rattle.meaning.specs.Lists.{all, select};
+ghost use Rattle.meaning.specs.Log.{elapsed, pointsFrom};
+ghost use Rattle.meaning.specs.Formula.{inWindow};
+ghost use Rattle.meaning.specs.Evaluator.{leading, untilRows};
+ghost use Rattle.method.specs.Stored.{stampIn};
+ghost use Rattle.rowset.specs.Rows.{wordsOf, rowsFrom, lookUp};
+ghost use Rattle.rowset.specs.Sets.{Run, Room, Added};
+ghost use Rattle.room.specs.Room.{setAt};
+ghost use Rattle.untils.specs.Until.{passes, passesAt, leftTest, leads, Stand};
+
+// What left is asked at each point: that it holds, that it doesn't, or nothing.
+pub enum Left {
+    Holds,
+    Denied,
+    Always,
+}
+
+// The rows of one set, from..to.
+struct Part {
+    from: usize,
+    to: usize,
+}
+
+// The window holds t.
+pub fn in_window(w: Window, t: u32) -> bool
+    ensures { λ r. ⌜ r ≡ inWindow w t ⌝ }
+{
+    if t < w.start {
+        return false;
+    }
+    if w.end == 0 {
+        return true;
+    }
+    t < w.end
+}
+
+// How long after the first stamp the second is, 0 where it is before it.
+pub fn elapsed(s: Stamp, t: Stamp) -> u32
+    ensures { λ r. ⌜ r ≡ elapsed s t ⌝ }
+{
+    if s.0 < t.0 { t.0 - s.0 } else { 0 }
+}
+
+// The window holds what has elapsed from a stamp to point j's.
+fn due(times: &[u32], base: Point, w: Window, start: Stamp, j: Point) -> bool
+    ensures { λ r. ⌜ r ≡ inWindow w (elapsed start (stampIn (base .0) (now (times .entry)) j)) ⌝ }
+{
+    in_window(w, elapsed(start, progress::time_in(times, base, j)))
+}
+
+// A node's set at point j stands in the rows from..to, where set first is its set at point low.
+fn set_part(at: &[u32], first: usize, low: Point, j: Point) -> Part
+    requires { ⌜ (low .0 ≤ j .0) × (first + (j .0 - low .0) + 1 < length (now at)) ⌝ }
+    ensures { λ p. ⌜ (p .from ≡ getD (now (at .entry)) (first + (j .0 - low .0)) 0) × (p .to ≡ getD (now (at .entry)) (first + (j .0 - low .0) + 1) 0) ⌝ }
+{
+    let q = first + (j.0 - low.0) as usize;
+    Part {
+        from: at[q] as usize,
+        to: at[q + 1] as usize,
+    }
+}
+
+// Left passes, where a row was found in its set or not.
+fn passes(left: Left, found: bool) -> bool
+    ensures { λ r. ⌜ r ≡ passes left found ⌝ }
+{
+    match left {
+        Left::Holds => found,
+        Left::Denied => !found,
+        Left::Always => true,
+    }
+}
+
+// The row is in a node's set at point k.
+fn found_at(rows: &[u32], at: &[u32], first: usize, low: Point, k: Point, r: Row) -> bool
+    requires { ⌜ Stand (now rows) (now at) first (low .0) (k .0) (k .0 + 1) ⌝ }
+    ensures { λ t. ⌜ t ≡ lookUp (wordsOf r) (setAt (now (rows .entry)) (now (at .entry)) first (low .0) k) ⌝ }
+{
+    let set = set_part(at, first, low, k);
+    rowset::contains(rows, set.from, set.to, r)
+}
+
+// Left passes for a row that is cut down already at every point from i on before j.
+fn passes_from(
+    left: Left,
+    r: Row,
+    rows: &[u32],
+    at: &[u32],
+    fa: usize,
+    la: Point,
+    i: Point,
+    j: Point,
+) -> bool
+    requires { ⌜ Stand (now rows) (now at) fa (la .0) (i .0) (j .0) ⌝ }
+    ensures { λ t. ⌜ t ≡ all (passesAt left (setAt (now (rows .entry)) (now (at .entry)) fa (la .0)) (wordsOf r)) (pointsFrom (i .0) (j .0 - i .0)) ⌝ }
+{
+    let end = j.0;
+    let mut k = i.0;
+    while k < end {
+        let found = found_at(rows, at, fa, la, Point(k), r);
+        if !passes(left, found) {
+            return false;
+        }
+        k += 1;
+    }
+    true
+}
+
+// Left passes for row u at every point from i on before j; nothing is looked up where nothing is asked.
+fn leads(
+    left: Left,
+    mask: u8,
+    u: Row,
+    rows: &[u32],
+    at: &[u32],
+    fa: usize,
+    la: Point,
+    i: Point,
+    j: Point,
+) -> bool
+    requires { ⌜ Stand (now rows) (now at) fa (la .0) (i .0) (j .0) ⌝ }
+    ensures { λ t. ⌜ t ≡ leads left mask (setAt (now (rows .entry)) (now (at .entry)) fa (la .0)) i j (wordsOf u) ⌝ }
+{
+    if let Left::Always = left {
+        return true;
+    }
+    passes_from(left, kinds::cut(mask, u), rows, at, fa, la, i, j)
+}
+
+// Puts in the rows from..to for which left passes at every point from i on before j.
+fn put_leading(
+    left: Left,
+    mask: u8,
+    rows: &[u32],
+    at: &[u32],
+    fa: usize,
+    la: Point,
+    from: usize,
+    to: usize,
+    i: Point,
+    j: Point,
+    out: &mut [u32],
+    n: usize,
+) -> usize
+    requires { ⌜ Stand (now rows) (now at) fa (la .0) (i .0) (j .0) ⌝ }
+    requires { ⌜ Run (now rows) from to ⌝ }
+    requires { ⌜ Room (now out) n ⌝ }
+    ensures { λ k. ⌜ Added (now (out .entry)) n (now (out .exit)) k (select (leads left mask (setAt (now (rows .entry)) (now (at .entry)) fa (la .0)) i j) (rowsFrom (now (rows .entry)) from (to - from))) ⌝ }
+{
+    let mut k = n;
+    let mut x = from;
+    while x < to {
+        let u = rowset::row_at(rows, x);
+        let ok = leads(left, mask, u, rows, at, fa, la, i, j);
+        k = rowset::add_if(ok, out, k, u);
+        x += 1;
+    }
+    k
+}
+
+// Puts in what right's set at point j gives, where the test passed.
+fn put_point_if(
+    ok: bool,
+    left: Left,
+    mask: u8,
+    rows: &[u32],
+    at: &[u32],
+    fa: usize,
+    la: Point,
+    fb: usize,
+    lb: Point,
+    i: Point,
+    j: Point,
+    out: &mut [u32],
+    n: usize,
+) -> usize
+    requires { ⌜ Stand (now rows) (now at) fa (la .0) (i .0) (j .0) ⌝ }
+    requires { ⌜ Stand (now rows) (now at) fb (lb .0) (j .0) (j .0 + 1) ⌝ }
+    requires { ⌜ Room (now out) n ⌝ }
+    ensures { λ k. ⌜ Added (now (out .entry)) n (now (out .exit)) k (cond ok (leading (leftTest left mask (setAt (now (rows .entry)) (now (at .entry)) fa (la .0))) (setAt (now (rows .entry)) (now (at .entry)) fb (lb .0)) i j) []) ⌝ }
+{
+    if ok {
+        let set = set_part(at, fb, lb, j);
+        return put_leading(left, mask, rows, at, fa, la, set.from, set.to, i, j, out, n);
+    }
+    n
+}
+
+// Until at point i over the points before m. Left's sets begin at set fa, which is for point la, right's at set fb, for point lb; where nothing is asked of left, right's may be given for left's.
+pub fn until(
+    left: Left,
+    mask: u8,
+    rows: &[u32],
+    at: &[u32],
+    fa: usize,
+    la: Point,
+    fb: usize,
+    lb: Point,
+    times: &[u32],
+    base: Point,
+    w: Window,
+    i: Point,
+    m: u32,
+    out: &mut [u32],
+    n: usize,
+) -> usize
+    requires { ⌜ Stand (now rows) (now at) fa (la .0) (i .0) m ⌝ }
+    requires { ⌜ Stand (now rows) (now at) fb (lb .0) (i .0) m ⌝ }
+    requires { ⌜ Room (now out) n ⌝ }
+    ensures { λ k. ⌜ Added (now (out .entry)) n (now (out .exit)) k (untilRows (stampIn (base .0) (now (times .entry))) m w (leftTest left mask (setAt (now (rows .entry)) (now (at .entry)) fa (la .0))) (setAt (now (rows .entry)) (now (at .entry)) fb (lb .0)) i) ⌝ }
+{
+    let start = progress::time_in(times, base, i);
+    let mut k = n;
+    let mut j = i.0;
+    while j < m {
+        let here = Point(j);
+        let ok = due(times, base, w, start, here);
+        k = put_point_if(ok, left, mask, rows, at, fa, la, fb, lb, i, here, out, k);
+        j += 1;
+    }
+    k
+}
