@@ -1,0 +1,186 @@
+#!/usr/bin/env python3
+"""Computes the definitions of crates/meaning on generated rules and logs, and compares what they give with plain.py.
+
+    definitions.py [CASES [SEED]]    default: 60 cases, seed 1
+
+The checker itself computes each case, from the rule's bytes and the events' words to answers, reported points with their rows, and
+the open and kept figures; a case that differs is refused. Rules of up to seven nodes, one in five damaged in a byte; logs of up to
+six events, some of them to be refused; report buffers of 3 to 40 words.
+"""
+import collections
+import pathlib
+import random
+import re
+import shutil
+import subprocess
+import sys
+import tempfile
+
+import plain
+
+TOP = pathlib.Path(__file__).resolve().parent.parent
+OPENED = """time rowsAt latest wordAt sizesFit headAt bodyAt nodeOf nodeAt formulaAt shapeFits rangeFits timesChild weighNode checking
+lastPairs consulted parentOf pointEntries ageEntries entriesOf entries kept openPoints isEvent rowFits pointOf reportWords newlySettled
+reported report admitted weighed crowdedAt answer step""".split()
+HEAD = """use Prim.Native.Nat.{ℕ}
+use mathlib.Core.Path.{_≡_, refl}
+use mathlib.Core.List.{List, [], _∷_, _++_}
+use lib.ListN.{length, replicate}
+use Rattle.meaning.specs.Lists.{gather}
+use Rattle.meaning.specs.Outcome.{Outcome, refused, given}
+use Rattle.meaning.specs.Log.{Log, time, rowsAt, latest}
+use Rattle.meaning.specs.RuleFile.{Accepted, wordAt, sizesFit, headAt, bodyAt, nodeOf, nodeAt, formulaAt, shapeFits, rangeFits, timesChild, weighNode, checking, pattern}
+use Rattle.meaning.specs.Kept.{lastPairs, consulted, parentOf, pointEntries, ageEntries, entriesOf, entries, kept, openPoints}
+use Rattle.meaning.specs.Event.{isEvent, rowFits, pointOf}
+use Rattle.meaning.specs.Report.{Reported, reportWords, rowWords}
+use Rattle.meaning.specs.Keeper.{Taking, newlySettled, reported, report, admitted, weighed, crowdedAt, grown, answer, step}
+
+abbrev lineOf : Reported → List ℕ
+lineOf e = 1 ∷ e .at .0 ∷ e .time .0 ∷ length (e .rows) ∷ rowWords e
+
+abbrev said : Outcome ℕ → List Reported → List ℕ
+said (refused n p) es = 2 ∷ n ∷ p ∷ []
+said (given n) es = gather lineOf es
+
+abbrev taking : ℕ → List ℕ → Taking
+taking room w = record { event = w; buffer = replicate room 0 }
+
+abbrev listing : ℕ → List ℕ → Log → List (List ℕ) → List ℕ
+listing room b l [] = 3 ∷ openPoints b l ∷ kept b l ∷ []
+listing room b l (w ∷ ws) = said (answer b l (taking room w)) (reported l (grown b l w) (pattern b)) ++ listing room b (step b l (taking room w)) ws
+
+abbrev whole : ℕ → Outcome Accepted → List ℕ → List (List ℕ) → List ℕ
+whole room (refused n p) b ws = 2 ∷ n ∷ p ∷ []
+whole room (given a) b ws = 4 ∷ a .reach ∷ a .free ∷ listing room b [] ws
+"""
+
+
+def numbers(ws):
+    return "(" + " ∷ ".join([str(w) for w in ws] + ["[]"]) + ")"
+
+
+def rule_file(rng):
+    arities = [rng.randint(0, 2) for _ in range(rng.randint(1, 3))]
+    heads, bodies, free, pool = [], [], [], []
+
+    def add(kind, left, right, mask, words, variables, used):
+        heads.append(bytes([kind, left, right, mask]))
+        bodies.append(b"".join(w.to_bytes(4, "little") for w in (list(words) + [0] * 4)[:4]))
+        free.append(frozenset(variables))
+        for x in used:
+            pool.remove(x)
+        pool.append(len(heads) - 1)
+
+    def term(names):
+        return (0, rng.choice(sorted(names))) if names and rng.random() < 0.7 else (1, rng.randint(0, 2))
+
+    def window(kind):
+        c = rng.randint(0, 4)
+        return (c, 0) if kind not in plain.FUTURE and rng.random() < 0.3 else (c, c + rng.randint(1, 5))
+
+    limit = rng.randint(1, 5)
+    while not pool or len(heads) < limit or len(pool) > 1:
+        if not pool or (len(heads) < limit and rng.random() < 0.4):
+            r = rng.randrange(len(arities))
+            ts = [term(range(3)) for _ in range(arities[r])]
+            add(1, r, 0, sum(t[0] << k for k, t in enumerate(ts)), [t[1] for t in ts], [t[1] for t in ts if not t[0]], [])
+            continue
+        if len(pool) > 1 and rng.random() < 0.6 or len(heads) >= limit:
+            a, b = rng.sample(pool, 2)
+            kind = rng.choice((2, 3, 5, 9, 10, 11, 12))
+            fits = {2: True, 3: free[b] <= free[a], 5: free[a] == free[b]}.get(kind, free[a] <= free[b])
+            if fits:
+                union = free[a] | free[b] if kind == 2 else free[a] if kind in (3, 5) else free[b]
+                add(kind, a, b, 0, window(kind) if kind > 8 else (), union, [a, b])
+            continue
+        a, kind = rng.choice(pool), rng.choice((4, 6, 7, 8, 13, 14))
+        if kind == 4:
+            s, t = term(free[a]), term(free[a])
+            add(4, a, rng.randint(0, 3), s[0] | t[0] << 1, (s[1], t[1]), free[a], [a])
+        elif kind == 6:
+            if free[a]:
+                x = rng.choice(sorted(free[a]))
+                add(6, a, 0, 0, (x,), free[a] - {x}, [a])
+        else:
+            add(kind, a, 0, 0, window(kind), free[a], [a])
+    data = bytearray(bytes([1, len(arities), len(heads), 0]) + bytes(arities + [0] * (8 - len(arities))) + b"".join(heads) + b"".join(bodies))
+    if rng.random() < 0.2:
+        data[rng.randrange(len(data))] = rng.choice((0, 1, 2, 3, 4, 9, 255))
+    return bytes(data), arities
+
+
+def event(rng, arities, now):
+    m = rng.choice((0, 1, 1, 2, 3))
+    relations = [rng.randrange(len(arities)) for _ in range(m)]
+    rows = [[rng.randint(0, 2) for _ in range(arities[r])] + [0] * (4 - arities[r]) for r in relations]
+    words = [now, m] + relations + sum(rows, [])
+    fault = rng.random()
+    if fault < 0.04:
+        words[0] = max(0, now - 5)
+    elif fault < 0.07:
+        words = words[:rng.randrange(len(words))]
+    elif fault < 0.10 and m:
+        words[2 + rng.randrange(m)] = len(arities)
+    elif fault < 0.13 and m:
+        words[-1] = 1
+    return words
+
+
+def case(rng):
+    file, arities = rule_file(rng)
+    now, events = rng.randint(0, 3), []
+    for _ in range(rng.randint(1, 6)):
+        events.append(event(rng, arities, now))
+        now += rng.choice((0, 1, 1, 2, 3, 6))
+    return file, events, rng.choice((3, 12, 40, 40, 40))
+
+
+def expected(file, events, room, met):
+    rule = plain.check(file)
+    if isinstance(rule, tuple):
+        met["refusal", rule[0]] += 1
+        return [2, *rule]
+    for n in rule.nodes:
+        met["kind", n.kind] += 1
+    out, log = [4, rule.reach[-1], sum(1 << v for v in rule.free[-1])], plain.Log(rule, [])
+    for words in events:
+        answer, points = plain.take(rule, log, words, room)
+        if points is None:
+            met["refusal", answer[0]] += 1
+            out += [2, *answer]
+            continue
+        log = answer
+        for i, t, rows in points:
+            met["points", "with rows" if rows else "without"] += 1
+            out += [1, i, t, len(rows)] + [v for r in rows for v in r]
+    return out + [3, log.open(), log.kept()]
+
+
+def main():
+    count, seed = (int(a) for a in (sys.argv[1:] + ["60", "1"][len(sys.argv) - 1:]))
+    rng, met, text = random.Random(seed), collections.Counter(), HEAD
+    for k in range(count):
+        file, events, room = case(rng)
+        want = expected(file, events, room, met)
+        text += f"\ncase-{k} : whole {room} (checking {numbers(file)}) {numbers(file)} ({' ∷ '.join([numbers(e) for e in events] + ['[]'])}) ≡ {numbers(want)}\n"
+        text += f"unfolding {' '.join(OPENED)}\ncase-{k} = refl\n"
+    with tempfile.TemporaryDirectory() as folder:
+        top = pathlib.Path(folder)
+        shutil.copytree(TOP / "crates" / "meaning", top / "crates" / "meaning", ignore=shutil.ignore_patterns("must-fail"))
+        for part in ("src", "specs"):
+            (top / "crates" / "compared" / part).mkdir(parents=True)
+        (top / "crates.txt").write_text("meaning:\ncompared: meaning\n")
+        (top / "crates" / "compared" / "src" / "lib.rt").write_text("// Cases that the definitions compute.\n")
+        (top / "crates" / "compared" / "specs" / "Lib.antt").write_text("pub mod Cases\n")
+        (top / "crates" / "compared" / "specs" / "Cases.antt").write_text(text)
+        run = subprocess.run(["rt", "dev", "compared"], cwd=top, stdout=subprocess.PIPE, stderr=subprocess.STDOUT, text=True)
+    wrong = sorted(set(re.findall(r"error: `(case-\d+)`", run.stdout)), key=lambda c: int(c[5:]))
+    for key in sorted(met, key=str):
+        print(f"{key[0]} {key[1]}: {met[key]}", end="; ")
+    print(f"\n{count} rules with logs computed by the definitions, {len(wrong)} differ", *wrong)
+    if run.returncode != 0:
+        print("\n".join(line[:300] for line in run.stdout.split("\n") if "error" in line)[:4000])
+        sys.exit(1)
+
+
+main()
