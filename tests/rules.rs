@@ -3,13 +3,14 @@
 // lengthened, and random bytes are tried. It fails on any difference, and where a number or a kind was met too rarely.
 //
 //   rt staticlib boundary
-//   rustc -O tests/rules.rs -L native=target/staticlib -l static=boundary -o target/rules
+//   rustc -O -L target/staticlib -o target/rules tests/rules.rs
 //   target/rules            compare
 //   target/rules --time     time one check of a rule of 32 nodes
 use std::collections::BTreeSet;
 use std::process::exit;
 use std::time::Instant;
 
+#[link(name = "boundary", kind = "static")]
 extern "C" {
     fn yokemango_check_number(rule: *const u8, len: usize) -> u32;
     fn yokemango_check_place(rule: *const u8, len: usize) -> u32;

@@ -171,6 +171,14 @@ has-nodes : (b : List ℕ) → sizesFit b ≡ true → leb 1 (nodeCount b) ≡ t
 unfolding sizesFit
 has-nodes b e = search (first, second)
 
+-- "node count N (1 to 32)"
+few-nodes : (b : List ℕ) → sizesFit b ≡ true → leb (nodeCount b) 32 ≡ true
+unfolding sizesFit
+few-nodes b e = search (first, second)
+
+pub nodes-most : (b : List ℕ) (a : Accepted) → checking b ≡ given a → nodeCount b ≤ 32
+nodes-most b a e = leb-true (nodeCount b) 32 (few-nodes b (accepted b a e .sizes))
+
 -- "The last node is the pattern"
 pub last-is-node : (b : List ℕ) (a : Accepted) → checking b ≡ given a → lastNode b < nodeCount b
 last-is-node b a e = let h : 1 ≤ nodeCount b = leb-true 1 (nodeCount b) (has-nodes b (accepted b a e .sizes)) in omega arith

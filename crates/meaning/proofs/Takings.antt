@@ -14,6 +14,7 @@ use Rattle.meaning.specs.RuleFile.{nodeCount}
 use Rattle.meaning.specs.Kept.{kept, openPoints}
 use Rattle.meaning.specs.Event.{isEvent, rowCount, rowFits}
 use Rattle.meaning.specs.Keeper.{Taking, report, weighRows, weighCrowds, admitted, weighed, crowdedAt, grown, answer, logAfter, step, keeperLog}
+use Rattle.meaning.proofs.Points.{from-first}
 use Rattle.meaning.proofs.Accepted.{no-refusal}
 
 -- ---- chains of refusals that end in an answer
@@ -22,9 +23,12 @@ rows-passed : (b w ks : List ℕ) (rest : Outcome ℕ) (n : ℕ) → weighRows b
 rows-passed b w [] rest n e = e
 rows-passed b w (k ∷ ks) rest n e = rows-passed b w ks rest n (no-refusal (not (rowFits b w k)) 10 k (weighRows b w ks rest) n e .1)
 
-crowds-passed : (crowds : ℕ → Bool) (xs : List ℕ) (rest : Outcome ℕ) (n : ℕ) → weighCrowds crowds xs rest ≡ given n → rest ≡ given n
-crowds-passed crowds [] rest n e = e
-crowds-passed crowds (x ∷ xs) rest n e = crowds-passed crowds xs rest n (no-refusal (crowds x) 13 x (weighCrowds crowds xs rest) n e .1)
+crowds-passed : (crowds : ℕ → Bool) (a k : ℕ) (rest : Outcome ℕ) (n : ℕ) → weighCrowds crowds (range a k) rest ≡ given n → ((x : ℕ) → a ≤ x → x < a + k → crowds x ≡ false) × (rest ≡ given n)
+crowds-passed crowds a zero rest n e = (λ x u o. absurd (omega arith), e)
+crowds-passed crowds a (suc k) rest n e =
+    let here : _ × _ = no-refusal (crowds a) 13 a (weighCrowds crowds (range (suc a) k) rest) n e in
+    let more : ((x : ℕ) → suc a ≤ x → x < suc a + k → crowds x ≡ false) × (rest ≡ given n) = crowds-passed crowds (suc a) k rest n (here .1) in
+    (from-first (λ x. crowds x ≡ false) a k (here .0) (more .0), more .1)
 
 -- the event's time is no earlier than the last, and there was room for a point
 pub record Admitted (w : List ℕ) (last points : ℕ) (rest : Outcome ℕ) (n : ℕ) : Type 0 where
@@ -42,28 +46,29 @@ admitted-given b w last points rest n e =
     record { later = ltb-false (getD w 0 0) last (time .0); room = leb-false mostPoints points (full .0); goes-on = full .1 }
 
 -- the figures are within the limits, and the answer is the report's words
-pub record Weighed (unsettled entries words room n : ℕ) : Type 0 where
+pub record Weighed (crowds : ℕ → Bool) (nodes unsettled entries words room n : ℕ) : Type 0 where
+  pub none-crowded : (x : ℕ) → x < nodes → crowds x ≡ false
   pub few-open : unsettled ≤ mostOpen
   pub few-kept : entries ≤ mostKept
   pub fits : words ≤ room
   pub written : n ≡ words
 
-pub weighed-given : (crowds : ℕ → Bool) (nodes unsettled entries words room n : ℕ) → weighed crowds nodes unsettled entries words room ≡ given n → Weighed unsettled entries words room n
+pub weighed-given : (crowds : ℕ → Bool) (nodes unsettled entries words room n : ℕ) → weighed crowds nodes unsettled entries words room ≡ given n → Weighed crowds nodes unsettled entries words room n
 unfolding weighed
 weighed-given crowds nodes unsettled entries words room n e =
-    let rest : _ ≡ given n = crowds-passed crowds (range 0 nodes) _ n e in
-    let unset : _ × _ = no-refusal (ltb mostOpen unsettled) 14 0 _ n rest in
+    let calm : _ × _ = crowds-passed crowds 0 nodes _ n e in
+    let unset : _ × _ = no-refusal (ltb mostOpen unsettled) 14 0 _ n (calm .1) in
     let over : _ × _ = no-refusal (ltb mostKept entries) 15 0 _ n (unset .1) in
     let short : _ × _ = no-refusal (ltb room words) 16 words (given words) n (over .1) in
     let q : given words ≡ given n = short .1 in
-    record { few-open = ltb-false mostOpen unsettled (unset .0); few-kept = ltb-false mostKept entries (over .0); fits = ltb-false room words (short .0); written = cc }
+    record { none-crowded = λ x o. calm .0 x (omega arith) (omega arith); few-open = ltb-false mostOpen unsettled (unset .0); few-kept = ltb-false mostKept entries (over .0); fits = ltb-false room words (short .0); written = cc }
 
 -- ---- a taking that the keeper accepts
 
 pub record Accepts (b : List ℕ) (l : Log) (t : Taking) (n : ℕ) : Type 0 where
   pub later : latest l .0 ≤ getD (t .event) 0 0
   pub room : size l < mostPoints
-  pub figures : Weighed (openPoints b (grown b l (t .event))) (kept b (grown b l (t .event))) (length (report b l (grown b l (t .event)))) (length (t .buffer)) n
+  pub figures : Weighed (crowdedAt b l (grown b l (t .event))) (nodeCount b) (openPoints b (grown b l (t .event))) (kept b (grown b l (t .event))) (length (report b l (grown b l (t .event)))) (length (t .buffer)) n
 
 pub accepts : (b : List ℕ) (l : Log) (t : Taking) (n : ℕ) → answer b l t ≡ given n → Accepts b l t n
 unfolding answer

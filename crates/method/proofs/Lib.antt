@@ -8,3 +8,4 @@ pub mod Seen
 pub mod Turns
 pub mod Stepped
 pub mod Whole
+pub mod Reached

@@ -112,7 +112,7 @@ module _ (b : List ℕ) (a : Accepted) (ok : checking b ≡ given a) (l : Log) (
   last-node = last-is-node b a ok
 
   -- the points from a count on are those that a prefix test leaves
-  open-run : (m : Log) (c : ℕ) → Counted m (pattern b) c → size m - c ≡ length (select (λ i. not (settled m (pattern b) i)) (pointsFrom 0 (size m)))
+  pub open-run : (m : Log) (c : ℕ) → Counted m (pattern b) c → size m - c ≡ length (select (λ i. not (settled m (pattern b) i)) (pointsFrom 0 (size m)))
   open-run m c h =
       sym (points-length c (size m - c))
       ∙ ap length (sym (select-run (λ i. not (settled m (pattern b) i)) (size m) c (size m) (counted-most m (pattern b) c h) (omega arith) (λ j n. rw (h j, lt-ltb (j .0) (size m) n) (ends c (j .0)))))
@@ -131,6 +131,19 @@ module _ (b : List ℕ) (a : Accepted) (ok : checking b ≡ given a) (l : Log) (
   pub kept-stored : keptStored s ≡ kept b l
   unfolding kept storedOf
   kept-stored = refl
+
+  -- what is wanted follows from the counts of the nodes
+  pub wanted-same : (c d : ℕ → ℕ) → ((y : ℕ) → y < nodeCount b → c y ≡ d y) → (x : ℕ) → x < nodeCount b → wantedFrom b c x ≡ wantedFrom b d x
+  unfolding wantedFrom
+  wanted-same c d h x o = go (tested (eqb x (lastNode b)))
+    where
+      go : Tested (eqb x (lastNode b)) → wantedFrom b c x ≡ wantedFrom b d x
+      go (passed e) = rw e (h x o)
+      go (failed e) =
+          let q : x ≡ lastNode b → ⊥ = eqb-false x (lastNode b) e in
+          let (p, n, m) = has-parent b a ok x (omega arith) in
+          let r : parentOf b x ≡ p = parent-is b a ok p n x m in
+          rw (e, r, h x o, h p n)
 
   -- an event that may join the log: its time is no earlier than the last
   module _ (w : List ℕ) (ordered' : Ordered (grown b l w)) where
@@ -190,18 +203,6 @@ module _ (b : List ℕ) (a : Accepted) (ok : checking b ≡ given a) (l : Log) (
         (λ y q i u v. stamps-right i (omega (arith, count-before y q, base-low y q)) v) x o)))
 
     -- ---- the turns
-
-    wanted-same : (c d : ℕ → ℕ) → ((y : ℕ) → y < nodeCount b → c y ≡ d y) → (x : ℕ) → x < nodeCount b → wantedFrom b c x ≡ wantedFrom b d x
-    unfolding wantedFrom
-    wanted-same c d h x o = go (tested (eqb x (lastNode b)))
-      where
-        go : Tested (eqb x (lastNode b)) → wantedFrom b c x ≡ wantedFrom b d x
-        go (passed e) = rw e (h x o)
-        go (failed e) =
-            let q : x ≡ lastNode b → ⊥ = eqb-false x (lastNode b) e in
-            let (p, n, m) = has-parent b a ok x (omega arith) in
-            let r : parentOf b x ≡ p = parent-is b a ok p n x m in
-            rw (e, r, h x o, h p n)
 
     -- a child is wanted from no later than its parent's first unsettled point consults it
     wanted-child : (x : ℕ) → x < nodeCount b → (y : ℕ) → List·Memᴰ y (childrenOf (nodeAt b x)) → wantedFrom b was y ≤ firstWanted (nodeAt b x) (was x)

@@ -56,6 +56,10 @@ pub least-most : (n : ℕ) (cs : List ℕ) → leastOf n cs ≤ n
 least-most n [] = omega arith
 least-most n (c ∷ cs) = omega (arith, least-most n cs)
 
+pub least-above : (v n : ℕ) (c : ℕ → ℕ) (a k : ℕ) → v ≤ n → ((x : ℕ) → a ≤ x → x < a + k → v ≤ c x) → v ≤ leastOf n (map c (range a k))
+least-above v n c a zero h g = h
+least-above v n c a (suc k) h g = omega (arith, g a (omega arith) (omega arith), least-above v n c (suc a) k h (λ x u o. g x (omega arith) (omega arith)))
+
 pub least-grows : (n n' : ℕ) (c c' : ℕ → ℕ) (a k : ℕ) → n ≤ n' → ((x : ℕ) → a ≤ x → x < a + k → c x ≤ c' x) → leastOf n (map c (range a k)) ≤ leastOf n' (map c' (range a k))
 least-grows n n' c c' a zero h g = h
 least-grows n n' c c' a (suc k) h g = omega (arith, g a (omega arith) (omega arith), least-grows n n' c c' (suc a) k h (λ x u o. g x (omega arith) (omega arith)))

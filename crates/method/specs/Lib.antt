@@ -3,3 +3,4 @@ pub mod Stored
 pub mod Counts
 pub mod Settle
 pub mod Step
+pub mod WellFormed

@@ -1,0 +1,365 @@
+-- What a log that the keeper reaches stores is well formed: refusal 8 is never met from a start.
+use Prim.Native.Nat.{ℕ, zero, suc, _+_, _-_, _≤_, _<_, min}
+use native.Mathlib.Nat.{eq-or-lt-of-le}
+use native.Mathlib.Omega.{arith}
+use mathlib.Core.Path.{_≡_, refl, sym, _∙_, ap, ap₂, subst}
+use mathlib.Core.Bool.{Bool, true, false, not, cond, _&&_, _||_, false≢true, true≢false}
+use mathlib.Core.Logic.{_⊎_, inl, inr}
+use mathlib.Core.List.{List, [], _∷_, _++_, map, List·Memᴰ, List·Memᴰ·not-nil, List·Memᴰ·cases-cons, List·Memᴰ·eq-of-singleton, Memᴰ·of-map, Memᴰ·cast}
+use lib.ListN.{length, getD, drop, length-append, length-map}
+use Rattle.meaning.specs.Event.{pointOf}
+use lib.Dec.{ltb, leb, eqb}
+use borrow.Author.Tests.{ltb-true, ltb-false, lt-ltb, le-ltb, le-leb, eq-eqb, eqb-true, eqb-false, ne-eqb}
+use Rattle.meaning.specs.Lists.{all, any, range, select, gather, sameRow}
+use Rattle.meaning.specs.Outcome.{given, mostOpen, mostKept, mostPoints, mostRows}
+use Rattle.meaning.specs.Order.{ascending}
+use Rattle.meaning.specs.Log.{Log, Ordered, point, pointBefore, pointAfter, size, time, pointsFrom, pointsOf}
+use Rattle.meaning.specs.Formula.{Formula, free, atom, and, andNot, keep, or, exists, previous, next, since, notSince, until, notUntil, once, eventually}
+use Rattle.meaning.specs.Definition2.{Valuation}
+use Rattle.meaning.specs.Evaluator.{cutTo, valuationOf, vals}
+use Rattle.meaning.specs.Settled.{settled, settledUntil, settledCount}
+use Rattle.meaning.specs.RuleFile.{Accepted, checking, nodeCount, nodeAt, childrenOf, formulaOf, formulaAt, lastNode, pattern}
+use Rattle.meaning.specs.Kept.{belowEnd, countedAge, pairs, lastPairs, Entry, entryOf, parentOf, pointEntries, ageEntries, entriesOf, entries, kept, openPoints}
+use Rattle.meaning.specs.Keeper.{Taking, newlySettled, crowdedAt, grown, keeperLog}
+use Rattle.meaning.specs.declared.Point.{Point}
+use Rattle.meaning.specs.declared.Window.{Window}
+use Rattle.meaning.specs.declared.Node.{Node}
+use Rattle.meaning.specs.declared.Node.the-variants.{Atom, And, AndNot, Keep, Or, Exists, Previous, Next, Since, NotSince, Until, NotUntil, Once, Eventually}
+use Rattle.meaning.proofs.Fine.{Fine}
+use Rattle.meaning.proofs.Tree.{formula-step}
+use Rattle.meaning.proofs.Accepted.{accepted, lower, fine, nodes-most, last-is-node}
+use Rattle.meaning.proofs.Agreement.{ascends, rows-cut}
+use Rattle.meaning.proofs.Lemma9.{ExactPairs, Aged, since-pairs, notSince-pairs, once-pairs}
+use Rattle.meaning.proofs.Growth.{Extends, extends}
+use Rattle.meaning.proofs.Steady.{steady-by}
+use Rattle.meaning.proofs.Settles.{UntilSettled, until-parts, since-each, twin, present, prefix}
+use Rattle.meaning.proofs.Rows.{any-of, all-of, select-of, points-of, all-points, same-row, words-same, words-at}
+use Rattle.meaning.proofs.Points.{both, first, second, Tested, passed, failed, tested}
+use Rattle.meaning.proofs.Takings.{Accepts, every-log}
+use Rattle.method.specs.Stored.{Stored, held, heldPairs, leastOf, firstRetained, storedOf}
+use Rattle.method.specs.Step.{wantedFrom, countsStored, countBefore, storedRun}
+use Rattle.method.specs.WellFormed.{mostTimes, isAccepted, notFalling, sameEntry, sameEntries, rowOfNode, setFits, pairFits, pairsFit, ownEntries, nodeFits, wellFormed}
+use Rattle.method.proofs.Counted.{Counted, counted-most, count-counted, counts-length, upto-holds, upto-below}
+use Rattle.method.proofs.Lists.{gather-each, gather-none}
+use Rattle.method.proofs.Parents.{parent-is, has-parent}
+use Rattle.method.proofs.Keeps.{wanted-low, held-is, heldPairs-is, entries-run}
+use Rattle.method.proofs.Turns.{from-getD, gather-over, least-most, least-above, points-length}
+use Rattle.method.proofs.Stepped.{count-before, open-run, wanted-same}
+use Rattle.method.proofs.Whole.{grown-ordered, no-points, whole-stored}
+
+-- ---- what holds of every log that the keeper reaches
+
+pub record Reached (b : List ℕ) (l : Log) : Type 0 where
+  pub ordered : Ordered l
+  pub few-points : size l ≤ mostPoints
+  pub few-open : openPoints b l ≤ mostOpen
+  pub few-kept : kept b l ≤ mostKept
+  pub few-rows : (x : ℕ) → x < nodeCount b → (j : Point) → settled l (formulaAt b x) j ≡ true → length (vals l (formulaAt b x) j) ≤ mostRows
+
+-- what no element passes
+none-pass : {A : Type 0} (p : A → Bool) {x : A} {xs : List A} → any p xs ≡ false → List·Memᴰ x xs → p x ≡ false
+none-pass p {x} {xs} e m = elim (tested (p x)) [ passed t ↦ absurd (true≢false (sym (any-of p m t) ∙ e)) | failed t ↦ t ]
+
+module _ (b : List ℕ) (a : Accepted) (ok : checking b ≡ given a) where
+  empty-entries : (x : ℕ) → entriesOf b [] x ≡ []
+  unfolding entriesOf pointEntries ageEntries lastPairs
+  empty-entries x = go (eqb x (lastNode b))
+    where
+      go : (t : Bool) → _++_ {A = Entry} (cond t [] []) [] ≡ []
+      go true = refl
+      go false = refl
+
+  empty-kept : kept b [] ≤ mostKept
+  unfolding kept entries
+  empty-kept = rw (gather-none (entriesOf b []) 0 (nodeCount b) (λ x u o. empty-entries x)) (omega arith)
+
+  empty-open : openPoints b [] ≤ mostOpen
+  unfolding openPoints
+  empty-open = omega arith
+
+  empty-reached : Reached b []
+  empty-reached =
+      record { ordered = no-points; few-points = omega arith; few-open = empty-open; few-kept = empty-kept; few-rows = λ x o j e. absurd (omega (arith, present [] (formulaAt b x) j e)) }
+
+  -- a point settled before has the rows that it had; one settled now passed 13
+  rows-stay : (l : Log) (t : Taking) (n : ℕ) → Reached b l → Accepts b l t n → (x : ℕ) → x < nodeCount b → (j : Point) → settled (grown b l (t .event)) (formulaAt b x) j ≡ true
+      → length (vals (grown b l (t .event)) (formulaAt b x) j) ≤ mostRows
+  unfolding crowdedAt newlySettled
+  rows-stay l t n r p x o j e = go (tested (settled l (formulaAt b x) j))
+    where
+      l' : Log
+      l' = grown b l (t .event)
+      grows : Extends l l'
+      grows = extends l l' (record { more = _; begins = refl; ordered = grown-ordered b l (t .event) (r .ordered) (p .later) })
+      go : Tested (settled l (formulaAt b x) j) → length (vals l' (formulaAt b x) j) ≤ mostRows
+      go (passed s) = rw (← steady-by l l' grows (formulaAt b x) (fine b a ok x o) j s) (r .few-rows x o j s)
+      go (failed s) =
+          ltb-false mostRows (length (vals l' (formulaAt b x) j))
+          (none-pass (λ i. ltb mostRows (length (vals l' (formulaAt b x) i))) (p .figures .none-crowded x o)
+          (select-of (λ i. settled l' (formulaAt b x) i && not (settled l (formulaAt b x) i)) (points-of 0 (size l') (omega arith) (omega (arith, present l' (formulaAt b x) j e))) (both e (rw s))))
+
+  step-reached : (l : Log) (t : Taking) (n : ℕ) → Reached b l → Accepts b l t n → Reached b (grown b l (t .event))
+  step-reached l t n r p =
+      record
+      { ordered = grown-ordered b l (t .event) (r .ordered) (p .later)
+      ; few-points = omega (arith, p .room, length-append l (pointOf b (t .event) ∷ []))
+      ; few-open = p .figures .few-open
+      ; few-kept = p .figures .few-kept
+      ; few-rows = rows-stay l t n r p
+      }
+
+  pub reached : (ts : List Taking) → Reached b (keeperLog b [] ts)
+  reached ts = every-log b (Reached b) step-reached ts [] empty-reached
+
+-- ---- how far a node can lag behind the last
+
+-- where a point is settled for a node, the point before it is for its children
+behind : (l : Log) → Ordered l → (F : ℕ → Formula) (n : Node) → Fine (formulaOf F n) → (y : ℕ) → Fine (F y) → List·Memᴰ y (childrenOf n) → (i : Point) → settled l (formulaOf F n) i ≡ true → 0 < i .0 → settled l (F y) (pointBefore i) ≡ true
+behind l o F n f y g m i e h = go n f m e
+  where
+    back : settled l (F y) i ≡ true → settled l (F y) (pointBefore i) ≡ true
+    back s = prefix l o (F y) g i (pointBefore i) (omega arith) s
+    one : (c : ℕ) → settled l (F c) i ≡ true → List·Memᴰ y (c ∷ []) → settled l (F y) (pointBefore i) ≡ true
+    one c s k = back (subst (λ z. settled l (F z) i ≡ true) (sym (List·Memᴰ·eq-of-singleton k)) s)
+    two : (c d : ℕ) → (settled l (F c) i && settled l (F d) i) ≡ true → List·Memᴰ y (c ∷ d ∷ []) → settled l (F y) (pointBefore i) ≡ true
+    two c d s k = elim (List·Memᴰ·cases-cons k) [ inl q ↦ back (subst (λ z. settled l (F z) i ≡ true) (sym q) (first (settled l (F c) i) (settled l (F d) i) s)) | inr q ↦ one d (second (settled l (F c) i) (settled l (F d) i) s) q ]
+    here : (w : Window) (c : Point → Bool) → 0 < w .end → settledUntil l w c i ≡ true → c i ≡ true
+    here w c d s = let p : UntilSettled l w c i = until-parts l w c i s in p .inner i (omega arith) (p .here) (omega arith)
+    go : (n : Node) → Fine (formulaOf F n) → List·Memᴰ y (childrenOf n) → settled l (formulaOf F n) i ≡ true → settled l (F y) (pointBefore i) ≡ true
+    go (Atom r t) f m e = absurd (List·Memᴰ·not-nil m)
+    go (And a b) f m e = two a b e m
+    go (AndNot a b) f m e = two a b e m
+    go (Keep a c t) f m e = one a e m
+    go (Or a b) f m e = two a b e m
+    go (Exists a x) f m e = one a e m
+    go (Previous a w) f m e =
+        let c : settled l (F a) (pointBefore i) ≡ true = rw (ne-eqb (i .0) 0 (λ z. omega arith)) at (second (ltb (i .0) (size l)) (eqb (i .0) 0 || settled l (F a) (pointBefore i)) e) in
+        subst (λ z. settled l (F z) (pointBefore i) ≡ true) (sym (List·Memᴰ·eq-of-singleton m)) c
+    go (Next a w) f m e = one a (prefix l o (F a) f (pointAfter i) i (omega arith) e) m
+    go (Since a b w) f m e = two a b (since-each (twin l (F a) (F b)) i e i (omega arith)) m
+    go (NotSince a b w) f m e = two a b (since-each (twin l (F a) (F b)) i e i (omega arith)) m
+    go (Until a b w) f m e = two a b (here w (twin l (F a) (F b)) (f .3) e) m
+    go (NotUntil a b w) f m e = two a b (here w (twin l (F a) (F b)) (f .3) e) m
+    go (Once a w) f m e = one a (since-each (settled l (F a)) i e i (omega arith)) m
+    go (Eventually a w) f m e = one a (here w (settled l (F a)) (f .1) e) m
+
+-- a list of entries is the same as itself
+same-entries : (es fs : List Entry) → es ≡ fs → sameEntries es fs ≡ true
+same-entries es fs e = rw (← e) (go es)
+  where
+    go : (es : List Entry) → sameEntries es es ≡ true
+    go [] = refl
+    go (e ∷ es) = both (both (both (both (eq-eqb (e .node) (e .node) refl) (eq-eqb (e .mark) (e .mark) refl)) (eq-eqb (e .number) (e .number) refl)) (same-row (e .values) (e .values) .1 refl)) (go es)
+
+-- ---- rows and pairs
+
+-- a row that is cut down stays as it is
+cut-again : (f : ℕ → Bool) (v : Valuation) → cutTo f v ≡ cutTo f (valuationOf (cutTo f v))
+cut-again f v = words-same (λ x h. go x (f x) (words-at (λ y. cond (f y) (v y) 0) x h))
+  where
+    go : (x : ℕ) (t : Bool) {c : ℕ} → c ≡ cond t (v x) 0 → cond t (v x) 0 ≡ cond t c 0
+    go x true e = sym e
+    go x false e = refl
+
+-- an age that counts is in range
+age-counts : (w : Window) (a y : ℕ) → belowEnd w a ≡ true → y ≡ countedAge w a → (belowEnd w y ≡ true) × (countedAge w y ≡ y)
+age-counts w a y e h = go (tested (eqb (w .end) 0))
+  where
+    go : Tested (eqb (w .end) 0) → (belowEnd w y ≡ true) × (countedAge w y ≡ y)
+    go (passed z) = let k : y ≡ min a (w .start) = rw z at h in (rw z, rw z (omega arith))
+    go (failed z) = let k : y ≡ a = rw z at h in (rw k e, rw z)
+
+
+-- the pairs of a kind that has them: ages in range, rows of the node
+module _ (b : List ℕ) (x : ℕ) (w : Window) {f : ℕ → Bool} (q : free (formulaAt b x) ≡ f) {l : Log} {i : Point} {left right : Valuation → Point → Type 0} {rows : List (List ℕ)}
+    (e : ExactPairs f (λ y v. Aged l w (left v) (right v) i y) rows) where
+  pairs-fit : (ascending rows && all (pairFits b x w) rows) ≡ true
+  pairs-fit = both (e .ascends) (all-of (pairFits b x w) rows (λ p m. one p m))
+    where
+      one : (p : List ℕ) → List·Memᴰ p rows → pairFits b x w p ≡ true
+      one p m =
+          let (y, v, d) = e .cut p m in
+          let g : Aged l w (left v) (right v) i y = e .same y v .0 (Memᴰ·cast (sym d) m) in
+          let k = age-counts w _ y (g .below) (g .age) in
+          rw (d, q) (both (both (k .0) (eq-eqb (countedAge w y) y (k .1))) (same-row _ _ .1 (cut-again f v)))
+
+no-pairs-fit : (b : List ℕ) (x : ℕ) (n : Node) → pairsFit b x n [] ≡ true
+no-pairs-fit b x (Atom r t) = refl
+no-pairs-fit b x (And a c) = refl
+no-pairs-fit b x (AndNot a c) = refl
+no-pairs-fit b x (Keep a c s) = refl
+no-pairs-fit b x (Or a c) = refl
+no-pairs-fit b x (Exists a v) = refl
+no-pairs-fit b x (Previous a w) = refl
+no-pairs-fit b x (Next a w) = refl
+no-pairs-fit b x (Since a c w) = refl
+no-pairs-fit b x (NotSince a c w) = refl
+no-pairs-fit b x (Until a c w) = refl
+no-pairs-fit b x (NotUntil a c w) = refl
+no-pairs-fit b x (Once a w) = refl
+no-pairs-fit b x (Eventually a w) = refl
+
+some-pairs-fit : (b : List ℕ) (x : ℕ) (l : Log) (i : Point) (F : ℕ → Formula) (n : Node) → formulaAt b x ≡ formulaOf F n → Fine (formulaOf F n) → pairsFit b x n (pairs l (formulaOf F n) i) ≡ true
+some-pairs-fit b x l i F (Atom r t) q f = refl
+some-pairs-fit b x l i F (And a c) q f = refl
+some-pairs-fit b x l i F (AndNot a c) q f = refl
+some-pairs-fit b x l i F (Keep a c s) q f = refl
+some-pairs-fit b x l i F (Or a c) q f = refl
+some-pairs-fit b x l i F (Exists a v) q f = refl
+some-pairs-fit b x l i F (Previous a w) q f = refl
+some-pairs-fit b x l i F (Next a w) q f = refl
+some-pairs-fit b x l i F (Since a c w) q f = pairs-fit b x w (ap free q) (since-pairs l i (F a) (F c) w f)
+some-pairs-fit b x l i F (NotSince a c w) q f = pairs-fit b x w (ap free q) (notSince-pairs l i (F a) (F c) w f)
+some-pairs-fit b x l i F (Until a c w) q f = refl
+some-pairs-fit b x l i F (NotUntil a c w) q f = refl
+some-pairs-fit b x l i F (Once a w) q f = pairs-fit b x w (ap free q) (once-pairs l i (F a) w f)
+some-pairs-fit b x l i F (Eventually a w) q f = refl
+
+-- ---- the conditions, one by one
+
+module _ (b : List ℕ) (a : Accepted) (ok : checking b ≡ given a) (l : Log) (r : Reached b l) where
+  abbrev s : Stored
+  s = storedOf b l
+
+  abbrev was : ℕ → ℕ
+  was x = settledCount l (formulaAt b x)
+
+  was-counted : (x : ℕ) → x < nodeCount b → Counted l (formulaAt b x) (was x)
+  was-counted x o = count-counted l (formulaAt b x) (r .ordered) (fine b a ok x o)
+
+  -- a child lags at most one point behind its parent
+  lags : (y : ℕ) → y < nodeCount b → (x : ℕ) → x < nodeCount b → List·Memᴰ y (childrenOf (nodeAt b x)) → was x ≤ was y + 1
+  lags y p x o m = go (tested (ltb 1 (was x)))
+    where
+      step : formulaAt b x ≡ formulaOf (formulaAt b) (nodeAt b x)
+      step = formula-step b x (lower b (nodeCount b) (accepted b a ok .each) x o)
+      go : Tested (ltb 1 (was x)) → was x ≤ was y + 1
+      go (failed e) = omega (arith, ltb-false 1 (was x) e)
+      go (passed e) =
+          let h : 1 < was x = ltb-true 1 (was x) e in
+          let i : Point = point (was x - 1) in
+          let t : settled l (formulaOf (formulaAt b) (nodeAt b x)) i ≡ true = subst (λ φ. settled l φ i ≡ true) step (upto-holds (settled l (formulaAt b x)) (was x) (was-counted x o) i (omega arith)) in
+          let k : settled l (formulaAt b y) (pointBefore i) ≡ true = behind l (r .ordered) (formulaAt b) (nodeAt b x) (subst Fine step (fine b a ok x o)) y (fine b a ok y p) m i t (omega arith) in
+          omega (arith, upto-below (settled l (formulaAt b y)) (was y) (was-counted y p) (pointBefore i) k)
+
+  -- `open` is what the last node lags
+  open-is : was (lastNode b) + openPoints b l ≡ size l
+  unfolding openPoints
+  open-is =
+      let n : was (lastNode b) ≤ size l = counted-most l (pattern b) (was (lastNode b)) (was-counted (lastNode b) (last-is-node b a ok)) in
+      omega (arith, open-run b a ok l (r .ordered) l (was (lastNode b)) (was-counted (lastNode b) (last-is-node b a ok)))
+
+  depth : (k x : ℕ) → x < nodeCount b → lastNode b - x ≤ k → size l ≤ was x + openPoints b l + (lastNode b - x)
+  depth zero x o h = let e : x ≡ lastNode b = omega arith in let z : was x ≡ was (lastNode b) = ap was e in omega (arith, open-is)
+  depth (suc k) x o h = go (depth k) (tested (ltb x (nodeCount b - 1)))
+    where
+      go : ((y : ℕ) → y < nodeCount b → lastNode b - y ≤ k → size l ≤ was y + openPoints b l + (lastNode b - y)) → Tested (ltb x (nodeCount b - 1)) → size l ≤ was x + openPoints b l + (lastNode b - x)
+      go rest (failed e) = let q : x ≡ lastNode b = omega (arith, ltb-false x (nodeCount b - 1) e) in let z : was x ≡ was (lastNode b) = ap was q in omega (arith, open-is)
+      go rest (passed e) =
+          let q : x < nodeCount b - 1 = ltb-true x (nodeCount b - 1) e in
+          let (y, n, m) = has-parent b a ok x q in
+          let under : x < y = lower b (nodeCount b) (accepted b a ok .each) y n y (omega arith) x m in
+          omega (arith, lags x o y n m, rest y n (omega arith))
+
+  -- the counts that are stored
+  counts-many : length (countsStored s) ≡ nodeCount b
+  unfolding countsStored storedOf
+  counts-many = counts-length b _ (size l) _ (nodeCount b)
+
+  count-entry : (x : ℕ) → x < nodeCount b → getD (countsStored s) x 0 ≡ was x
+  unfolding countBefore
+  count-entry x o = count-before b a ok l (r .ordered) x o
+
+  counts-are : countsStored s ≡ map was (range 0 (nodeCount b))
+  counts-are = from-getD (countsStored s) (nodeCount b) was counts-many count-entry
+
+  few-times : size l - firstRetained (size l) (map was (range 0 (nodeCount b))) ≤ mostTimes
+  few-times =
+      let h : size l - 63 ≤ leastOf (size l) (map was (range 0 (nodeCount b))) =
+        least-above (size l - 63) (size l) was 0 (nodeCount b) (omega arith)
+        (λ x u o. omega (arith, depth (lastNode b - x) x (omega arith) (omega arith), r .few-open, nodes-most b a ok)) in
+      omega arith
+
+  -- the times don't fall
+  run-rises : (k n : ℕ) → k + n ≤ size l → notFalling (map (λ i. time l i .0) (pointsFrom k n)) ≡ true
+  run-rises k zero h = refl
+  run-rises k (suc zero) h = refl
+  run-rises k (suc (suc n)) h = both (le-leb (time l (point k) .0) (time l (point (suc k)) .0) (r .ordered .steps (point k) (point (suc k)) (omega arith) (omega arith))) (run-rises (suc k) (suc n) (omega arith))
+
+  -- each node's rows and pairs
+  last-pairs-fit : (x : ℕ) → x < nodeCount b → pairsFit b x (nodeAt b x) (lastPairs l (formulaAt b x)) ≡ true
+  unfolding lastPairs
+  last-pairs-fit x o = go (eqb (was x) 0)
+    where
+      step : formulaAt b x ≡ formulaOf (formulaAt b) (nodeAt b x)
+      step = formula-step b x (lower b (nodeCount b) (accepted b a ok .each) x o)
+      go : (t : Bool) → pairsFit b x (nodeAt b x) (cond t [] (pairs l (formulaAt b x) (point (was x - 1)))) ≡ true
+      go true = no-pairs-fit b x (nodeAt b x)
+      go false = subst (λ φ. pairsFit b x (nodeAt b x) (pairs l φ (point (was x - 1))) ≡ true) (sym step) (some-pairs-fit b x l (point (was x - 1)) (formulaAt b) (nodeAt b x) step (subst Fine step (fine b a ok x o)))
+
+  set-fits : (x : ℕ) → x < nodeCount b → (j : Point) → settled l (formulaAt b x) j ≡ true → setFits b x (vals l (formulaAt b x) j) ≡ true
+  set-fits x o j e =
+      both (both (le-leb (length (vals l (formulaAt b x) j)) mostRows (r .few-rows x o j e)) (ascends l (formulaAt b x) (fine b a ok x o) j))
+      (all-of (rowOfNode b x) (vals l (formulaAt b x) j) (λ u m. same-row u _ .1 (rows-cut l (formulaAt b x) (fine b a ok x o) j u m)))
+
+  wanted-now : (x : ℕ) → x < nodeCount b → wantedFrom b (countBefore s) x ≡ wantedFrom b was x
+  wanted-now x o = wanted-same b a ok l (r .ordered) (countBefore s) was (count-before b a ok l (r .ordered)) x o
+
+  node-fits : (x : ℕ) → x < nodeCount b → nodeFits s x ≡ true
+  unfolding nodeFits storedOf
+  node-fits x o =
+      rw (wanted-now x o, count-before b a ok l (r .ordered) x o, heldPairs-is b a ok l (r .ordered) x o)
+      (both
+      (all-points _ (wantedFrom b was x) (was x - wantedFrom b was x) .1
+      (λ j u v. rw (held-is b a ok l (r .ordered) x o j u (omega (arith, wanted-low b a ok l (r .ordered) x)))
+        (set-fits x o j (upto-holds (settled l (formulaAt b x)) (was x) (was-counted x o) j (omega (arith, wanted-low b a ok l (r .ordered) x))))))
+      (last-pairs-fit x o))
+
+  own-entries : (x : ℕ) → x < nodeCount b → entriesOf b l x ≡ ownEntries s x
+  unfolding ownEntries storedOf
+  own-entries x o =
+      entries-run b a ok l (r .ordered) x o
+      ∙ sym
+      (rw (wanted-now x o, count-before b a ok l (r .ordered) x o, heldPairs-is b a ok l (r .ordered) x o)
+      (ap (λ es. es ++ map (λ p. entryOf x 1 (getD p 0 0) (drop 1 p)) (lastPairs l (formulaAt b x)))
+      (gather-over _ (λ j. map (entryOf x 0 (j .0)) (vals l (formulaAt b x) j)) (wantedFrom b was x) (was x - wantedFrom b was x)
+      (λ j u v. ap (map (entryOf x 0 (j .0))) (held-is b a ok l (r .ordered) x o j u (omega (arith, wanted-low b a ok l (r .ordered) x)))))))
+
+  entries-own : entries b l ≡ gather (ownEntries s) (range 0 (nodeCount b))
+  unfolding entries
+  entries-own = gather-each (entriesOf b l) (ownEntries s) 0 (nodeCount b) (λ x u o. own-entries x (omega arith))
+
+  all-nodes-fit : (k n : ℕ) → k + n ≤ nodeCount b → all (nodeFits s) (range k n) ≡ true
+  all-nodes-fit k zero h = refl
+  all-nodes-fit k (suc n) h = both (node-fits k (omega arith)) (all-nodes-fit (suc k) n (omega arith))
+
+  abbrev base : ℕ
+  base = firstRetained (size l) (map was (range 0 (nodeCount b)))
+
+  base-size : base ≤ size l
+  base-size = let h : leastOf (size l) (map was (range 0 (nodeCount b))) ≤ size l = least-most (size l) (map was (range 0 (nodeCount b))) in omega arith
+
+  times-many : length (map (λ i. time l i .0) (pointsFrom base (size l - base))) ≡ size l - base
+  times-many = length-map (pointsFrom base (size l - base)) _ ∙ points-length base (size l - base)
+
+  kept-few : length (entries b l) ≤ mostKept
+  unfolding kept
+  kept-few = r .few-kept
+
+  -- what the log stores is well formed
+  pub stored-well-formed : wellFormed s ≡ true
+  unfolding wellFormed storedOf
+  stored-well-formed =
+      both (both (both (both (both (both (both
+      (ap isAccepted ok)
+      (le-leb (size l) mostPoints (r .few-points)))
+      (rw times-many (le-leb (size l - base) mostTimes few-times)))
+      (eq-eqb _ _ (times-many ∙ ap (λ cs. size l - firstRetained (size l) cs) (sym counts-are))))
+      (run-rises base (size l - base) (omega (arith, base-size))))
+      (le-leb (length (entries b l)) mostKept kept-few))
+      (same-entries (entries b l) (gather (ownEntries s) (range 0 (nodeCount b))) entries-own))
+      (all-nodes-fit 0 (nodeCount b) (omega arith))
+
+-- No state reached from a start meets 8.
+pub always-well-formed : (b : List ℕ) (a : Accepted) → checking b ≡ given a → (ts : List Taking) → wellFormed (storedRun (storedOf b []) ts) ≡ true
+always-well-formed b a ok ts = rw (whole-stored b a ok ts) (stored-well-formed b a ok (keeperLog b [] ts) (reached b a ok ts))

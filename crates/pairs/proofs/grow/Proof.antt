@@ -1,0 +1,21 @@
+-- `grow` meets its contract: right's rows, and then the old pairs, are put into nothing.
+use borrow.Author.Needs.{needs}
+use Rattle.pairs.proofs.Growing.{room-from-none, room-then, put-both}
+use Rattle.pairs.proofs.grow.Statement.{statement}
+use Rattle.pairs.proofs.grow.Tie as tie
+
+add-young-requires : tie.Need-add-young-requires
+add-young-requires c κs =
+    let s = c .before .before .before .before .before .before .before in
+    (s .pre .1 .0, room-from-none (s .args .old) (s .pre .1 .1 .1))
+
+add-all-older-requires : tie.Need-add-all-older-requires
+add-all-older-requires c κs =
+    let s = c .before .before .before .before .before .before .before .before .before .before .before .before .before .before in
+    (s .pre .0, (s .pre .1 .1 .0, room-then (c .before .before .before .before .before .before .add-young .ensures) (s .pre .1 .1 .1)))
+
+returns : tie.Need-returns
+returns c = put-both (c .before .before .before .before .before .before .before .before .before .before .before .add-young .ensures) (c .before .before .before .before .add-all-older .ensures)
+
+pub grow-spec : {M : Type 1} → statement M
+grow-spec = tie.close (tie.spec add-young-requires add-all-older-requires (λ c. search needs) (λ c. search needs) returns)

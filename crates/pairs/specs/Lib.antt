@@ -1,0 +1,2 @@
+-- What functions over pairs read, ask and ensure.
+pub mod Pairs
