@@ -11,7 +11,7 @@ use Rattle.meaning.specs.Order.{before, ascending}
 use Rattle.meaning.specs.Evaluator.{insert}
 use Rattle.meaning.proofs.Points.{first, second}
 use Rattle.rowset.specs.Rows.{placeOf}
-use Rattle.rowset.proofs.Ascending.{insert-ascends}
+use Rattle.meaning.proofs.Rows.{insert-ascends}
 use Rattle.rowset.proofs.Places.{place-within, insert-there, insert-new}
 use Rattle.kinds.specs.Kinds.{pairAt, pairsFrom}
 use Rattle.pairs.specs.Pairs.{PairRoom, PairsAdded}

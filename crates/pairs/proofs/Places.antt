@@ -8,8 +8,7 @@ use lib.ListN.{length, getD}
 use Rattle.meaning.specs.Order.{before, ascending}
 use Rattle.meaning.proofs.Points.{first, second}
 use Rattle.rowset.specs.Rows.{placeOf}
-use Rattle.meaning.proofs.Rows.{before-transitive}
-use Rattle.rowset.proofs.Ascending.{tail-ascends}
+use Rattle.meaning.proofs.Rows.{before-transitive, ascending-tail}
 
 -- the place is at most the number of a pair that doesn't stand before x
 pub place-most : (x : List ℕ) (pairs : List (List ℕ)) (k : ℕ) → before (getD pairs k []) x ≡ false → placeOf x pairs ≤ k
@@ -35,5 +34,5 @@ place-above x [] k a l e = absurd (omega arith)
 place-above x (s ∷ pairs) zero a l e = rw e (omega arith)
 place-above x (s ∷ pairs) (suc k) a l e =
     let p : before s x ≡ true = before-transitive s (getD pairs k []) x (first-before s pairs k a (omega arith)) e in
-    let h = place-above x pairs k (tail-ascends s pairs a) (omega arith) e in
+    let h = place-above x pairs k (ascending-tail s pairs a) (omega arith) e in
     rw p (omega arith)
