@@ -10,23 +10,9 @@ use borrow.Author.Tests.{ltb-true, ltb-false}
 use Rattle.meaning.proofs.Points.{Tested, passed, failed, tested}
 use Rattle.rowset.specs.Rows.{rowAt, rowsFrom}
 use Rattle.rowset.proofs.Runs.{rows-same}
+use Rattle.room.proofs.Laid.{mark-before}
 use Rattle.room.specs.Room.{setIn, Laid}
 use Rattle.shelf.specs.Appended.{Copied, Space, Extended, Pushed}
-
--- a set begins where the last one ends, or before
-marks-ascend : {rows at : List ℕ} {n : ℕ} → Laid rows at n → (q d : ℕ) → q + d ≤ n → getD at q 0 ≤ getD at (q + d) 0
-marks-ascend {at = at} h q zero l =
-    let e : q + 0 ≡ q = omega arith in
-    rw e (omega arith)
-marks-ascend {at = at} h q (suc d) l =
-    let e : q + d + 1 ≡ q + suc d = omega arith in
-    let up : getD at (q + d) 0 ≤ getD at (q + suc d) 0 = rw e at (h .steps (q + d) (omega arith)) in
-    omega (arith, marks-ascend h q d (omega arith))
-
-pub mark-before : {rows at : List ℕ} {n : ℕ} → Laid rows at n → (q : ℕ) → q ≤ n → getD at q 0 ≤ getD at n 0
-mark-before {n = n} h q l =
-    let e : q + (n - q) ≡ n = omega arith in
-    rw e at (marks-ascend h q (n - q) (omega arith))
 
 -- a row before the copied ones
 row-kept : {old : List ℕ} {end : ℕ} {new : List ℕ} {count : ℕ} {rows : List (List ℕ)} → Copied old end new count rows → (k : ℕ) → k < end → rowAt new k ≡ rowAt old k

@@ -7,26 +7,11 @@ use lib.ListN.{getD}
 use Rattle.meaning.specs.Log.{point}
 use Rattle.rowset.specs.Rows.{rowsFrom}
 use Rattle.rowset.specs.Sets.{Run}
+use Rattle.room.proofs.Laid.{laid-fewer}
 use Rattle.room.specs.Room.{Laid, setAt}
 use Rattle.untils.specs.Until.{Stand}
 
 module _ {rows at : List ℕ} where
-  -- the last of fewer sets ends no later than the last
-  marks-rise : {n : ℕ} → Laid rows at n → (q d : ℕ) → q + d ≤ n → getD at q 0 ≤ getD at (q + d) 0
-  marks-rise h q zero l =
-      let e : q + 0 ≡ q = omega arith in
-      rw e (omega arith)
-  marks-rise h q (suc d) l =
-      let e : q + suc d ≡ q + d + 1 = omega arith in
-      rw e (omega (arith, marks-rise h q d (omega arith), h .steps (q + d) (omega arith)))
-
-  -- fewer sets
-  pub laid-fewer : {n : ℕ} → Laid rows at n → (k : ℕ) → k ≤ n → Laid rows at k
-  laid-fewer {n} h k l =
-      let e : k + (n - k) ≡ n = omega arith in
-      let r : getD at k 0 ≤ getD at n 0 = rw e at (marks-rise h k (n - k) (omega arith)) in
-      record { marks = omega (arith, h .marks); steps = λ q b. h .steps q (omega arith); words = omega (arith, h .words) }
-
   -- a node's sets are among those laid
   pub stand-in : {n : ℕ} → Laid rows at n → (first low i m : ℕ) → low ≤ i → i ≤ m → first + (m - low) ≤ n → Stand rows at first low i m
   stand-in h first low i m l o k = record { low-most = l; ordered = o; laid = laid-fewer h (first + (m - low)) k }

@@ -1,0 +1,2 @@
+-- Facts about sets laid one after the other.
+pub mod Laid
