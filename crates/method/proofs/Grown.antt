@@ -184,16 +184,16 @@ module _ (τ : Point → Stamp) (w : Window) (left : List ℕ → Point → Bool
       next-pairs i times =
           with-past (point (suc i)) (older w by (λ u. left u (point (suc i))) before)
           (λ p x h. let (j, u, a, b, c, d) = x in
-              let o : j .0 ≤ i = omega arith in
-              let (m, e) = lasts-on i j u o .0 c in
-              let y : age (point i) j ≤ age (point (suc i)) j = omega (arith, ages-add j o) in
-              let n = stays (point i) (aged (point i) j u) .1 (j, u, o, younger-below w y b, m, refl) in
-              Memᴰ·cast (sym d ∙ ap (λ (z : ℕ). z ∷ u) (sym (same-age j o))) (Memᴰ·map grown (select-of remains n (both (same-below j o ∙ b) e))))
+          let o : j .0 ≤ i = omega arith in
+          let (m, e) = lasts-on i j u o .0 c in
+          let y : age (point i) j ≤ age (point (suc i)) j = omega (arith, ages-add j o) in
+          let n = stays (point i) (aged (point i) j u) .1 (j, u, o, younger-below w y b, m, refl) in
+          Memᴰ·cast (sym d ∙ ap (λ (z : ℕ). z ∷ u) (sym (same-age j o))) (Memᴰ·map grown (select-of remains n (both (same-below j o ∙ b) e))))
           (λ p m. let (q, n, e) = Memᴰ·of-map grown (select remains before) m in
-              let (k, t) = select-at remains before n in
-              let (j, u, a, b, c, d) = stays (point i) q .0 k in
-              let (f, g) = and-eq-true-iff (belowEnd w (countedAge w (age (point i) j) + by)) (left u (point (suc i))) .0 (rw (← d) at t) in
-              (j, u, omega arith, sym (same-below j a) ∙ f, lasts-on i j u a .1 (c, g), ap (λ (z : ℕ). z ∷ u) (sym (same-age j a)) ∙ ap grown d ∙ e))
+          let (k, t) = select-at remains before n in
+          let (j, u, a, b, c, d) = stays (point i) q .0 k in
+          let (f, g) = and-eq-true-iff (belowEnd w (countedAge w (age (point i) j) + by)) (left u (point (suc i))) .0 (rw (← d) at t) in
+          (j, u, omega arith, sym (same-below j a) ∙ f, lasts-on i j u a .1 (c, g), ap (λ (z : ℕ). z ∷ u) (sym (same-age j a)) ∙ ap grown d ∙ e))
         where
           by : ℕ
           by = grownBy τ (point (suc i))

@@ -83,6 +83,7 @@ consulted-from l F (Next a w) p c y m j = go (j .0) refl
   where
     shift : (k : ℕ) → leb p k ≡ leb (p + 1) (suc k)
     shift k = both-ways (leb p k) (leb (p + 1) (suc k)) (λ e. le-leb (p + 1) (suc k) (omega (arith, leb-true p k e))) (λ e. le-leb p k (omega (arith, leb-true (p + 1) (suc k) e)))
+
     go : (k : ℕ) → j .0 ≡ k → any (λ i. not (settled l (formulaOf F (Next a w)) (point i)) && eqb k (suc i)) (range 0 (k + 2)) ≡ leb (p + 1) k
     go zero e = consult-none l (formulaOf F (Next a w)) p c 0 (λ i. eqb 0 (suc i)) (leb (p + 1) 0) (lt-leb (p + 1) 0 (omega arith)) (λ i. ne-eqb 0 (suc i) (λ d. omega arith))
     go (suc k) e =
@@ -147,10 +148,11 @@ module _ (b : List ℕ) (a : Accepted) (ok : checking b ≡ given a) (l : Log) (
       asked p n m j =
           let step : formulaAt b p ≡ formulaOf (formulaAt b) (nodeAt b p) = formula-step b p (lower b (nodeCount b) (accepted b a ok .each) p n) in
           ap (λ φ. consulted l φ j) step ∙ consulted-from l (formulaAt b) (nodeAt b p) (countIn p) (subst (λ φ. Counted l φ (countIn p)) step (count-of p n)) x m j
+
       ends : (c f j : ℕ) → (ltb j c && leb f j) ≡ (leb (min c f) j && ltb j c)
       ends c f j = both-ways (ltb j c && leb f j) (leb (min c f) j && ltb j c)
-        (λ e. both (le-leb (min c f) j (omega (arith, leb-true f j (second (ltb j c) (leb f j) e)))) (first (ltb j c) (leb f j) e))
-        (λ e. let u : j < c = ltb-true j c (second (leb (min c f) j) (ltb j c) e) in both (second (leb (min c f) j) (ltb j c) e) (le-leb f j (omega (arith, leb-true (min c f) j (first (leb (min c f) j) (ltb j c) e)))))
+          (λ e. both (le-leb (min c f) j (omega (arith, leb-true f j (second (ltb j c) (leb f j) e)))) (first (ltb j c) (leb f j) e))
+          (λ e. let u : j < c = ltb-true j c (second (leb (min c f) j) (ltb j c) e) in both (second (leb (min c f) j) (ltb j c) e) (le-leb f j (omega (arith, leb-true (min c f) j (first (leb (min c f) j) (ltb j c) e)))))
 
   -- the last node keeps no rows
   last-wanted : (x : ℕ) → eqb x (lastNode b) ≡ true → countIn x - wantedFrom b countIn x ≡ 0
@@ -173,6 +175,7 @@ module _ (b : List ℕ) (a : Accepted) (ok : checking b ≡ given a) (l : Log) (
     where
       none : eqb x (lastNode b) ≡ true → [] ≡ rowEntries x
       none e = ap (λ k. gather (λ j. map (entryOf x 0 (j .0)) (vals l (formulaAt b x) j)) (pointsFrom (wantedFrom b countIn x) k)) (sym (last-wanted x e))
+
       go : Tested (eqb x (lastNode b)) → cond (eqb x (lastNode b)) [] (pointEntries b l x) ≡ rowEntries x
       go (passed e) = rw e (none e)
       go (failed e) = let d : x ≡ lastNode b → ⊥ = eqb-false x (lastNode b) e in rw e (row-entries x (omega arith))
@@ -186,6 +189,7 @@ module _ (b : List ℕ) (a : Accepted) (ok : checking b ≡ given a) (l : Log) (
     where
       whole : (y : ℕ) × (u : List ℕ) × (p ≡ y ∷ u) → getD p 0 0 ∷ drop 1 p ≡ p
       whole (y, u, e) = rw e
+
       go : (k : ℕ) → List·Memᴰ p (cond (eqb k 0) [] (pairs l (formulaAt b x) (point (k - 1)))) → getD p 0 0 ∷ drop 1 p ≡ p
       go k h = elim (tested (eqb k 0)) [ passed t ↦ absurd (List·Memᴰ·not-nil (rw t at h)) | failed t ↦ whole (pair-parts l (formulaAt b x) (fine b a ok x o) (point (k - 1)) p (rw t at h)) ]
 
@@ -218,14 +222,19 @@ module _ (b : List ℕ) (a : Accepted) (ok : checking b ≡ given a) (l : Log) (
     where
       asked : Entry → Bool
       asked e = eqb (e .node) x && eqb (e .mark) 0 && eqb (e .number) (j .0)
+
       none : select asked (pairEntries x) ≡ []
       none = select-map asked (λ p. entryOf x 1 (getD p 0 0) (drop 1 p)) (lastPairs l (formulaAt b x)) ∙ ap (map (λ p. entryOf x 1 (getD p 0 0) (drop 1 p))) (select-no _ (lastPairs l (formulaAt b x)) (λ p m. rw (eq-eqb x x refl)))
+
       rowsAt : ℕ → List Entry
       rowsAt k = select asked (map (entryOf x 0 k) (vals l (formulaAt b x) (point k)))
+
       other : (k : ℕ) → (k ≡ j .0 → ⊥) → rowsAt k ≡ []
       other k d = select-map asked (entryOf x 0 k) (vals l (formulaAt b x) (point k)) ∙ ap (map (entryOf x 0 k)) (select-no _ (vals l (formulaAt b x) (point k)) (λ p m. rw (eq-eqb x x refl, ne-eqb k (j .0) d)))
+
       same : rowsAt (j .0) ≡ map (entryOf x 0 (j .0)) (vals l (formulaAt b x) j)
       same = select-map asked (entryOf x 0 (j .0)) (vals l (formulaAt b x) j) ∙ ap (map (entryOf x 0 (j .0))) (select-yes _ (vals l (formulaAt b x) j) (λ p. rw (eq-eqb x x refl, eq-eqb (j .0) (j .0) refl)))
+
       here : select asked (rowEntries x) ≡ map (entryOf x 0 (j .0)) (vals l (formulaAt b x) j)
       here =
           select-gather asked (λ k. map (entryOf x 0 (k .0)) (vals l (formulaAt b x) k)) (pointsFrom (wantedFrom b countIn x) (countIn x - wantedFrom b countIn x))
@@ -240,11 +249,13 @@ module _ (b : List ℕ) (a : Accepted) (ok : checking b ≡ given a) (l : Log) (
     where
       asked : Entry → Bool
       asked e = eqb (e .node) x && eqb (e .mark) 1
+
       none : select asked (rowEntries x) ≡ []
       none =
           select-gather asked (λ k. map (entryOf x 0 (k .0)) (vals l (formulaAt b x) k)) (pointsFrom (wantedFrom b countIn x) (countIn x - wantedFrom b countIn x))
           ∙ gather-points (λ k. select asked (map (entryOf x 0 (k .0)) (vals l (formulaAt b x) k))) (wantedFrom b countIn x) (countIn x - wantedFrom b countIn x)
           ∙ gather-none _ (wantedFrom b countIn x) (countIn x - wantedFrom b countIn x)
           (λ k u v. select-map asked (entryOf x 0 k) (vals l (formulaAt b x) (point k)) ∙ ap (map (entryOf x 0 k)) (select-no _ (vals l (formulaAt b x) (point k)) (λ p m. rw (eq-eqb x x refl))))
+
       here : select asked (pairEntries x) ≡ pairEntries x
       here = select-map asked (λ p. entryOf x 1 (getD p 0 0) (drop 1 p)) (lastPairs l (formulaAt b x)) ∙ ap (map (λ p. entryOf x 1 (getD p 0 0) (drop 1 p))) (select-yes _ (lastPairs l (formulaAt b x)) (λ p. rw (eq-eqb x x refl)))

@@ -45,10 +45,15 @@ select-run p n lo hi a b h = ap (select p) parts ∙ select-append p (pointsFrom
         let m : lo + (hi - lo) ≡ hi = omega arith in
         ap (pointsFrom 0) e ∙ pointsFrom-append 0 lo ((hi - lo) + (n - hi)) ∙ ap (λ z. pointsFrom 0 lo ++ pointsFrom z ((hi - lo) + (n - hi))) k
         ∙ ap (λ ps. pointsFrom 0 lo ++ ps) (pointsFrom-append lo (hi - lo) (n - hi) ∙ ap (λ z. pointsFrom lo (hi - lo) ++ pointsFrom z (n - hi)) m)
+
     rest : select p (pointsFrom 0 lo) ++ select p (pointsFrom lo (hi - lo) ++ pointsFrom hi (n - hi)) ≡ pointsFrom lo (hi - lo)
     rest =
-        rw (select-none p 0 lo (λ j u o. h j (omega arith) ∙ (rw (lt-leb lo (j .0) (omega arith)))), select-append p (pointsFrom lo (hi - lo)) (pointsFrom hi (n - hi)),
-        select-none p hi (n - hi) (λ j u o. h j (omega arith) ∙ (rw (le-leb lo (j .0) (omega arith), le-ltb (j .0) hi (omega arith)))), append-nil)
+        rw (
+          select-none p 0 lo (λ j u o. h j (omega arith) ∙ (rw (lt-leb lo (j .0) (omega arith)))),
+          select-append p (pointsFrom lo (hi - lo)) (pointsFrom hi (n - hi)),
+          select-none p hi (n - hi) (λ j u o. h j (omega arith) ∙ (rw (le-leb lo (j .0) (omega arith), le-ltb (j .0) hi (omega arith)))),
+          append-nil,
+        )
         (select-all p lo (hi - lo) (λ j u o. h j (omega arith) ∙ (rw (le-leb lo (j .0) (omega arith), lt-ltb (j .0) hi (omega arith)))))
 
 module _ {A B : Type 0} where

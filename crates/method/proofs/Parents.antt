@@ -66,6 +66,7 @@ module _ (f : ℕ → List ℕ) (y : ℕ) where
     where
       sum : occurrences y (gather f (range a (suc n))) ≡ occurrences y (f a) + occurrences y (gather f (range (suc a) n))
       sum = occ-append y (f a) (gather f (range (suc a) n))
+
       go : Tested (eqb (occurrences y (f a)) 0) → (1 ≤ occurrences y (gather f (range (suc a) n)) → (x : ℕ) × (suc a ≤ x) × (x < suc a + n) × List·Memᴰ y (f x)) → (x : ℕ) × (a ≤ x) × (x < a + suc n) × List·Memᴰ y (f x)
       go (passed e) rest = let r = rest (omega (arith, sum, eqb-true (occurrences y (f a)) 0 e)) in (r .0, omega (arith, r .1), omega (arith, r .2), r .3)
       go (failed e) rest = (a, omega arith, omega arith, mem-occ y (f a) (some (occurrences y (f a)) e))

@@ -89,8 +89,10 @@ module _ (b : List ℕ) (a : Accepted) (ok : checking b ≡ given a) where
     where
       l' : Log
       l' = grown b l (t .event)
+
       grows : Extends l l'
       grows = extends l l' (record { more = _; begins = refl; ordered = grown-ordered b l (t .event) (r .ordered) (p .later) })
+
       go : Tested (settled l (formulaAt b x) j) → length (vals l' (formulaAt b x) j) ≤ mostRows
       go (passed s) = rw (← steady-by l l' grows (formulaAt b x) (fine b a ok x o) j s) (r .few-rows x o j s)
       go (failed s) =
@@ -100,12 +102,12 @@ module _ (b : List ℕ) (a : Accepted) (ok : checking b ≡ given a) where
 
   step-reached : (l : Log) (t : Taking) (n : ℕ) → Reached b l → Accepts b l t n → Reached b (grown b l (t .event))
   step-reached l t n r p =
-      record
-      { ordered = grown-ordered b l (t .event) (r .ordered) (p .later)
-      ; few-points = omega (arith, p .room, length-append l (pointOf b (t .event) ∷ []))
-      ; few-open = p .figures .few-open
-      ; few-kept = p .figures .few-kept
-      ; few-rows = rows-stay l t n r p
+      record {
+        ordered = grown-ordered b l (t .event) (r .ordered) (p .later);
+        few-points = omega (arith, p .room, length-append l (pointOf b (t .event) ∷ []));
+        few-open = p .figures .few-open;
+        few-kept = p .figures .few-kept;
+        few-rows = rows-stay l t n r p;
       }
 
   pub reached : (ts : List Taking) → Reached b (keeperLog b [] ts)
@@ -119,12 +121,16 @@ behind l o F n f y g m i e h = go n f m e
   where
     back : settled l (F y) i ≡ true → settled l (F y) (pointBefore i) ≡ true
     back s = prefix l o (F y) g i (pointBefore i) (omega arith) s
+
     one : (c : ℕ) → settled l (F c) i ≡ true → List·Memᴰ y (c ∷ []) → settled l (F y) (pointBefore i) ≡ true
     one c s k = back (subst (λ z. settled l (F z) i ≡ true) (sym (List·Memᴰ·eq-of-singleton k)) s)
+
     two : (c d : ℕ) → (settled l (F c) i && settled l (F d) i) ≡ true → List·Memᴰ y (c ∷ d ∷ []) → settled l (F y) (pointBefore i) ≡ true
     two c d s k = elim (List·Memᴰ·cases-cons k) [ inl q ↦ back (subst (λ z. settled l (F z) i ≡ true) (sym q) (first (settled l (F c) i) (settled l (F d) i) s)) | inr q ↦ one d (second (settled l (F c) i) (settled l (F d) i) s) q ]
+
     here : (w : Window) (c : Point → Bool) → 0 < w .end → settledUntil l w c i ≡ true → c i ≡ true
     here w c d s = let p : UntilSettled l w c i = until-parts l w c i s in p .inner i (omega arith) (p .here) (omega arith)
+
     go : (n : Node) → Fine (formulaOf F n) → List·Memᴰ y (childrenOf n) → settled l (formulaOf F n) i ≡ true → settled l (F y) (pointBefore i) ≡ true
     go (Atom r t) f m e = absurd (List·Memᴰ·not-nil m)
     go (And a b) f m e = two a b e m
@@ -168,7 +174,6 @@ age-counts w a y e h = go (tested (eqb (w .end) 0))
     go : Tested (eqb (w .end) 0) → (belowEnd w y ≡ true) × (countedAge w y ≡ y)
     go (passed z) = let k : y ≡ min a (w .start) = rw z at h in (rw z, rw z (omega arith))
     go (failed z) = let k : y ≡ a = rw z at h in (rw k e, rw z)
-
 
 -- the pairs of a kind that has them: ages in range, rows of the node
 module _ (b : List ℕ) (x : ℕ) (w : Window) {f : ℕ → Bool} (q : free (formulaAt b x) ≡ f) {l : Log} {i : Point} {left right : Valuation → Point → Type 0} {rows : List (List ℕ)}
@@ -233,6 +238,7 @@ module _ (b : List ℕ) (a : Accepted) (ok : checking b ≡ given a) (l : Log) (
     where
       step : formulaAt b x ≡ formulaOf (formulaAt b) (nodeAt b x)
       step = formula-step b x (lower b (nodeCount b) (accepted b a ok .each) x o)
+
       go : Tested (ltb 1 (was x)) → was x ≤ was y + 1
       go (failed e) = omega (arith, ltb-false 1 (was x) e)
       go (passed e) =
@@ -276,8 +282,8 @@ module _ (b : List ℕ) (a : Accepted) (ok : checking b ≡ given a) (l : Log) (
   few-times : size l - firstRetained (size l) (map was (range 0 (nodeCount b))) ≤ mostTimes
   few-times =
       let h : size l - 63 ≤ leastOf (size l) (map was (range 0 (nodeCount b))) =
-        least-above (size l - 63) (size l) was 0 (nodeCount b) (omega arith)
-        (λ x u o. omega (arith, depth (lastNode b - x) x (omega arith) (omega arith), r .few-open, nodes-most b a ok)) in
+      least-above (size l - 63) (size l) was 0 (nodeCount b) (omega arith)
+      (λ x u o. omega (arith, depth (lastNode b - x) x (omega arith) (omega arith), r .few-open, nodes-most b a ok)) in
       omega arith
 
   -- the times don't fall
@@ -293,6 +299,7 @@ module _ (b : List ℕ) (a : Accepted) (ok : checking b ≡ given a) (l : Log) (
     where
       step : formulaAt b x ≡ formulaOf (formulaAt b) (nodeAt b x)
       step = formula-step b x (lower b (nodeCount b) (accepted b a ok .each) x o)
+
       go : (t : Bool) → pairsFit b x (nodeAt b x) (cond t [] (pairs l (formulaAt b x) (point (was x - 1)))) ≡ true
       go true = no-pairs-fit b x (nodeAt b x)
       go false = subst (λ φ. pairsFit b x (nodeAt b x) (pairs l φ (point (was x - 1))) ≡ true) (sym step) (some-pairs-fit b x l (point (was x - 1)) (formulaAt b) (nodeAt b x) step (subst Fine step (fine b a ok x o)))
@@ -312,7 +319,7 @@ module _ (b : List ℕ) (a : Accepted) (ok : checking b ≡ given a) (l : Log) (
       (both
       (all-points _ (wantedFrom b was x) (was x - wantedFrom b was x) .1
       (λ j u v. rw (held-is b a ok l (r .ordered) x o j u (omega (arith, wanted-low b a ok l (r .ordered) x)))
-        (set-fits x o j (upto-holds (settled l (formulaAt b x)) (was x) (was-counted x o) j (omega (arith, wanted-low b a ok l (r .ordered) x))))))
+      (set-fits x o j (upto-holds (settled l (formulaAt b x)) (was x) (was-counted x o) j (omega (arith, wanted-low b a ok l (r .ordered) x))))))
       (last-pairs-fit x o))
 
   own-entries : (x : ℕ) → x < nodeCount b → entriesOf b l x ≡ ownEntries s x

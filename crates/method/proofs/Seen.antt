@@ -64,6 +64,7 @@ until-cut τ τ' m n w left left' right right' i a b t here past p q =
   where
     chosen : Point → Bool
     chosen j = inWindow w (elapsed (τ' i) (τ' j))
+
     more : select chosen (pointsFrom (i .0) (n - i .0)) ≡ select chosen (pointsFrom (i .0) (m - i .0))
     more =
         let e : n - i .0 ≡ (m - i .0) + (n - m) = omega arith in
@@ -81,9 +82,11 @@ settle-until l τ w c m left left' right right' i d counted most e t p q = go (u
   where
     inner : UntilSettled l w c i → (j : Point) → i .0 ≤ j .0 → j .0 < size l → time l j .0 < time l i .0 + w .end → j .0 < m
     inner s j u o h = ltb-true (j .0) m (sym (counted j) ∙ s .inner j u o h)
+
     past : UntilSettled l w c i → (j : Point) → m ≤ j .0 → i .0 ≤ j .0 → j .0 < size l → Tested (ltb (time l j .0) (time l i .0 + w .end)) → inWindow w (elapsed (time l i) (time l j)) ≡ false
     past s j u v o (passed h) = absurd (omega (arith, inner s j v o (ltb-true (time l j .0) (time l i .0 + w .end) h)))
     past s j u v o (failed h) = let k : time l i .0 + w .end ≤ time l j .0 = ltb-false (time l j .0) (time l i .0 + w .end) h in past-end w (elapsed (time l i) (time l j)) d (omega arith)
+
     go : UntilSettled l w c i → untilRows τ m w left right i ≡ untilRows (time l) (size l) w left' right' i
     go s =
         let z : i .0 < m = inner s i (omega arith) (s .here) (omega arith) in
@@ -131,6 +134,7 @@ grows-at {l} {w} {left} {right} {pairsAt} g i n = go (i .0) refl
   where
     last : (k : ℕ) → cond (eqb (suc k) 0) [] (pairsAt (pointBefore (point (suc k)))) ≡ pairsAt (point k)
     last k = let z : suc k - 1 ≡ k = omega arith in rw (ne-eqb (suc k) 0 (λ d. omega arith), z)
+
     go : (k : ℕ) → i .0 ≡ k → pairsAt (point k) ≡ grow (time l) w left right (point k) (cond (eqb k 0) [] (pairsAt (pointBefore (point k))))
     go zero e = g .first
     go (suc k) e = g .next k (omega arith) ∙ ap (grow (time l) w left right (point (suc k))) (sym (last k))
@@ -172,6 +176,7 @@ module _ (v : Sight) (l : Log) (ordered : Ordered l) (F : ℕ → Formula) (i : 
     where
       n : i .0 < size l
       n = present l (formulaOf F (Previous a w)) i e
+
       go : Tested (ltb 0 (i .0)) → cond (ltb 0 (i .0) && inWindow w (elapsed (v .stamps (pointBefore i)) (v .stamps i))) (v .rows a (pointBefore i)) [] ≡ cond (ltb 0 (i .0) && inWindow w (elapsed (time l (pointBefore i)) (time l i))) (vals l (F a) (pointBefore i)) []
       go (passed p) =
           let z : 0 < i .0 = ltb-true 0 (i .0) p in

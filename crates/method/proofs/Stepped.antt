@@ -179,6 +179,7 @@ module _ (b : List ℕ) (a : Accepted) (ok : checking b ≡ given a) (l : Log) (
       where
         z : length timesOf ≡ size l - base
         z = times-length
+
         go : Tested (ltb (j .0) (size l)) → stamp (getD (timesOf ++ getD w 0 0 ∷ []) (j .0 - base) 0) ≡ time l' j
         go (passed e) =
             let n : j .0 < size l = ltb-true (j .0) (size l) e in
@@ -247,24 +248,27 @@ module _ (b : List ℕ) (a : Accepted) (ok : checking b ≡ given a) (l : Log) (
       where
         low : (y : ℕ) → List·Memᴰ y (childrenOf (nodeAt b x)) → y < x
         low y m = lower b (nodeCount b) (accepted b a ok .each) x o x (omega arith) y m
+
         holds : settled l' (formulaOf (formulaAt b) (nodeAt b x)) i ≡ true
         holds = subst (λ φ. settled l' φ i ≡ true) (stepped x o) (upto-holds (settled l' (formulaAt b x)) (is x) (is-counted x o) i v)
+
         event : childrenOf (nodeAt b x) ≡ [] → pointOf b w .rows ≡ rowsAt l' i
         event e =
             let c : was x ≡ size l = ap (settledCount l) (stepped x o) ∙ counted-is l (formulaOf (formulaAt b) (nodeAt b x)) (size l) (atom-counted l (formulaAt b) (nodeAt b x) e) in
             let k : is x ≤ size l' = counted-most l' (formulaAt b x) (is x) (is-counted x o) in
             let z : size l ≡ i .0 = omega (arith, size-grown) in
             new-rows-are ∙ ap (λ j. rowsAt l' (point j)) z
+
         sees : Sees (sight x) l' (formulaAt b) (nodeAt b x) i
         sees =
-            record
-            { stamps = λ j p q. stamps-right j (omega (arith, base-low x o)) q
-            ; variables = refl
-            ; counts = λ y m. subst (Counted l' (formulaAt b y)) (sym (count-after y (omega (arith, low y m)))) (is-counted y (omega (arith, low y m)))
-            ; fine = λ y m. fine b a ok y (omega (arith, low y m))
-            ; rows = λ y m j p q.
-              ap (λ (r : Point → List (List ℕ)). r j) (sight-rows x y (low y m) o)
-              ∙ under y (low y m) .rows j (omega (arith, wanted-child x o y m, wanted-on (nodeAt b x) (was x) (i .0) u)) (omega (arith, count-after y (omega (arith, low y m))))
+            record {
+              stamps = λ j p q. stamps-right j (omega (arith, base-low x o)) q;
+              variables = refl;
+              counts = λ y m. subst (Counted l' (formulaAt b y)) (sym (count-after y (omega (arith, low y m)))) (is-counted y (omega (arith, low y m)));
+              fine = λ y m. fine b a ok y (omega (arith, low y m));
+              rows = λ y m j p q.
+                  ap (λ (r : Point → List (List ℕ)). r j) (sight-rows x y (low y m) o)
+                  ∙ under y (low y m) .rows j (omega (arith, wanted-child x o y m, wanted-on (nodeAt b x) (was x) (i .0) u)) (omega (arith, count-after y (omega (arith, low y m))));
             }
 
     -- the pairs as the turn begins, and as it ends
@@ -331,11 +335,11 @@ module _ (b : List ℕ) (a : Accepted) (ok : checking b ≡ given a) (l : Log) (
 
       turn-right : TurnRight x
       turn-right =
-          record
-          { rows = λ j u v.
-            let q : lo + (j .0 - lo) ≡ j .0 = omega arith in
-            ap (λ (t : Turn). rowsOfTurn t j) turn-with ∙ getD-points (vals l' (formulaAt b x)) [] lo (is x - lo) (j .0 - lo) (omega arith) ∙ ap (λ k. vals l' (formulaAt b x) (point k)) q
-          ; pairs = ap (λ (t : Turn). t .pairs) turn-with
+          record {
+            rows = λ j u v.
+                let q : lo + (j .0 - lo) ≡ j .0 = omega arith in
+                ap (λ (t : Turn). rowsOfTurn t j) turn-with ∙ getD-points (vals l' (formulaAt b x)) [] lo (is x - lo) (j .0 - lo) (omega arith) ∙ ap (λ k. vals l' (formulaAt b x) (point k)) q;
+            pairs = ap (λ (t : Turn). t .pairs) turn-with;
           }
 
     turns-up : (k : ℕ) → k ≤ nodeCount b → (x : ℕ) → x < k → TurnRight x
@@ -462,8 +466,8 @@ module _ (b : List ℕ) (a : Accepted) (ok : checking b ≡ given a) (l : Log) (
         (rw (count-before (lastNode b) last-node, count-after (lastNode b) last-node, newly-run (lastNode b) last-node)
         (map-points _ _ (was (lastNode b)) (is (lastNode b) - was (lastNode b))
         (λ j u v. ap₂ (λ (t : Stamp) (rows : List (List ℕ)). entry j t (map (reportRow (free (pattern b))) rows))
-          (stamps-right j (omega (arith, base-low (lastNode b) last-node)) (omega (arith, was-is (lastNode b) last-node, counted-most l' (pattern b) (is (lastNode b)) (is-counted (lastNode b) last-node))))
-          (new-rows-right (lastNode b) last-node j u v))))
+        (stamps-right j (omega (arith, base-low (lastNode b) last-node)) (omega (arith, was-is (lastNode b) last-node, counted-most l' (pattern b) (is (lastNode b)) (is-counted (lastNode b) last-node))))
+        (new-rows-right (lastNode b) last-node j u v))))
       where
         entry : Point → Stamp → List (List ℕ) → Reported
         entry i t rows = record { at = i; time = t; rows = rows }

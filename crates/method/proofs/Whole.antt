@@ -35,10 +35,13 @@ grown-ordered b l w o h = record { steps = λ i j u n. go i j u n (tested (ltb (
   where
     old : (i : Point) → i .0 < size l → time (grown b l w) i ≡ time l i
     old i n = ap (λ (p : LogPoint). p .time) (List·getD-append l (pointOf b w ∷ []) beyond (i .0) n)
+
     new : (i : Point) → i .0 ≡ size l → time (grown b l w) i .0 ≡ getD w 0 0
     new i e = ap (λ k. getD (grown b l w) k beyond .time .0) e ∙ ap (λ (p : LogPoint). p .time .0) (getD-append-seam l (pointOf b w) [] beyond)
+
     many : size (grown b l w) ≡ size l + 1
     many = length-append l (pointOf b w ∷ [])
+
     go : (i j : Point) → i .0 ≤ j .0 → j .0 < size (grown b l w) → Tested (ltb (j .0) (size l)) → Tested (ltb (i .0) (size l)) → time (grown b l w) i .0 ≤ time (grown b l w) j .0
     go i j u n (passed e) y =
         let m : j .0 < size l = ltb-true (j .0) (size l) e in
@@ -91,8 +94,8 @@ module _ (b : List ℕ) (a : Accepted) (ok : checking b ≡ given a) (l : Log) (
       ap (λ k. admitted b event k (size l) reckoned) (latest-now b a ok l ordered event)
       ∙ admitted-same b event (latest l .0) (size l) _ _
       (λ h. let o : Ordered (grown b l event) = grown-ordered b l event ordered h in
-        weighed-same (crowdedNow (storedOf b l) event) (crowdedAt b l (grown b l event)) (nodeCount b) _ _ _ _ _ _ (length (t .buffer))
-        (crowded-now b a ok l ordered event o) (open-now b a ok l ordered event o) (entries-count o) (ap length (report-now b a ok l ordered event o)))
+      weighed-same (crowdedNow (storedOf b l) event) (crowdedAt b l (grown b l event)) (nodeCount b) _ _ _ _ _ _ (length (t .buffer))
+      (crowded-now b a ok l ordered event o) (open-now b a ok l ordered event o) (entries-count o) (ap length (report-now b a ok l ordered event o)))
 
   -- where the event is accepted, the grown log's times don't fall
   joined : (n : ℕ) → answer b l t ≡ given n → Ordered (grown b l event)
@@ -112,6 +115,7 @@ module _ (b : List ℕ) (a : Accepted) (ok : checking b ≡ given a) (l : Log) (
     where
       both : Outcome ℕ → List ℕ → Given
       both o words = record { answer = o; buffer = words }
+
       go : (o : Outcome ℕ) → answer b l t ≡ o → bufferAfter o (reportNow (storedOf b l) event) (t .buffer) ≡ bufferAfter o (report b l (grown b l event)) (t .buffer)
       go (refused number place) e = refl
       go (given n) e = ap (λ words. bufferAfter (given n) words (t .buffer)) (report-now b a ok l ordered event (joined n e))

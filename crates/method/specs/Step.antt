@@ -152,9 +152,9 @@ module _ (s : Stored) (w : List ℕ) where
 -- What a taking gives back, and what is then stored.
 unfoldable pub givenBy : Stored → Taking → Given
 givenBy s t =
-    record
-    { answer = answerNow s (t .event) (length (t .buffer))
-    ; buffer = bufferAfter (answerNow s (t .event) (length (t .buffer))) (reportNow s (t .event)) (t .buffer)
+    record {
+      answer = answerNow s (t .event) (length (t .buffer));
+      buffer = bufferAfter (answerNow s (t .event) (length (t .buffer))) (reportNow s (t .event)) (t .buffer);
     }
 
 unfoldable pub storedBy : Stored → Taking → Stored

@@ -51,6 +51,7 @@ pub record Stands (owners numbers values : List ℕ) (count : ℕ) : Type 0 wher
   pub ownersThere : count ≤ length owners
   pub numbersThere : count ≤ length numbers
   pub valuesThere : count * 4 ≤ length values
+
 -- kept entries and then more: kept' in all. Past the most that are kept only the count goes on.
 pub record Packed (owners numbers values : List ℕ) (kept : ℕ) (owners' numbers' values' : List ℕ) (kept' : ℕ) (more : List Entry) : Type 0 where
   pub ownersLong : length owners' ≡ length owners
