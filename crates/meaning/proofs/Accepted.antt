@@ -1,17 +1,16 @@
 -- What an accepted rule is: each node passes 4, 5 and 6, each but the last is a child once, and each node's tree is as Fine asks.
 use Prim.Native.Nat.{ℕ, zero, suc, _+_, _-_, _*_, _≤_, _<_}
-use mathlib.Core.Path.{_≡_, refl, sym, _∙_, ap}
-use mathlib.Core.Bool.{Bool, true, false, not, cond, _&&_, _||_, false≢true}
-use mathlib.Core.Logic.{_⊎_, inl, inr}
-use mathlib.Core.List.{List, [], _∷_, List·Memᴰ}
+use mathlib.Core.Path.{_≡_, refl, sym}
+use mathlib.Core.Bool.{Bool, true, false, not, cond, _&&_, _||_}
+use mathlib.Core.List.{List, [], _∷_}
 use lib.ListN.{length, getD, take}
 use lib.Dec.{ltb, leb, eqb}
 use borrow.Author.Tests.{ltb-true, leb-true, eqb-true, lt-ltb, not-false}
 use native.Mathlib.Omega.{arith}
 use Rattle.meaning.specs.Lists.{all, range}
-use Rattle.meaning.specs.Outcome.{Outcome, refused, given, when}
-use Rattle.meaning.specs.Formula.{Formula, free, reach, freeFits, within, termWithin, termsOf}
-use Rattle.meaning.specs.RuleFile.{Accepted, checking, nodeCount, sizesFit, headAt, bodyAt, bodies, arity, nodeOf, nodeAt, formulaOf, formulaAt, lastNode, pattern, shapeFits, rangeFits, windowFits, atomFits, atomWordFits, termOf, termsOfBody, bit, isOneOf, timesChild, weighNode, weighNodes, weighParents, maskOf, windowOf}
+use Rattle.meaning.specs.Outcome.{Outcome, given, when}
+use Rattle.meaning.specs.Formula.{free, reach, freeFits, within, termWithin, termsOf}
+use Rattle.meaning.specs.RuleFile.{Accepted, checking, nodeCount, sizesFit, headAt, bodyAt, bodies, arity, nodeOf, nodeAt, formulaOf, formulaAt, lastNode, pattern, shapeFits, rangeFits, windowFits, atomFits, atomWordFits, termOf, termsOfBody, bit, isOneOf, timesChild, weighNode, weighNodes, weighParents, maskOf}
 use Rattle.meaning.specs.declared.Head.{Head}
 use Rattle.meaning.specs.declared.Body.{Body}
 use Rattle.meaning.specs.declared.Term.{Term}

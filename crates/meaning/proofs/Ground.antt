@@ -1,13 +1,13 @@
 -- What is promised of the definitions, for every accepted rule b, with checking's answer a, and every node x of it; the last node is the pattern.
-use Prim.Native.Nat.{ℕ, suc, _+_, _-_, _≤_, _<_}
-use mathlib.Core.Path.{_≡_, refl, sym, ap}
+use Prim.Native.Nat.{ℕ, suc, _+_, _≤_, _<_}
+use mathlib.Core.Path.{_≡_, sym, ap}
 use mathlib.Core.Bool.{true}
-use mathlib.Core.List.{List, _++_}
-use lib.ListN.{length, take, drop, take-append-drop, length-take}
+use mathlib.Core.List.{List}
+use lib.ListN.{take, drop, take-append-drop, length-take}
 use native.Mathlib.Omega.{arith}
 use Rattle.meaning.specs.Outcome.{given}
 use Rattle.meaning.specs.Log.{Log, Ordered, GoesOn, size, time}
-use Rattle.meaning.specs.Formula.{Formula, free, reach, withoutNext}
+use Rattle.meaning.specs.Formula.{free, reach, withoutNext}
 use Rattle.meaning.specs.Definition2.{Holds}
 use Rattle.meaning.specs.Evaluator.{vals}
 use Rattle.meaning.specs.Settled.{settled}
@@ -15,7 +15,7 @@ use Rattle.meaning.specs.RuleFile.{Accepted, checking, nodeCount, formul
 use Rattle.meaning.specs.declared.Point.{Point}
 use Rattle.meaning.specs.declared.Stamp.{Stamp}
 use Rattle.meaning.proofs.Agreement.{Exact, exact}
-use Rattle.meaning.proofs.Accepted.{IsAccepted, accepted, fine}
+use Rattle.meaning.proofs.Accepted.{accepted, fine}
 use Rattle.meaning.proofs.Growth.{Extends, extends, ordered-before, at-latest}
 use Rattle.meaning.proofs.Settles.{prefix, stays, reached}
 use Rattle.meaning.proofs.Steady.{steady}

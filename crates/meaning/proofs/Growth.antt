@@ -1,10 +1,9 @@
 -- A log that goes on from another: its first points are the other's, and the later ones are no earlier than the other's last.
-use Prim.Native.Nat.{ℕ, suc, _+_, _-_, _≤_, _<_}
-use mathlib.Core.Path.{_≡_, refl, sym, ap}
-use mathlib.Core.List.{List, [], _∷_, _++_}
+use Prim.Native.Nat.{suc, _-_, _≤_, _<_}
+use mathlib.Core.Path.{_≡_, sym, ap}
 use lib.ListN.{length, getD, length-append, List·getD-append}
 use native.Mathlib.Omega.{arith}
-use Rattle.meaning.specs.Log.{Log, LogPoint, beyond, Ordered, GoesOn, point, size, time, rowsAt, latest}
+use Rattle.meaning.specs.Log.{Log, beyond, Ordered, GoesOn, point, size, time, rowsAt, latest}
 use Rattle.meaning.specs.declared.Point.{Point}
 
 -- the same by the accessors

@@ -1,22 +1,20 @@
 -- Settled points form a prefix, stay settled as the log grows, and, for a rule without "next", are settled as soon as the reach has passed.
-use Prim.Native.Nat.{ℕ, zero, suc, _+_, _-_, _≤_, _<_, max}
-use mathlib.Core.Path.{_≡_, refl, sym, _∙_, ap, subst}
-use mathlib.Core.Bool.{Bool, true, false, not, _&&_, _||_, false≢true}
+use Prim.Native.Nat.{ℕ, suc, _+_, _-_, _≤_, _<_, max}
+use mathlib.Core.Path.{_≡_, ap}
+use mathlib.Core.Bool.{Bool, true, not, _&&_, _||_, false≢true}
 use mathlib.Core.Logic.{_⊎_, inl, inr}
-use mathlib.Core.List.{List, [], _∷_}
 use lib.Dec.{ltb, leb, eqb}
-use borrow.Author.Tests.{ltb-true, ltb-false, leb-true, lt-ltb, le-ltb, le-leb, eqb-true, eq-eqb}
-use native.Mathlib.Nat.{eq-or-lt-of-le}
+use borrow.Author.Tests.{ltb-true, ltb-false, leb-true, lt-ltb, le-leb, eqb-true, eq-eqb}
 use native.Mathlib.Omega.{arith}
 use Rattle.meaning.specs.Lists.{all}
-use Rattle.meaning.specs.Log.{Log, Ordered, GoesOn, point, size, time, latest, pointBefore, pointAfter, pointsFrom}
+use Rattle.meaning.specs.Log.{Log, Ordered, size, time, latest, pointBefore, pointAfter, pointsFrom}
 use Rattle.meaning.specs.Formula.{Formula, atom, and, andNot, keep, or, exists, previous, next, since, notSince, until, notUntil, once, eventually, reach, withoutNext}
 use Rattle.meaning.specs.Settled.{settledSince, settledUntil, settled}
 use Rattle.meaning.specs.declared.Point.{Point}
 use Rattle.meaning.specs.declared.Window.{Window}
 use Rattle.meaning.proofs.Points.{both, first, second, orLeft, orRight, Tested, passed, failed, tested}
 use Rattle.meaning.proofs.Rows.{either, all-points}
-use Rattle.meaning.proofs.Growth.{Extends, ordered-before, latest-first, latest-grows, at-latest}
+use Rattle.meaning.proofs.Growth.{Extends, latest-first, latest-grows}
 use Rattle.meaning.proofs.Fine.{Fine}
 
 -- What "settled" says for since and until, over a test of the children.

@@ -1,18 +1,17 @@
 -- A node that passes 4 is one of the fourteen kinds, and its children are lower than itself.
-use Prim.Native.Nat.{ℕ, zero, suc, _<_}
-use mathlib.Core.Path.{_≡_, refl, sym, _∙_}
-use mathlib.Core.Bool.{Bool, true, false, cond, _&&_, _||_, false≢true}
+use Prim.Native.Nat.{ℕ, _<_}
+use mathlib.Core.Path.{_≡_, refl}
+use mathlib.Core.Bool.{Bool, true, false, cond, _||_, false≢true}
 use mathlib.Core.Logic.{_⊎_, inl, inr}
 use mathlib.Core.List.{List, [], _∷_, List·Memᴰ, List·Memᴰ·cases-cons, List·Memᴰ·not-nil}
-use lib.Dec.{ltb, eqb}
+use lib.Dec.{eqb}
 use borrow.Author.Tests.{ltb-true, eqb-true}
-use native.Mathlib.Omega.{arith}
 use Rattle.meaning.specs.RuleFile.{atomFits, twoFit, keepFits, existsFits, oneWindowFits, twoWindowFits, isOneOf, shapeFits, nodeOf, childrenOf, termsOfBody, termOf, comparisonOf, windowOf}
 use Rattle.meaning.specs.declared.Head.{Head}
 use Rattle.meaning.specs.declared.Body.{Body}
 use Rattle.meaning.specs.declared.Node.{Node}
 use Rattle.meaning.specs.declared.Node.the-variants.{Atom, And, AndNot, Keep, Or, Exists, Previous, Next, Since, NotSince, Until, NotUntil, Once, Eventually}
-use Rattle.meaning.proofs.Points.{first, second, Tested, passed, failed, tested}
+use Rattle.meaning.proofs.Points.{first, second}
 
 -- a test that a choice of tests passes, and a number that is one of some
 choose : {P : Type 0} (t p q : Bool) → (t ≡ true → p ≡ true → P) → (q ≡ true → P) → cond t p q ≡ true → P

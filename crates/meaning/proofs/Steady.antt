@@ -1,22 +1,22 @@
 -- Steadiness: the valuations at a settled point are the same on every log that goes on from this one.
-use Prim.Native.Nat.{ℕ, zero, suc, _+_, _-_, _≤_, _<_}
-use mathlib.Core.Path.{_≡_, refl, sym, _∙_, ap, ap₂, subst, fun-ext}
+use Prim.Native.Nat.{ℕ, suc, _+_, _-_, _≤_, _<_}
+use mathlib.Core.Path.{_≡_, refl, sym, _∙_, ap, ap₂}
 use mathlib.Core.Bool.{Bool, true, false, not, cond, _&&_, _||_, false≢true}
 use mathlib.Core.Logic.{_⊎_, inl, inr}
 use mathlib.Core.List.{List, [], _∷_, _++_, map, append-nil}
 use lib.Dec.{ltb, leb, eqb}
-use borrow.Author.Tests.{ltb-true, ltb-false, leb-true, lt-ltb, le-ltb, le-leb, lt-leb, eqb-true, eqb-false, eq-eqb, ne-eqb}
+use borrow.Author.Tests.{ltb-true, ltb-false, lt-ltb, le-ltb, eqb-true, ne-eqb}
 use native.Mathlib.Omega.{arith}
-use Rattle.meaning.specs.Lists.{all, select, gather}
-use Rattle.meaning.specs.Log.{Log, Ordered, GoesOn, point, size, time, rowsAt, latest, elapsed, pointBefore, pointAfter, pointsFrom}
+use Rattle.meaning.specs.Lists.{select, gather}
+use Rattle.meaning.specs.Log.{Log, GoesOn, size, time, latest, elapsed, pointBefore, pointAfter, pointsFrom}
 use Rattle.meaning.specs.Formula.{Formula, atom, and, andNot, keep, or, exists, previous, next, since, notSince, until, notUntil, once, eventually, inWindow, compares, free}
-use Rattle.meaning.specs.Definition2.{Valuation, value}
+use Rattle.meaning.specs.Definition2.{value}
 use Rattle.meaning.specs.Evaluator.{cutTo, valuationOf, setOf, member, atomRows, andRows, lasting, sinceRows, leading, untilRows, among, vals}
 use Rattle.meaning.specs.Kept.{belowEnd, countedAge, pairRows, pairs}
 use Rattle.meaning.specs.Settled.{settledSince, settledUntil, settled}
 use Rattle.meaning.specs.declared.Point.{Point}
 use Rattle.meaning.specs.declared.Window.{Window}
-use Rattle.meaning.proofs.Points.{both, first, second, all-same, select-same, select-append, select-none, gather-same, pointsFrom-append, Tested, passed, failed, tested}
+use Rattle.meaning.proofs.Points.{first, second, all-same, select-same, select-append, select-none, gather-same, pointsFrom-append, Tested, passed, failed, tested}
 use Rattle.meaning.proofs.Rows.{either}
 use Rattle.meaning.proofs.Growth.{Extends, extends, ordered-before, latest-first}
 use Rattle.meaning.proofs.Settles.{since-each, UntilSettled, until-parts, twin, present}

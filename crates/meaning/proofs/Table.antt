@@ -1,10 +1,9 @@
 -- The starred bench cases of 01, and cases that guard what meaning and evaluator share, as one table with one proof: from a rule's bytes and its events' words to the report's words and the kept figures, by the keeper's definitions.
-use Prim.Native.Nat.{ℕ, _+_, _*_, _/_, _%_}
+use Prim.Native.Nat.{ℕ, _/_, _%_}
 use mathlib.Core.Path.{_≡_, refl}
-use mathlib.Core.Bool.{Bool, true, false, cond}
 use mathlib.Core.List.{List, [], _∷_, _++_, map}
 use lib.ListN.{length, take, replicate}
-use Rattle.meaning.specs.Lists.{gather, range}
+use Rattle.meaning.specs.Lists.{gather}
 use Rattle.meaning.specs.Outcome.{Outcome, refused, given}
 use Rattle.meaning.specs.Log.{Log, time, rowsAt, latest}
 use Rattle.meaning.specs.RuleFile.{Accepted, wordAt, sizesFit, headAt, bodyAt, nodeOf, nodeAt, formulaAt, shapeFits, rangeFits, timesChild, weighNode, checking}

@@ -1,14 +1,14 @@
 -- What an accepted taking has passed, and what therefore holds of every log that the keeper reaches.
 use Prim.Native.Nat.{ℕ, zero, suc, _+_, _≤_, _<_}
-use mathlib.Core.Path.{_≡_, refl, sym, _∙_}
-use mathlib.Core.Bool.{Bool, true, false, not}
-use mathlib.Core.List.{List, [], _∷_, _++_}
+use mathlib.Core.Path.{_≡_, refl}
+use mathlib.Core.Bool.{Bool, false, not}
+use mathlib.Core.List.{List, [], _∷_}
 use lib.ListN.{length, getD}
 use lib.Dec.{ltb, leb}
 use borrow.Author.Tests.{ltb-false, leb-false}
 use native.Mathlib.Omega.{arith}
 use Rattle.meaning.specs.Lists.{range}
-use Rattle.meaning.specs.Outcome.{Outcome, refused, given, when, mostOpen, mostKept, mostPoints}
+use Rattle.meaning.specs.Outcome.{Outcome, refused, given, mostOpen, mostKept, mostPoints}
 use Rattle.meaning.specs.Log.{Log, size, latest}
 use Rattle.meaning.specs.RuleFile.{nodeCount}
 use Rattle.meaning.specs.Kept.{kept, openPoints}

@@ -1,7 +1,7 @@
 -- The evaluator: the valuations of a formula at a point, as a strictly ascending list of rows of four words, 0 where a variable isn't free.
 -- proofs/Agreement shows that these are the valuations that satisfy the formula by Definition 2.
 use Prim.Native.Nat.{ℕ, suc, _-_}
-use mathlib.Core.Bool.{Bool, true, false, not, cond, _&&_, _||_}
+use mathlib.Core.Bool.{Bool, true, not, cond, _&&_, _||_}
 use mathlib.Core.List.{List, [], _∷_, _++_, map}
 use lib.ListN.{getD}
 use lib.Dec.{ltb, eqb}

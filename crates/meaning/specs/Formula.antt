@@ -1,11 +1,10 @@
 -- A rule as a tree of the fourteen kinds: its free variables and its reach.
-use Prim.Native.Nat.{ℕ, zero, suc, _+_}
-use Prim.Native.Nat.{max}
+use Prim.Native.Nat.{ℕ, _+_, max}
 use mathlib.Core.Bool.{Bool, true, false, not, _&&_, _||_}
 use mathlib.Core.List.{List, [], _∷_}
 use lib.ListN.{take}
 use lib.Dec.{ltb, leb, eqb}
-use Rattle.meaning.specs.Lists.{all, any, range}
+use Rattle.meaning.specs.Lists.{all, any}
 use Rattle.meaning.specs.declared.Term.{Term}
 use Rattle.meaning.specs.declared.Term.the-variants.{Variable, Constant}
 use Rattle.meaning.specs.declared.Terms.{Terms}

@@ -5,7 +5,7 @@ use mathlib.Core.List.{List, [], _∷_, _++_, map}
 use lib.ListN.{length, getD, drop}
 use lib.Dec.{ltb, leb, eqb}
 use Rattle.meaning.specs.Lists.{any, range, select, firstOr, gather}
-use Rattle.meaning.specs.Log.{Log, point, size, time, elapsed, pointsFrom, pointsOf}
+use Rattle.meaning.specs.Log.{Log, point, time, elapsed, pointsFrom, pointsOf}
 use Rattle.meaning.specs.Formula.{Formula, atom, and, andNot, keep, or, exists, previous, next, since, notSince, until, notUntil, once, eventually, free}
 use Rattle.meaning.specs.Evaluator.{setOf, lasting, among, vals}
 use Rattle.meaning.specs.Settled.{settled, settledCount}

@@ -1,7 +1,7 @@
 -- "The log": points, their times and rows. The definitions above reach a log only through size, time, rowsAt and latest.
 use Prim.Native.Nat.{ℕ, suc, _-_, _≤_, _<_}
 use mathlib.Core.Path.{_≡_}
-use mathlib.Core.List.{List, [], _∷_, _++_, map}
+use mathlib.Core.List.{List, [], _++_, map}
 use lib.ListN.{length, getD}
 use Rattle.meaning.specs.Lists.{range}
 use Rattle.meaning.specs.declared.Point.{Point}

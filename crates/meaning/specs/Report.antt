@@ -1,11 +1,11 @@
 -- "The report" and "Read rows": the words of a report, and what may be read off any words.
-use Prim.Native.Nat.{ℕ, suc, _+_, _*_, _≤_}
-use mathlib.Core.Bool.{Bool, true, false, not, cond, _&&_, _||_}
+use Prim.Native.Nat.{ℕ, _+_, _*_}
+use mathlib.Core.Bool.{Bool, not, cond, _&&_}
 use mathlib.Core.List.{List, [], _∷_, _++_, map}
 use lib.ListN.{length, getD, take, drop}
 use lib.Dec.{ltb, leb, eqb}
 use Rattle.meaning.specs.Lists.{all, range, gather, total}
-use Rattle.meaning.specs.Outcome.{Outcome, refused, given, when, notAReport}
+use Rattle.meaning.specs.Outcome.{Outcome, given, when, notAReport}
 use Rattle.meaning.specs.Order.{ascending}
 use Rattle.meaning.specs.declared.Point.{Point}
 use Rattle.meaning.specs.declared.Stamp.{Stamp}

@@ -5,12 +5,11 @@ use mathlib.Core.List.{List, [], _∷_}
 use lib.ListN.{length, getD, drop}
 use lib.Dec.{ltb, leb, eqb}
 use Rattle.meaning.specs.Lists.{all, any, range, gather, occurrences}
-use Rattle.meaning.specs.Outcome.{Outcome, refused, given, when, cut, otherVersion, sizeOut, misshapen, windowOut, freeBroken, notOneParent, longestWindow}
+use Rattle.meaning.specs.Outcome.{Outcome, given, when, cut, otherVersion, sizeOut, misshapen, windowOut, freeBroken, notOneParent, longestWindow}
 use Rattle.meaning.specs.Formula.{Formula, atom, and, andNot, keep, or, exists, previous, next, since, notSince, until, notUntil, once, eventually, termsOf, free, reach, freeFits}
 use Rattle.meaning.specs.declared.Term.{Term}
 use Rattle.meaning.specs.declared.Term.the-variants.{Variable, Constant}
 use Rattle.meaning.specs.declared.Terms.{Terms}
-use Rattle.meaning.specs.declared.Sides.{Sides}
 use Rattle.meaning.specs.declared.Window.{Window}
 use Rattle.meaning.specs.declared.Comparison.{Comparison}
 use Rattle.meaning.specs.declared.Comparison.the-variants.{Equal, Different, Less, NotLess}

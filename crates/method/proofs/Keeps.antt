@@ -1,13 +1,13 @@
 -- What is kept, as runs of points: each node's rows from the first point that its parent still consults, and its pairs; and how they are read off the entries again.
 use Prim.Native.Nat.{ℕ, zero, suc, _+_, _-_, _≤_, _<_, min}
 use native.Mathlib.Omega.{arith}
-use mathlib.Core.Path.{_≡_, refl, sym, _∙_, ap, ap₂, subst}
-use mathlib.Core.Bool.{Bool, true, false, not, cond, _&&_, _||_, false≢true}
+use mathlib.Core.Path.{_≡_, refl, sym, _∙_, ap, subst}
+use mathlib.Core.Bool.{Bool, true, false, not, cond, _&&_, false≢true}
 use mathlib.Core.Logic.{_⊎_, inl, inr}
-use mathlib.Core.List.{List, [], _∷_, _++_, map, append-nil, List·Memᴰ, List·Memᴰ·head, List·Memᴰ·tail, List·Memᴰ·not-nil, List·Memᴰ·append-cases, Memᴰ·of-map}
-use lib.ListN.{length, getD, drop}
+use mathlib.Core.List.{List, [], _∷_, _++_, map, append-nil, List·Memᴰ, List·Memᴰ·not-nil, List·Memᴰ·append-cases, Memᴰ·of-map}
+use lib.ListN.{getD, drop}
 use lib.Dec.{ltb, leb, eqb}
-use borrow.Author.Tests.{ltb-true, ltb-false, lt-ltb, le-ltb, leb-true, leb-false, le-leb, lt-leb, eqb-true, eq-eqb, eqb-false, ne-eqb, not-true}
+use borrow.Author.Tests.{ltb-true, ltb-false, le-ltb, leb-true, le-leb, lt-leb, eqb-true, eq-eqb, eqb-false, ne-eqb, not-true}
 use Rattle.meaning.specs.Lists.{any, range, select, gather}
 use Rattle.meaning.specs.Outcome.{given}
 use Rattle.meaning.specs.Log.{Log, Ordered, point, size, pointsFrom, pointsOf}
@@ -15,7 +15,7 @@ use Rattle.meaning.specs.Formula.{Formula, atom, and, andNot, keep, or, exists,
 use Rattle.meaning.specs.Evaluator.{vals}
 use Rattle.meaning.specs.Settled.{settled, settledCount}
 use Rattle.meaning.specs.RuleFile.{Accepted, checking, nodeCount, nodeAt, childrenOf, formulaOf, formulaAt, lastNode}
-use Rattle.meaning.specs.Kept.{pairs, lastPairs, consults, consulted, Entry, entryOf, parentOf, pointEntries, ageEntries, entriesOf, entries}
+use Rattle.meaning.specs.Kept.{pairs, lastPairs, consulted, Entry, entryOf, parentOf, pointEntries, ageEntries, entriesOf, entries}
 use Rattle.meaning.specs.declared.Point.{Point}
 use Rattle.meaning.specs.declared.Node.{Node}
 use Rattle.meaning.specs.declared.Node.the-variants.{Atom, And, AndNot, Keep, Or, Exists, Previous, Next, Since, NotSince, Until, NotUntil, Once, Eventually}
@@ -29,7 +29,7 @@ use Rattle.meaning.proofs.Tree.{formula-step}
 use Rattle.meaning.proofs.Accepted.{accepted, lower, fine}
 use Rattle.method.proofs.Counted.{Counted, counted-most, count-counted}
 use Rattle.method.proofs.Parents.{parent-is, has-parent}
-use Rattle.method.proofs.Lists.{any-is, select-no, select-yes, map-same, map-id, select-run, select-gather, select-map, map-gather, map-map, gather-one, gather-none, gather-points}
+use Rattle.method.proofs.Lists.{any-is, select-no, select-yes, map-same, map-id, select-run, select-gather, select-map, map-map, gather-one, gather-none, gather-points}
 
 -- ---- the points that a parent still consults, with p of its points settled
 

@@ -1,25 +1,24 @@
 -- What a log that the keeper reaches stores is well formed: refusal 8 is never met from a start.
 use Prim.Native.Nat.{ℕ, zero, suc, _+_, _-_, _≤_, _<_, min}
-use native.Mathlib.Nat.{eq-or-lt-of-le}
 use native.Mathlib.Omega.{arith}
-use mathlib.Core.Path.{_≡_, refl, sym, _∙_, ap, ap₂, subst}
-use mathlib.Core.Bool.{Bool, true, false, not, cond, _&&_, _||_, false≢true, true≢false}
-use mathlib.Core.Logic.{_⊎_, inl, inr}
-use mathlib.Core.List.{List, [], _∷_, _++_, map, List·Memᴰ, List·Memᴰ·not-nil, List·Memᴰ·cases-cons, List·Memᴰ·eq-of-singleton, Memᴰ·of-map, Memᴰ·cast}
+use mathlib.Core.Path.{_≡_, refl, sym, _∙_, ap, subst}
+use mathlib.Core.Bool.{Bool, true, false, not, cond, _&&_, _||_, true≢false}
+use mathlib.Core.Logic.{inl, inr}
+use mathlib.Core.List.{List, [], _∷_, _++_, map, List·Memᴰ, List·Memᴰ·not-nil, List·Memᴰ·cases-cons, List·Memᴰ·eq-of-singleton, Memᴰ·cast}
 use lib.ListN.{length, getD, drop, length-append, length-map}
 use Rattle.meaning.specs.Event.{pointOf}
-use lib.Dec.{ltb, leb, eqb}
-use borrow.Author.Tests.{ltb-true, ltb-false, lt-ltb, le-ltb, le-leb, eq-eqb, eqb-true, eqb-false, ne-eqb}
-use Rattle.meaning.specs.Lists.{all, any, range, select, gather, sameRow}
+use lib.Dec.{ltb, eqb}
+use borrow.Author.Tests.{ltb-true, ltb-false, le-leb, eq-eqb, ne-eqb}
+use Rattle.meaning.specs.Lists.{all, any, range, gather}
 use Rattle.meaning.specs.Outcome.{given, mostOpen, mostKept, mostPoints, mostRows}
 use Rattle.meaning.specs.Order.{ascending}
-use Rattle.meaning.specs.Log.{Log, Ordered, point, pointBefore, pointAfter, size, time, pointsFrom, pointsOf}
-use Rattle.meaning.specs.Formula.{Formula, free, atom, and, andNot, keep, or, exists, previous, next, since, notSince, until, notUntil, once, eventually}
+use Rattle.meaning.specs.Log.{Log, Ordered, point, pointBefore, pointAfter, size, time, pointsFrom}
+use Rattle.meaning.specs.Formula.{Formula, free}
 use Rattle.meaning.specs.Definition2.{Valuation}
 use Rattle.meaning.specs.Evaluator.{cutTo, valuationOf, vals}
 use Rattle.meaning.specs.Settled.{settled, settledUntil, settledCount}
 use Rattle.meaning.specs.RuleFile.{Accepted, checking, nodeCount, nodeAt, childrenOf, formulaOf, formulaAt, lastNode, pattern}
-use Rattle.meaning.specs.Kept.{belowEnd, countedAge, pairs, lastPairs, Entry, entryOf, parentOf, pointEntries, ageEntries, entriesOf, entries, kept, openPoints}
+use Rattle.meaning.specs.Kept.{belowEnd, countedAge, pairs, lastPairs, Entry, entryOf, pointEntries, ageEntries, entriesOf, entries, kept, openPoints}
 use Rattle.meaning.specs.Keeper.{Taking, newlySettled, crowdedAt, grown, keeperLog}
 use Rattle.meaning.specs.declared.Point.{Point}
 use Rattle.meaning.specs.declared.Window.{Window}
@@ -36,12 +35,12 @@ use Rattle.meaning.proofs.Settles.{UntilSettled, until-parts, since-each, twin,
 use Rattle.meaning.proofs.Rows.{any-of, all-of, select-of, points-of, all-points, same-row, words-same, words-at}
 use Rattle.meaning.proofs.Points.{both, first, second, Tested, passed, failed, tested}
 use Rattle.meaning.proofs.Takings.{Accepts, every-log}
-use Rattle.method.specs.Stored.{Stored, held, heldPairs, leastOf, firstRetained, storedOf}
+use Rattle.method.specs.Stored.{Stored, leastOf, firstRetained, storedOf}
 use Rattle.method.specs.Step.{wantedFrom, countsStored, countBefore, storedRun}
-use Rattle.method.specs.WellFormed.{mostTimes, isAccepted, notFalling, sameEntry, sameEntries, rowOfNode, setFits, pairFits, pairsFit, ownEntries, nodeFits, wellFormed}
+use Rattle.method.specs.WellFormed.{mostTimes, isAccepted, notFalling, sameEntries, rowOfNode, setFits, pairFits, pairsFit, ownEntries, nodeFits, wellFormed}
 use Rattle.method.proofs.Counted.{Counted, counted-most, count-counted, counts-length, upto-holds, upto-below}
 use Rattle.method.proofs.Lists.{gather-each, gather-none}
-use Rattle.method.proofs.Parents.{parent-is, has-parent}
+use Rattle.method.proofs.Parents.{has-parent}
 use Rattle.method.proofs.Keeps.{wanted-low, held-is, heldPairs-is, entries-run}
 use Rattle.method.proofs.Turns.{from-getD, gather-over, least-most, least-above, points-length}
 use Rattle.method.proofs.Stepped.{count-before, open-run, wanted-same}

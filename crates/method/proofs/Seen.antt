@@ -1,20 +1,16 @@
 -- One node at one point: from children's rows that are the evaluator's where the point consults them, `settle` gives the evaluator's rows there.
 use Prim.Native.Nat.{ℕ, zero, suc, _+_, _-_, _≤_, _<_, min}
-use native.Mathlib.Nat.{eq-or-lt-of-le}
 use native.Mathlib.Omega.{arith}
 use mathlib.Core.Path.{_≡_, refl, sym, _∙_, ap, ap₂, fun-ext}
-use mathlib.Core.Bool.{Bool, true, false, not, cond, _&&_, _||_, false≢true, true≢false}
-use mathlib.Core.Logic.{_⊎_, inl, inr}
+use mathlib.Core.Bool.{Bool, true, false, not, cond, _&&_, _||_}
 use mathlib.Core.List.{List, [], _∷_, _++_, map, append-nil, List·Memᴰ, List·Memᴰ·head, List·Memᴰ·tail}
-use lib.ListN.{length, getD, drop}
-use lib.Dec.{ltb, leb, eqb}
-use borrow.Author.Tests.{ltb-true, ltb-false, lt-ltb, le-ltb, eqb-true, eqb-false, eq-eqb, ne-eqb, leb-true}
-use Rattle.meaning.specs.Lists.{all, any, select, gather, sameRow}
-use Rattle.meaning.specs.Order.{before, ascending}
-use Rattle.meaning.specs.Log.{Log, Row, Ordered, point, size, time, rowsAt, latest, elapsed, pointBefore, pointAfter, pointsFrom}
-use Rattle.meaning.specs.Formula.{Formula, free, termsOf, inWindow, compares, variables}
-use Rattle.meaning.specs.Definition2.{value}
-use Rattle.meaning.specs.Evaluator.{cutTo, valuationOf, setOf, member, atomRows, andRows, leading, untilRows, among, vals}
+use lib.ListN.{length}
+use lib.Dec.{ltb, eqb}
+use borrow.Author.Tests.{ltb-true, ltb-false, lt-ltb, le-ltb, eqb-false, eq-eqb, ne-eqb}
+use Rattle.meaning.specs.Lists.{all, select, gather}
+use Rattle.meaning.specs.Log.{Log, Ordered, point, size, time, rowsAt, elapsed, pointBefore, pointAfter, pointsFrom}
+use Rattle.meaning.specs.Formula.{Formula, free, termsOf, inWindow, variables}
+use Rattle.meaning.specs.Evaluator.{cutTo, valuationOf, setOf, atomRows, leading, untilRows, among, vals}
 use Rattle.meaning.specs.Settled.{settled, settledUntil}
 use Rattle.meaning.specs.RuleFile.{childrenOf, formulaOf}
 use Rattle.meaning.specs.Kept.{pairs, belowEnd}
@@ -25,12 +21,12 @@ use Rattle.meaning.specs.declared.Node.{Node}
 use Rattle.meaning.specs.declared.Node.the-variants.{Atom, And, AndNot, Keep, Or, Exists, Previous, Next, Since, NotSince, Until, NotUntil, Once, Eventually}
 use Rattle.meaning.proofs.Fine.{Fine}
 use Rattle.meaning.proofs.Rows.{all-of}
-use Rattle.meaning.proofs.Points.{both, first, second, all-same, select-same, select-append, select-none, gather-same, pointsFrom-append, Tested, passed, failed, tested}
+use Rattle.meaning.proofs.Points.{first, second, all-same, select-same, select-append, select-none, gather-same, pointsFrom-append, Tested, passed, failed, tested}
 use Rattle.meaning.proofs.Agreement.{ascends, rows-length}
 use Rattle.meaning.proofs.Settles.{UntilSettled, until-parts, since-each, twin, present}
 use Rattle.meaning.proofs.Steady.{past-end}
 use Rattle.rowset.proofs.Places.{look-member}
-use Rattle.method.specs.Settle.{Sight, found, oldEnough, settle, grownBy, older, grow, pairsNow}
+use Rattle.method.specs.Settle.{Sight, found, settle, grownBy, older, grow, pairsNow}
 use Rattle.method.specs.Step.{firstWanted}
 use Rattle.method.proofs.Counted.{Counted, counted-most}
 use Rattle.method.proofs.Grown.{Grows, since-grows, notSince-grows, once-grows}

@@ -1,19 +1,17 @@
 -- From what is stored of a log, with an event that may join it: stamps, counts, turns and entries are those of the grown log.
-use Prim.Native.Nat.{ℕ, zero, suc, _+_, _-_, _≤_, _<_, min}
-use native.Mathlib.Nat.{eq-or-lt-of-le}
+use Prim.Native.Nat.{ℕ, zero, suc, _+_, _-_, _≤_, _<_}
 use native.Mathlib.Omega.{arith}
 use mathlib.Core.Path.{_≡_, refl, sym, _∙_, ap, ap₂, subst}
-use mathlib.Core.Bool.{Bool, true, false, not, cond, _&&_, _||_, false≢true}
-use mathlib.Core.Logic.{_⊎_, inl, inr}
-use mathlib.Core.List.{List, [], _∷_, _++_, map, append-nil, List·Memᴰ}
+use mathlib.Core.Bool.{Bool, true, false, not, cond, _&&_}
+use mathlib.Core.List.{List, [], _∷_, _++_, map, List·Memᴰ}
 use lib.ListN.{length, getD, drop, length-append, length-map, List·getD-append, List·getD-eq-default}
 use lib.Seq.{getD-append-seam}
 use lib.Dec.{ltb, leb, eqb}
-use borrow.Author.Tests.{ltb-true, ltb-false, lt-ltb, le-ltb, le-leb, lt-leb, eqb-true, eq-eqb, eqb-false, ne-eqb}
+use borrow.Author.Tests.{ltb-true, ltb-false, lt-ltb, le-leb, lt-leb, eqb-false, ne-eqb}
 use Rattle.meaning.specs.Lists.{range, select, gather}
 use Rattle.meaning.specs.Outcome.{given, mostRows}
-use Rattle.meaning.specs.Log.{Log, Row, LogPoint, Ordered, beyond, point, stamp, size, time, rowsAt, latest, pointsFrom}
-use Rattle.meaning.specs.Formula.{Formula, free, variables}
+use Rattle.meaning.specs.Log.{Log, LogPoint, Ordered, beyond, point, stamp, size, time, rowsAt, latest, pointsFrom}
+use Rattle.meaning.specs.Formula.{free, variables}
 use Rattle.meaning.specs.Evaluator.{vals}
 use Rattle.meaning.specs.Settled.{settled, settledCount}
 use Rattle.meaning.specs.RuleFile.{Accepted, checking, nodeCount, nodeAt, childrenOf, formulaOf, formulaAt, lastNode, pattern}
@@ -33,9 +31,9 @@ use Rattle.meaning.proofs.Steady.{steady-by, pairs-by}
 use Rattle.meaning.proofs.Points.{pointsFrom-append, Tested, passed, failed, tested}
 use Rattle.method.specs.Stored.{Stored, baseOf, stampIn, held, heldPairs, leastOf, firstRetained, storedOf}
 use Rattle.method.specs.Counts.{countsTo}
-use Rattle.method.specs.Settle.{Sight, settle, pairsNow, Turn, rowsOfTurn}
+use Rattle.method.specs.Settle.{Sight, Turn, rowsOfTurn}
 use Rattle.method.specs.Step.{firstWanted, wantedFrom, newRows, newPairs, turnOf, sightOf, turnsTo, noTurn, stampsNow, countsStored, countBefore, keptStored, openStored, countAfter, countsAfter, turn, entriesNow, storedNow, crowdedNow, reportNow, latestStored}
-use Rattle.method.proofs.Counted.{Counted, counted-most, counted-is, count-counted, counts-length, counts-right, counts-grow, upto-below, upto-holds}
+use Rattle.method.proofs.Counted.{Counted, counted-most, counted-is, count-counted, counts-length, counts-right, counts-grow, upto-holds}
 use Rattle.method.proofs.Lists.{gather-each, select-run}
 use Rattle.method.proofs.Parents.{parent-is, has-parent}
 use Rattle.method.proofs.Keeps.{wanted-low, held-is, heldPairs-is, entries-run}

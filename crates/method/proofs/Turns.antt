@@ -2,44 +2,31 @@
 use Prim.Native.Nat.{ℕ, zero, suc, _+_, _-_, _≤_, _<_, min}
 use native.Mathlib.Nat.{eq-or-lt-of-le}
 use native.Mathlib.Omega.{arith}
-use mathlib.Core.Path.{_≡_, refl, sym, _∙_, ap, ap₂, subst}
-use mathlib.Core.Bool.{Bool, true, false, not, cond, _&&_, _||_, false≢true}
+use mathlib.Core.Path.{_≡_, refl, sym, _∙_, ap, ap₂}
+use mathlib.Core.Bool.{Bool, true, _||_}
 use mathlib.Core.Logic.{_⊎_, inl, inr}
-use mathlib.Core.List.{List, [], _∷_, _++_, map, append-nil, List·Memᴰ, cons≢nil}
+use mathlib.Core.List.{List, [], _∷_, _++_, map, cons≢nil}
 use lib.ListN.{length, getD, drop, length-append, length-map, List·getD-append}
 use lib.Seq.{getD-append-seam, ext-getD}
-use lib.Dec.{ltb, leb, eqb}
-use borrow.Author.Tests.{ltb-true, ltb-false, lt-ltb, le-ltb, eqb-true, eq-eqb, eqb-false, ne-eqb}
-use Rattle.meaning.specs.Lists.{any, range, select, gather}
-use Rattle.meaning.specs.Outcome.{given}
-use Rattle.meaning.specs.Log.{Log, Row, Ordered, beyond, point, stamp, size, time, rowsAt, pointsFrom}
-use Rattle.meaning.specs.Formula.{Formula, free}
+use borrow.Author.Tests.{ne-eqb}
+use Rattle.meaning.specs.Lists.{any, range, gather}
+use Rattle.meaning.specs.Log.{Log, Row, Ordered, point, size, rowsAt, pointsFrom}
+use Rattle.meaning.specs.Formula.{Formula}
 use Rattle.meaning.specs.Evaluator.{vals}
-use Rattle.meaning.specs.Settled.{settled, settledCount}
-use Rattle.meaning.specs.RuleFile.{Accepted, checking, nodeCount, nodeAt, childrenOf, formulaOf, formulaAt, lastNode}
-use Rattle.meaning.specs.Kept.{pairs, lastPairs, Entry, entryOf, parentOf, entries, entriesOf}
-use Rattle.meaning.specs.Event.{pointOf}
-use Rattle.meaning.specs.Keeper.{grown}
+use Rattle.meaning.specs.Settled.{settled}
+use Rattle.meaning.specs.RuleFile.{childrenOf, formulaOf}
+use Rattle.meaning.specs.Kept.{pairs, Entry}
 use Rattle.meaning.specs.declared.Point.{Point}
 use Rattle.meaning.specs.declared.Stamp.{Stamp}
 use Rattle.meaning.specs.declared.Node.{Node}
 use Rattle.meaning.specs.declared.Node.the-variants.{Atom, And, AndNot, Keep, Or, Exists, Previous, Next, Since, NotSince, Until, NotUntil, Once, Eventually}
 use Rattle.meaning.proofs.Fine.{Fine}
-use Rattle.meaning.proofs.Tree.{formula-step}
-use Rattle.meaning.proofs.Accepted.{accepted, lower, fine}
-use Rattle.meaning.proofs.Growth.{Extends, extends}
-use Rattle.meaning.proofs.Settles.{stays}
-use Rattle.meaning.proofs.Steady.{steady-by, pairs-by}
-use Rattle.meaning.proofs.Points.{pointsFrom-append, Tested, passed, failed, tested}
-use Rattle.method.specs.Stored.{Stored, baseOf, stampIn, held, heldPairs, leastOf, firstRetained, storedOf}
-use Rattle.method.specs.Counts.{countsTo}
-use Rattle.method.specs.Settle.{Sight, settle, pairsNow, Turn, rowsOfTurn}
+use Rattle.method.specs.Stored.{leastOf}
+use Rattle.method.specs.Settle.{Sight, pairsNow, Turn}
 use Rattle.method.specs.Step
-use Rattle.method.specs.Step.{firstWanted, wantedFrom, newRows, newPairs, turnOf, sightOf, turnsTo, noTurn, stampsNow, countBefore, countAfter, countsAfter, turn}
-use Rattle.method.proofs.Counted.{Counted, counted-most, counted-is, counts-right, counts-grow, upto-below, upto-holds}
-use Rattle.method.proofs.Lists.{map-each, range-length}
-use Rattle.method.proofs.Parents.{parent-is, has-parent}
-use Rattle.method.proofs.Keeps.{countIn, count-of, wanted-low, held-is, heldPairs-is}
+use Rattle.method.specs.Step.{firstWanted, newRows, newPairs, turnOf, sightOf, turnsTo, noTurn}
+use Rattle.method.proofs.Counted.{Counted}
+use Rattle.method.proofs.Lists.{range-length}
 use Rattle.method.proofs.Seen.{Sees, pairsBefore, settle-right, pairs-right}
 
 -- ---- lists

@@ -1,29 +1,27 @@
 -- The whole list, at the level of what is stored: for every accepted rule and every list of takings from the empty log, each taking is given back what the keeper gives, and what is stored is what the keeper's log stores.
 use Prim.Native.Nat.{ℕ, zero, suc, _+_, _-_, _≤_, _<_}
-use native.Mathlib.Nat.{eq-or-lt-of-le}
 use native.Mathlib.Omega.{arith}
-use mathlib.Core.Path.{_≡_, refl, sym, _∙_, ap, ap₂}
-use mathlib.Core.Bool.{Bool, true, false, not}
-use mathlib.Core.Logic.{_⊎_, inl, inr}
-use mathlib.Core.List.{List, [], _∷_, _++_}
+use mathlib.Core.Path.{_≡_, refl, _∙_, ap, ap₂}
+use mathlib.Core.Bool.{Bool, not}
+use mathlib.Core.List.{List, [], _∷_}
 use lib.ListN.{length, getD, length-append, List·getD-append}
 use lib.Seq.{getD-append-seam}
 use lib.Dec.{ltb, leb}
 use borrow.Author.Tests.{ltb-true, ltb-false}
 use Rattle.meaning.specs.Lists.{range}
 use Rattle.meaning.specs.Outcome.{Outcome, refused, given, when, mostPoints}
-use Rattle.meaning.specs.Log.{Log, LogPoint, Ordered, beyond, point, stamp, size, time, latest}
-use Rattle.meaning.specs.RuleFile.{Accepted, checking, nodeCount, formulaAt, lastNode}
+use Rattle.meaning.specs.Log.{Log, LogPoint, Ordered, beyond, size, time, latest}
+use Rattle.meaning.specs.RuleFile.{Accepted, checking, nodeCount, lastNode}
 use Rattle.meaning.specs.Kept.{entries, kept, openPoints}
 use Rattle.meaning.specs.Event.{isEvent, rowCount, pointOf}
 use Rattle.meaning.specs.Keeper.{Taking, Given, report, weighRows, weighCrowds, admitted, weighed, crowdedAt, grown, answer, logAfter, bufferAfter, step, answered, keeperLog, keeper}
 use Rattle.meaning.specs.declared.Point.{Point}
 use Rattle.meaning.specs.declared.Stamp.{Stamp}
 use Rattle.meaning.proofs.Growth.{at-latest}
-use Rattle.meaning.proofs.Points.{Tested, passed, failed, tested, from-first}
+use Rattle.meaning.proofs.Points.{Tested, passed, failed, tested}
 use Rattle.meaning.proofs.Takings.{accepts, step-holds, every-log}
 use Rattle.method.specs.Stored.{Stored, storedOf}
-use Rattle.method.specs.Step.{keptStored, openStored, countAfter, storedNow, crowdedNow, reportNow, latestStored, answerNow, storedAfter, givenBy, storedBy, givenRun, storedRun}
+use Rattle.method.specs.Step.{keptStored, openStored, countAfter, storedNow, crowdedNow, reportNow, answerNow, storedAfter, givenBy, storedBy, givenRun, storedRun}
 use Rattle.method.proofs.Stepped.{open-stored, kept-stored, stored-now, crowded-now, open-now, report-now, latest-now}
 
 -- ---- the log with one more point

@@ -1,6 +1,6 @@
 -- One call's step on what is stored: the nodes in turn, lowest first, what is then kept, and the answer.
 use Prim.Native.Nat.{ℕ, zero, suc, _+_, _-_, min}
-use mathlib.Core.Bool.{Bool, true, false, cond, _&&_}
+use mathlib.Core.Bool.{Bool, cond}
 use mathlib.Core.List.{List, [], _∷_, _++_, map}
 use lib.ListN.{length, getD, drop}
 use lib.Dec.{ltb, eqb}
@@ -11,7 +11,7 @@ use Rattle.meaning.specs.Formula.{free, variables}
 use Rattle.meaning.specs.RuleFile.{nodeCount, nodeAt, formulaAt, lastNode, pattern}
 use Rattle.meaning.specs.Kept.{Entry, entryOf, parentOf}
 use Rattle.meaning.specs.Event.{pointOf}
-use Rattle.meaning.specs.Report.{Reported, reportWords}
+use Rattle.meaning.specs.Report.{reportWords}
 use Rattle.meaning.specs.Keeper.{Taking, Given, reportRow, admitted, weighed, bufferAfter}
 use Rattle.meaning.specs.declared.Point.{Point}
 use Rattle.meaning.specs.declared.Stamp.{Stamp}

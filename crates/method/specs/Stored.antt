@@ -1,11 +1,11 @@
 -- What is stored between calls: the rule, the number of points, the retained times and the kept entries. Nothing else is needed: how many points each node has settled follows from the rule and the times.
 use Prim.Native.Nat.{ℕ, _-_, min}
-use mathlib.Core.Bool.{Bool, true, false, _&&_}
+use mathlib.Core.Bool.{_&&_}
 use mathlib.Core.List.{List, [], _∷_, map}
 use lib.ListN.{length, getD}
 use lib.Dec.{eqb}
 use Rattle.meaning.specs.Lists.{range, select}
-use Rattle.meaning.specs.Log.{Log, point, stamp, size, time, pointsFrom}
+use Rattle.meaning.specs.Log.{Log, stamp, size, time, pointsFrom}
 use Rattle.meaning.specs.Settled.{settledCount}
 use Rattle.meaning.specs.RuleFile.{nodeCount, formulaAt}
 use Rattle.meaning.specs.Kept.{Entry, entries}

@@ -1,6 +1,6 @@
 -- When what is stored is well formed: the conditions of refusal 8, as docs/STATE.md lists them. What a log stores is so (proofs/Reached.antt).
 use Prim.Native.Nat.{ℕ, _-_}
-use mathlib.Core.Bool.{Bool, true, false, _&&_, _||_}
+use mathlib.Core.Bool.{Bool, true, false, _&&_}
 use mathlib.Core.List.{List, [], _∷_, _++_, map}
 use lib.ListN.{length, getD, drop}
 use lib.Dec.{leb, eqb}

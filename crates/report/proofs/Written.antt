@@ -1,31 +1,29 @@
 -- What the keeper writes is a report: for every accepted rule and every list of takings, the words that a taking writes are in form, whatever words trail them, and read back to the points, times and rows reported.
-use Prim.Native.Nat.{ℕ, zero, suc, _+_, _*_, _≤_, _<_}
-use native.Mathlib.Nat.{le-refl, le-trans}
+use Prim.Native.Nat.{ℕ, zero, suc, _+_, _≤_, _<_}
+use native.Mathlib.Nat.{le-trans}
 use native.Mathlib.Omega.{arith}
-use mathlib.Core.Bool.{Bool, true, false, not, cond, _&&_, _||_, false≢true, true≢false}
-use mathlib.Core.List.{List, [], _∷_, _++_, map, append-assoc, List·Memᴰ, List·Memᴰ·head, List·Memᴰ·tail, Memᴰ·of-map}
+use mathlib.Core.Bool.{Bool, true, false, not, cond, _&&_, _||_, false≢true}
+use mathlib.Core.List.{List, [], _∷_, _++_, map, List·Memᴰ, List·Memᴰ·head, List·Memᴰ·tail, Memᴰ·of-map}
 use mathlib.Core.Path.{_≡_, refl, sym, ap, _∙_}
-use lib.Dec.{ltb, leb, eqb}
+use lib.Dec.{ltb, eqb}
 use lib.ListN.{length, getD, drop, length-append, length-map}
-use borrow.Author.Tests.{ltb-false, lt-ltb, eq-eqb, not-false}
-use Rattle.meaning.specs.Lists.{all, range, select, gather}
+use borrow.Author.Tests.{lt-ltb, eq-eqb}
+use Rattle.meaning.specs.Lists.{all, select, gather}
 use Rattle.meaning.specs.Log.{Log, size, time, point, pointsFrom, pointsOf}
 use Rattle.meaning.specs.Order.{before, ascending}
-use Rattle.meaning.specs.Outcome.{Outcome, refused, given, when, mostOpen, mostKept}
-use Rattle.meaning.specs.Formula.{Formula, free, variables}
+use Rattle.meaning.specs.Outcome.{given, mostOpen}
+use Rattle.meaning.specs.Formula.{free, variables}
 use Rattle.meaning.specs.Definition2.{Valuation}
 use Rattle.meaning.specs.Evaluator.{cutTo, valuationOf, vals}
 use Rattle.meaning.specs.Settled.{settled}
-use Rattle.meaning.specs.RuleFile.{Accepted, checking, nodeCount, pattern}
+use Rattle.meaning.specs.RuleFile.{Accepted, checking, pattern}
 use Rattle.meaning.specs.Kept.{openPoints}
-use Rattle.meaning.specs.Event.{rowCount, isEvent, rowFits}
 use Rattle.meaning.specs.Report.{Reported, reportWords, inForm}
-use Rattle.meaning.specs.Keeper.{Taking, newlySettled, reportRow, reported, report, weighRows, weighCrowds, admitted, weighed, crowdedAt, grown, answer, logAfter, bufferAfter, step, answered, keeperLog, keeper}
+use Rattle.meaning.specs.Keeper.{Taking, newlySettled, reportRow, reported, report, grown, answer, answered, keeperLog}
 use Rattle.meaning.specs.declared.Point.{Point}
 use Rattle.meaning.proofs.Rows.{all-of, select-at, points-at, head-before, ascending-tail}
-use Rattle.meaning.proofs.Points.{pointsFrom-append, select-append, Tested, passed, failed, tested}
-use Rattle.meaning.proofs.Fine.{Fine}
-use Rattle.meaning.proofs.Accepted.{no-refusal, fine-pattern}
+use Rattle.meaning.proofs.Points.{pointsFrom-append, select-append}
+use Rattle.meaning.proofs.Accepted.{fine-pattern}
 use Rattle.meaning.proofs.Agreement.{ascends, rows-cut}
 use Rattle.meaning.proofs.Takings.{open-few}
 use Rattle.report.proofs.RoundTrip.{WellMade, ReadsBack, nothing, rowsFit, in-form, read-back}
