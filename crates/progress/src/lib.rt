@@ -22,7 +22,7 @@ fn less(a: u32, b: u32) -> u32
 }
 
 // The lower of two numbers.
-fn lower(a: u32, b: u32) -> u32
+pub fn lower(a: u32, b: u32) -> u32
     ensures { λ r. ⌜ r ≡ min a b ⌝ }
 {
     if a < b { a } else { b }

@@ -26,9 +26,9 @@ pub enum Left {
 }
 
 // The rows of one set, from..to.
-struct Part {
-    from: usize,
-    to: usize,
+pub struct Part {
+    pub from: usize,
+    pub to: usize,
 }
 
 // The window holds t.
@@ -59,7 +59,7 @@ fn due(times: &[u32], base: Point, w: Window, start: Stamp, j: Point) -> bool
 }
 
 // A node's set at point j stands in the rows from..to, where set first is its set at point low.
-fn set_part(at: &[u32], first: usize, low: Point, j: Point) -> Part
+pub fn set_part(at: &[u32], first: usize, low: Point, j: Point) -> Part
     requires { ⌜ (low .0 ≤ j .0) × (first + (j .0 - low .0) + 1 < length (now at)) ⌝ }
     ensures { λ p. ⌜ (p .from ≡ getD (now (at .entry)) (first + (j .0 - low .0)) 0) × (p .to ≡ getD (now (at .entry)) (first + (j .0 - low .0) + 1) 0) ⌝ }
 {
