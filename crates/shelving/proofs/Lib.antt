@@ -1,0 +1,5 @@
+-- Facts about a node's sets and pairs as entries.
+pub mod Gathered
+pub mod Loading
+pub mod Paired
+pub mod Packs

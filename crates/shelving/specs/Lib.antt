@@ -1,0 +1,2 @@
+-- A node's sets and pairs as kept entries, and what functions over them ask and ensure.
+pub mod Shelved
