@@ -18,6 +18,13 @@ ghost use Rattle.rowset.specs.Rows.{wordsOf, rowsFrom, lookUp};
 ghost use Rattle.rowset.specs.Sets.{Run, Room, Added};
 ghost use Rattle.kinds.specs.Kinds.{inMask, EventThere, rowFrom, rowsWith, pairsFrom, aged};
 
+// What since and until ask of left at a point: that it holds, that it doesn't, or nothing.
+pub enum Left {
+    Holds,
+    Denied,
+    Always,
+}
+
 // Four variables: whether each is in a set.
 pub struct Vars {
     pub b0: bool,

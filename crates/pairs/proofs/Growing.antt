@@ -10,8 +10,8 @@ use Rattle.meaning.specs.Lists.{range}
 use Rattle.meaning.specs.Order.{ascending}
 use Rattle.meaning.specs.Evaluator.{insert, insertAll}
 use Rattle.rowset.proofs.Runs.{run-first, run-end}
-use Rattle.kinds.specs.Kinds.{pairsFrom}
-use Rattle.pairs.specs.Pairs.{PairsThere, PairRoom, PairsAdded, PairsMade}
+use Rattle.kinds.specs.Kinds.{pairsFrom, PairsThere}
+use Rattle.pairs.specs.Pairs.{PairRoom, PairsAdded, PairsMade}
 use Rattle.pairs.proofs.Runs.{pairs-none}
 
 insertAll-append : (set xs ys : List (List ℕ)) → insertAll set (xs ++ ys) ≡ insertAll (insertAll set xs) ys

@@ -1,26 +1,18 @@
 -- Pairs of an age and a row in two parallel runs of words: the test of left, room for pairs, and pairs put in.
 use Prim.Native.Nat.{ℕ, _+_, _*_, _≤_}
 use mathlib.Core.Path.{_≡_}
-use mathlib.Core.Bool.{Bool, true, not}
+use mathlib.Core.Bool.{Bool, true}
 use mathlib.Core.List.{List}
 use lib.ListN.{length}
 use Rattle.meaning.specs.Order.{ascending}
 use Rattle.meaning.specs.Evaluator.{cutTo, valuationOf, insertAll, setOf}
 use Rattle.rowset.specs.Rows.{lookUp}
-use Rattle.kinds.specs.Kinds.{inMask, pairsFrom}
-use Rattle.pairs.specs.declared.Left.{Left}
-use Rattle.pairs.specs.declared.Left.the-variants.{Holds, Denied, Always}
+use Rattle.kinds.specs.Kinds.{inMask, passes, pairsFrom}
+use Rattle.kinds.specs.declared.Left.{Left}
 
--- a row passes left: cut down to left's variables it is among left's rows, isn't, or isn't asked
+-- a row, cut down to left's variables, passes left where left has these rows
 abbrev pub leftTest : Left → ℕ → List (List ℕ) → List ℕ → Bool
-leftTest Holds mask rows u = lookUp (cutTo (inMask mask) (valuationOf u)) rows
-leftTest Denied mask rows u = not (lookUp (cutTo (inMask mask) (valuationOf u)) rows)
-leftTest Always mask rows u = true
-
--- n pairs stand in the words
-pub record PairsThere (ages values : List ℕ) (n : ℕ) : Type 0 where
-  pub agesThere : n ≤ length ages
-  pub valuesThere : n * 4 ≤ length values
+leftTest l mask rows u = passes l (lookUp (cutTo (inMask mask) (valuationOf u)) rows)
 
 -- n pairs that ascend strictly, and room for as many further ones as more says
 pub record PairRoom (ages values : List ℕ) (n more : ℕ) : Type 0 where

@@ -1,4 +1,5 @@
 // Growing the pairs of "since" by one point: each is an age, in one lent slice, and a row of four words, in another.
+use kinds::Left;
 use meaning::Window;
 use rowset::Row;
 ghost use mathlib.Core.Path.{_≡_};
@@ -13,15 +14,8 @@ ghost use Rattle.meaning.specs.Kept.{belowEnd, countedAge};
 ghost use Rattle.method.specs.Settle.{older};
 ghost use Rattle.rowset.specs.Rows.{wordsOf, rowsFrom, lookUp, placeOf};
 ghost use Rattle.rowset.specs.Sets.{Run};
-ghost use Rattle.kinds.specs.Kinds.{inMask, pairAt, pairsFrom};
-ghost use Rattle.pairs.specs.Pairs.{leftTest, PairsThere, PairRoom, PairsAdded, PairsMade};
-
-// How a row is tested against left's rows: it is among them, it isn't, or there is no left.
-pub enum Left {
-    Holds,
-    Denied,
-    Always,
-}
+ghost use Rattle.kinds.specs.Kinds.{inMask, pairAt, pairsFrom, PairsThere};
+ghost use Rattle.pairs.specs.Pairs.{leftTest, PairRoom, PairsAdded, PairsMade};
 
 // The order of pairs: the age first, then the row.
 pub fn pair_before(a: u32, x: Row, b: u32, y: Row) -> bool

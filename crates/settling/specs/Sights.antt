@@ -1,5 +1,5 @@
 -- What a node's turn looks at, as it stands in slices, and what must stand there for the node's kind.
-use Prim.Native.Nat.{ℕ, _+_, _-_, _*_, _≤_, _<_, min}
+use Prim.Native.Nat.{ℕ, _+_, _-_, _≤_, _<_, min}
 use mathlib.Core.Path.{_≡_}
 use mathlib.Core.List.{List, map}
 use lib.ListN.{length, getD}
@@ -11,7 +11,7 @@ use Rattle.meaning.specs.declared.Node.{Node}
 use Rattle.meaning.specs.declared.Node.the-variants.{Atom, And, AndNot, Keep, Or, Exists, Previous, Next, Since, NotSince, Until, NotUntil, Once, Eventually}
 use Rattle.method.specs.Stored.{stampIn}
 use Rattle.method.specs.Settle.{Sight}
-use Rattle.kinds.specs.Kinds.{inMask, EventThere}
+use Rattle.kinds.specs.Kinds.{inMask, EventThere, PairsThere}
 use Rattle.room.specs.Room.{setAt}
 use Rattle.untils.specs.Until.{Stand}
 
@@ -35,11 +35,6 @@ pub record There (rows at firsts lows : List ℕ) (y i m : ℕ) : Type 0 where
   pub in-firsts : y < length firsts
   pub in-lows : y < length lows
   pub stand : Stand rows at (getD firsts y 0) (getD lows y 0) i m
-
--- so many pairs stand in ages and values
-pub record PairsThere (ages values : List ℕ) (pairs : ℕ) : Type 0 where
-  pub in-ages : pairs ≤ length ages
-  pub in-values : pairs * 4 ≤ length values
 
 -- what must stand for a node of each kind at point i
 module _ (b w rows at firsts lows masks counts ages values : List ℕ) (pairs i : ℕ) where

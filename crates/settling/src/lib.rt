@@ -1,10 +1,10 @@
 // The valuations of one node at one point, by its kind, from its children's sets in a lent slice.
+use kinds::Left;
 use meaning::Comparison;
 use meaning::Node;
 use meaning::Point;
 use meaning::Sides;
 use meaning::Window;
-use untils::Left;
 use untils::Part;
 ghost use mathlib.Core.Path.{_≡_};
 ghost use mathlib.Core.Bool.{true, cond, not, _&&_};
@@ -21,9 +21,9 @@ ghost use Rattle.method.specs.Stored.{stampIn};
 ghost use Rattle.method.specs.Settle.{oldEnough, candidates};
 ghost use Rattle.rowset.specs.Rows.{lookUp};
 ghost use Rattle.rowset.specs.Sets.{Room, Added};
-ghost use Rattle.kinds.specs.Kinds.{inMask, pairsFrom};
+ghost use Rattle.kinds.specs.Kinds.{inMask, pairsFrom, PairsThere};
 ghost use Rattle.untils.specs.Until.{leftTest};
-ghost use Rattle.settling.specs.Sights.{nodeSet, sightIn, There, PairsThere, asked};
+ghost use Rattle.settling.specs.Sights.{nodeSet, sightIn, There, asked};
 
 // Node y's set at point j stands in the rows from..to.
 fn set_part(at: &[u32], firsts: &[u32], lows: &[u32], y: u8, j: Point) -> Part

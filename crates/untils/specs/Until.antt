@@ -1,22 +1,15 @@
 -- The test of left that until makes, over a node's sets, and where these sets stand.
 use Prim.Native.Nat.{ℕ, _+_, _-_, _≤_}
-use mathlib.Core.Bool.{Bool, true, not}
+use mathlib.Core.Bool.{Bool}
 use mathlib.Core.List.{List}
 use Rattle.meaning.specs.Lists.{all}
 use Rattle.meaning.specs.Log.{pointsFrom}
 use Rattle.meaning.specs.Evaluator.{cutTo, valuationOf}
 use Rattle.meaning.specs.declared.Point.{Point}
 use Rattle.rowset.specs.Rows.{lookUp}
-use Rattle.kinds.specs.Kinds.{inMask}
+use Rattle.kinds.specs.Kinds.{inMask, passes}
+use Rattle.kinds.specs.declared.Left.{Left}
 use Rattle.room.specs.Room.{Laid}
-use Rattle.untils.specs.declared.Left.{Left}
-use Rattle.untils.specs.declared.Left.the-variants.{Holds, Denied, Always}
-
--- left passes, where a row was found in its set or not
-abbrev pub passes : Left → Bool → Bool
-passes Holds found = found
-passes Denied found = not found
-passes Always found = true
 
 -- left passes at point k for a row that is cut down already
 abbrev pub passesAt : Left → (Point → List (List ℕ)) → List ℕ → Point → Bool

@@ -1,4 +1,5 @@
 // The valuations of until at a point, from its children's sets in a lent slice.
+use kinds::Left;
 use meaning::Point;
 use meaning::Stamp;
 use meaning::Window;
@@ -15,15 +16,9 @@ ghost use Rattle.meaning.specs.Evaluator.{leading, untilRows};
 ghost use Rattle.method.specs.Stored.{stampIn};
 ghost use Rattle.rowset.specs.Rows.{wordsOf, rowsFrom, lookUp};
 ghost use Rattle.rowset.specs.Sets.{Run, Room, Added};
+ghost use Rattle.kinds.specs.Kinds.{passes};
 ghost use Rattle.room.specs.Room.{setAt};
-ghost use Rattle.untils.specs.Until.{passes, passesAt, leftTest, leads, Stand};
-
-// What left is asked at each point: that it holds, that it doesn't, or nothing.
-pub enum Left {
-    Holds,
-    Denied,
-    Always,
-}
+ghost use Rattle.untils.specs.Until.{passesAt, leftTest, leads, Stand};
 
 // The rows of one set, from..to.
 pub struct Part {

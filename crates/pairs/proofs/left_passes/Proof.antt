@@ -2,7 +2,7 @@
 use mathlib.Core.Path.{_≡_, ap}
 use mathlib.Core.Bool.{not}
 use borrow.Author.Needs.{needs}
-use Rattle.pairs.specs.declared.Left.the-variants.{Holds, Denied, Always}
+use Rattle.kinds.specs.declared.Left.the-variants.{Holds, Denied, Always}
 use Rattle.pairs.proofs.left_passes.Statement.{statement}
 use Rattle.pairs.proofs.left_passes.Tie as tie
 

@@ -9,7 +9,7 @@ use Rattle.meaning.specs.Log.{pointsFrom}
 use Rattle.rowset.specs.Rows.{wordsOf}
 use Rattle.room.specs.Room.{setAt}
 use Rattle.untils.specs.Until.{passesAt}
-use Rattle.untils.specs.declared.Left.{Left}
+use Rattle.kinds.specs.declared.Left.{Left}
 use Rattle.untils.proofs.Spans.{stand-part}
 use Rattle.untils.proofs.Passing.{all-more, all-stops, all-ends, passes-as}
 use Rattle.untils.proofs.passes_from.Statement.{statement}
