@@ -1,4 +1,5 @@
 -- Facts about the definitions.
+pub mod Lists
 pub mod Rows
 pub mod Points
 pub mod Fine

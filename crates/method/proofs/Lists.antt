@@ -6,7 +6,6 @@ use mathlib.Core.Path.{_≡_, refl, _∙_, ap, ap₂}
 use mathlib.Core.Bool.{Bool, true, false, cond, _&&_}
 use mathlib.Core.Logic.{_⊎_, inl, inr}
 use mathlib.Core.List.{List, [], _∷_, _++_, map, append-nil, List·Memᴰ, List·Memᴰ·head, List·Memᴰ·tail}
-use lib.ListN.{length}
 use lib.Dec.{ltb, leb}
 use borrow.Author.Tests.{le-leb, lt-ltb, le-ltb, lt-leb}
 use Rattle.meaning.specs.Lists.{any, select, gather, range}
@@ -113,7 +112,3 @@ gather-each f g a (suc n) h = ap₂ (λ s t. s ++ t) (h a (omega arith) (omega a
 pub map-each : {B : Type 0} (f g : ℕ → B) (a n : ℕ) → ((y : ℕ) → a ≤ y → y < a + n → f y ≡ g y) → map f (range a n) ≡ map g (range a n)
 map-each f g a zero h = refl
 map-each f g a (suc n) h = ap₂ (λ s t. s ∷ t) (h a (omega arith) (omega arith)) (map-each f g (suc a) n (λ y u o. h y (omega arith) (omega arith)))
-
-pub range-length : (a n : ℕ) → length (range a n) ≡ n
-range-length a zero = refl
-range-length a (suc n) = ap suc (range-length (suc a) n)

@@ -5,26 +5,19 @@ use native.Mathlib.Omega.{arith}
 use mathlib.Core.Path.{_≡_, refl}
 use mathlib.Core.Bool.{Bool, true, false, cond}
 use mathlib.Core.Logic.{_⊎_, inl, inr, _↔_}
-use mathlib.Core.List.{List, [], _∷_, _++_, List·Memᴰ, List·Memᴰ·head, List·Memᴰ·tail}
+use mathlib.Core.List.{List, [], _∷_, List·Memᴰ, List·Memᴰ·head, List·Memᴰ·tail}
 use lib.Dec.{eqb}
 use borrow.Author.Tests.{eqb-true, eq-eqb}
 use Rattle.meaning.specs.Lists.{range, gather, firstOr, occurrences}
 use Rattle.meaning.specs.Outcome.{given}
 use Rattle.meaning.specs.RuleFile.{Accepted, checking, nodeCount, nodeAt, childrenOf, isOneOf, timesChild}
 use Rattle.meaning.specs.Kept.{parentOf}
+use Rattle.meaning.proofs.Lists.{occurrences-append}
 use Rattle.meaning.proofs.Rows.{any-at, any-of}
 use Rattle.meaning.proofs.Points.{Tested, passed, failed, tested}
 use Rattle.meaning.proofs.Accepted.{accepted, lower}
 
 -- ---- how often a number stands in gathered lists
-
-occ-append : (y : ℕ) (xs ys : List ℕ) → occurrences y (xs ++ ys) ≡ occurrences y xs + occurrences y ys
-occ-append y [] ys = omega arith
-occ-append y (x ∷ xs) ys = go (eqb y x) (occ-append y xs ys)
-  where
-    go : (t : Bool) → occurrences y (xs ++ ys) ≡ occurrences y xs + occurrences y ys → cond t (suc (occurrences y (xs ++ ys))) (occurrences y (xs ++ ys)) ≡ cond t (suc (occurrences y xs)) (occurrences y xs) + occurrences y ys
-    go true e = omega arith
-    go false e = e
 
 occ-mem : (y : ℕ) {xs : List ℕ} → List·Memᴰ y xs → 1 ≤ occurrences y xs
 occ-mem y (List·Memᴰ·head {x = x} {xs = xs} e) = rw (eq-eqb y x e) (omega arith)
@@ -45,7 +38,7 @@ mem-occ y (x ∷ xs) h = go (tested (eqb y x)) (mem-occ y xs)
 module _ (f : ℕ → List ℕ) (y : ℕ) where
   occ-in : (x a n : ℕ) → a ≤ x → x < a + n → List·Memᴰ y (f x) → 1 ≤ occurrences y (gather f (range a n))
   occ-in x a zero u o m = absurd (omega arith)
-  occ-in x a (suc n) u o m = rw occ-append (go (eq-or-lt-of-le u) (λ v. occ-in x (suc a) n v (omega arith) m))
+  occ-in x a (suc n) u o m = rw occurrences-append (go (eq-or-lt-of-le u) (λ v. occ-in x (suc a) n v (omega arith) m))
     where
       go : (a ≡ x) ⊎ (a < x) → (a < x → 1 ≤ occurrences y (gather f (range (suc a) n))) → 1 ≤ occurrences y (f a) + occurrences y (gather f (range (suc a) n))
       go (inl e) rest = let h : 1 ≤ occurrences y (f a) = rw e (occ-mem y m) in omega arith
@@ -53,7 +46,7 @@ module _ (f : ℕ → List ℕ) (y : ℕ) where
 
   occ-two : (z x a n : ℕ) → a ≤ z → z < x → x < a + n → List·Memᴰ y (f z) → List·Memᴰ y (f x) → 2 ≤ occurrences y (gather f (range a n))
   occ-two z x a zero u v o m k = absurd (omega arith)
-  occ-two z x a (suc n) u v o m k = rw occ-append (go (eq-or-lt-of-le u) (λ t. occ-two z x (suc a) n t v (omega arith) m k))
+  occ-two z x a (suc n) u v o m k = rw occurrences-append (go (eq-or-lt-of-le u) (λ t. occ-two z x (suc a) n t v (omega arith) m k))
     where
       go : (a ≡ z) ⊎ (a < z) → (a < z → 2 ≤ occurrences y (gather f (range (suc a) n))) → 2 ≤ occurrences y (f a) + occurrences y (gather f (range (suc a) n))
       go (inl e) rest = let h : 1 ≤ occurrences y (f a) = rw e (occ-mem y m) in omega (arith, occ-in x (suc a) n (omega arith) (omega arith) k)
@@ -64,7 +57,7 @@ module _ (f : ℕ → List ℕ) (y : ℕ) where
   occ-some a (suc n) h = go (tested (eqb (occurrences y (f a)) 0)) (occ-some (suc a) n)
     where
       sum : occurrences y (gather f (range a (suc n))) ≡ occurrences y (f a) + occurrences y (gather f (range (suc a) n))
-      sum = occ-append y (f a) (gather f (range (suc a) n))
+      sum = occurrences-append y (f a) (gather f (range (suc a) n))
 
       go : Tested (eqb (occurrences y (f a)) 0) → (1 ≤ occurrences y (gather f (range (suc a) n)) → (x : ℕ) × (suc a ≤ x) × (x < suc a + n) × List·Memᴰ y (f x)) → (x : ℕ) × (a ≤ x) × (x < a + suc n) × List·Memᴰ y (f x)
       go (passed e) rest = let r = rest (omega (arith, sum, eqb-true (occurrences y (f a)) 0 e)) in (r .0, omega (arith, r .1), omega (arith, r .2), r .3)

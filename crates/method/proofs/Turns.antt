@@ -26,7 +26,7 @@ use Rattle.method.specs.Settle.{Sight, pairsNow, Turn}
 use Rattle.method.specs.Step
 use Rattle.method.specs.Step.{firstWanted, newRows, newPairs, turnOf, sightOf, turnsTo, noTurn}
 use Rattle.method.proofs.Counted.{Counted}
-use Rattle.method.proofs.Lists.{range-length}
+use Rattle.meaning.proofs.Lists.{range-length}
 use Rattle.method.proofs.Seen.{Sees, pairsBefore, settle-right, pairs-right}
 
 -- ---- lists

@@ -3,13 +3,14 @@ use Prim.Native.Nat.{ℕ, zero, suc, _+_, _*_, _<_}
 use native.Mathlib.Nat.{mul-suc, mul-zero}
 use native.Mathlib.Omega.{arith}
 use mathlib.Core.Bool.{Bool, true, _&&_}
-use mathlib.Core.List.{List, [], _∷_, _++_, map, append-assoc}
+use mathlib.Core.List.{List, [], _∷_, _++_, map}
 use mathlib.Core.Path.{_≡_, refl, sym, ap, ap₂, _∙_}
 use lib.Dec.{eqb}
 use lib.ListN.{length, getD, take, drop, length-append}
 use lib.Seq.{split-at}
 use borrow.Author.Tests.{eqb-true}
 use Rattle.meaning.specs.Lists.{all, range, gather, total}
+use Rattle.meaning.proofs.Lists.{gather-append}
 use Rattle.report.proofs.Forms.{both}
 
 module _ {A : Type 0} where
@@ -47,14 +48,10 @@ module _ {A : Type 0} where
   total-append f (x ∷ xs) ys = omega (arith, total-append f xs ys)
 
 module _ {A B : Type 0} (f : A → List B) where
-  gather-append : (xs ys : List A) → gather f (xs ++ ys) ≡ gather f xs ++ gather f ys
-  gather-append [] ys = refl
-  gather-append (x ∷ xs) ys = ap (λ (l : List B). f x ++ l) (gather-append xs ys) ∙ rw append-assoc
-
   -- what one element gives, between what the others give
   pub gather-split : (xs : List A) (d : A) (k : ℕ) → k < length xs
       → gather f xs ≡ gather f (take k xs) ++ (f (getD xs k d) ++ gather f (drop (suc k) xs))
-  gather-split xs d k l = ap (gather f) (split-at xs k d l) ∙ gather-append (take k xs) (getD xs k d ∷ drop (suc k) xs)
+  gather-split xs d k l = ap (gather f) (split-at xs k d l) ∙ gather-append f (take k xs) (getD xs k d ∷ drop (suc k) xs)
 
 -- lists of one length, end to end
 pub equal-lengths : (n : ℕ) (rows : List (List ℕ)) → all (λ (r : List ℕ). eqb (length r) n) rows ≡ true

@@ -21,7 +21,8 @@ use Rattle.rulenodes.specs.Children.{childrenIn}
 use Rattle.rulefile.specs.declared.Stray.{Stray}
 use Rattle.rulefile.specs.declared.Stray.the-variants.{At, Nowhere}
 use Rattle.rulefile.specs.Weighing.{strayOr, firstOf, FirstStray, afterNodes}
-use Rattle.rulefile.proofs.Ranges.{gather-last, occurrences-append, occurrences-bound}
+use Rattle.rulefile.proofs.Ranges.{gather-last, occurrences-bound}
+use Rattle.meaning.proofs.Lists.{occurrences-append}
 
 -- one child counted
 pub child-counted : (uses : List ℕ) (c : ℕ) → c < length uses → (y : ℕ) → getD (set uses c (getD uses c 0 + 1)) y 0 ≡ getD uses y 0 + occurrences y (c ∷ [])

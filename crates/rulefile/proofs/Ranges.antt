@@ -24,14 +24,6 @@ gather-last f a (suc n) =
     ∙ sym (append-assoc (f a) (gather f (range (suc a) n)) (f (suc a + n)))
     ∙ ap (λ k. (f a ++ gather f (range (suc a) n)) ++ f k) (let e : suc a + n ≡ a + suc n = omega arith in e)
 
-pub occurrences-append : (x : ℕ) (s t : List ℕ) → occurrences x (s ++ t) ≡ occurrences x s + occurrences x t
-occurrences-append x [] t = let e : occurrences x t ≡ 0 + occurrences x t = omega arith in e
-occurrences-append x (y ∷ s) t = go (eqb x y) (occurrences-append x s t)
-  where
-    go : (b : Bool) → occurrences x (s ++ t) ≡ occurrences x s + occurrences x t → cond b (suc (occurrences x (s ++ t))) (occurrences x (s ++ t)) ≡ cond b (suc (occurrences x s)) (occurrences x s) + occurrences x t
-    go true h = omega arith
-    go false h = h
-
 pub occurrences-bound : (x : ℕ) (s : List ℕ) → occurrences x s ≤ length s
 occurrences-bound x [] = omega arith
 occurrences-bound x (y ∷ s) = go (eqb x y) (occurrences-bound x s)

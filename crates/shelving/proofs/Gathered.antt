@@ -1,6 +1,6 @@
 -- The entries of sets at a run of points: one point more at either end, and what they begin with.
 use Prim.Native.Nat.{ℕ, zero, suc, _+_, _-_, _<_}
-use mathlib.Core.Path.{_≡_, refl, sym, ap, _∙_}
+use mathlib.Core.Path.{_≡_, refl, ap, _∙_}
 use mathlib.Core.Bool.{Bool, true, false, _&&_}
 use mathlib.Core.List.{List, [], _∷_, _++_, map, append-assoc, append-nil}
 use native.Mathlib.Omega.{arith}
@@ -10,13 +10,10 @@ use Rattle.meaning.specs.Lists.{gather}
 use Rattle.meaning.specs.Log.{point, pointsFrom}
 use Rattle.meaning.specs.Kept.{Entry, entryOf}
 use Rattle.meaning.specs.declared.Point.{Point}
+use Rattle.meaning.proofs.Lists.{gather-append}
 use Rattle.meaning.proofs.Points.{pointsFrom-append}
 use Rattle.shelf.proofs.Walking.{begins, hasOwner, isEntry}
 use Rattle.shelving.specs.Shelved.{setEntries}
-
-gather-append : {A B : Type 0} (f : A → List B) (xs ys : List A) → gather f (xs ++ ys) ≡ gather f xs ++ gather f ys
-gather-append f [] ys = refl
-gather-append f (x ∷ xs) ys = ap (λ zs. f x ++ zs) (gather-append f xs ys) ∙ sym (append-assoc (f x) (gather f xs) (gather f ys))
 
 module _ (x : ℕ) (S : Point → List (List ℕ)) where
   -- one point more behind the others

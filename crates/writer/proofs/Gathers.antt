@@ -4,15 +4,11 @@ use native.Mathlib.Nat.{mul-suc, mul-zero}
 use native.Mathlib.Numerals.{add-one}
 use native.Mathlib.Omega.{arith}
 use mathlib.Core.Path.{_≡_, refl, sym, ap}
-use mathlib.Core.List.{List, [], _∷_, _++_, map, append-assoc}
+use mathlib.Core.List.{List, [], _∷_, _++_, map}
 use lib.ListN.{length, length-append}
 use Rattle.meaning.specs.Lists.{range, gather}
 
 module _ {A B : Type 0} (f : A → List B) where
-  pub gather-append : (xs ys : List A) → gather f (xs ++ ys) ≡ gather f xs ++ gather f ys
-  gather-append [] ys = refl
-  gather-append (x ∷ xs) ys = rw (gather-append xs ys) (sym (append-assoc (f x) (gather f xs) (gather f ys)))
-
   pub gather-length : (n : ℕ) → ((x : A) → length (f x) ≡ n) → (xs : List A) → length (gather f xs) ≡ n * length xs
   gather-length n h [] = sym (mul-zero n)
   gather-length n h (x ∷ xs) =
@@ -22,10 +18,6 @@ module _ {A B : Type 0} (f : A → List B) where
 pub gather-map : {A B : Type 0} (f : A → List B) (xs : List A) → gather (λ r. r) (map f xs) ≡ gather f xs
 gather-map f [] = refl
 gather-map f (x ∷ xs) = ap (λ us. f x ++ us) (gather-map f xs)
-
-pub range-length : (i n : ℕ) → length (range i n) ≡ n
-range-length i zero = refl
-range-length i (suc n) = ap suc (range-length (suc i) n)
 
 -- what numbers in a row give, from the front
 module _ (give : ℕ → List ℕ) (to i : ℕ) where

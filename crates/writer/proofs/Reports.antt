@@ -12,6 +12,7 @@ use Rattle.meaning.specs.Formula.{variables}
 use Rattle.meaning.specs.Report.{triple, rowWords, reportWords}
 use Rattle.meaning.specs.Keeper.{reportRow}
 use Rattle.meaning.specs.declared.Stamp.{Stamp}
+use Rattle.meaning.proofs.Lists.{range-length, gather-append}
 use Rattle.method.specs.Stored.{stampIn}
 use Rattle.rowset.specs.declared.Row.{Row}
 use Rattle.rowset.specs.Rows.{wordsOf, rowAt, rowsFrom}
@@ -20,7 +21,7 @@ use Rattle.room.proofs.Laid.{marks-rise, laid-fewer}
 use Rattle.room.specs.Room.{setAt, Laid}
 use Rattle.kinds.specs.Kinds.{inMask}
 use Rattle.writer.specs.Puts.{Put}
-use Rattle.writer.proofs.Gathers.{gather-append, gather-length, gather-map, range-length}
+use Rattle.writer.proofs.Gathers.{gather-length, gather-map}
 use Rattle.writer.proofs.Putting.{Putting, putting-none, putting-more}
 use Rattle.writer.specs.Words.{freeCount, setOf, firstRow, endRow, tripleAt, reportedFrom, words, Marked, Reportable}
 
