@@ -78,7 +78,7 @@ first-at p x a (suc n) d u o e h = go (eq-or-lt-of-le u) (λ v. first-at p x (su
 
 -- ---- parents
 
-is-one-of : (ks : List ℕ) (k : ℕ) → (isOneOf ks k ≡ true) ↔ List·Memᴰ k ks
+pub is-one-of : (ks : List ℕ) (k : ℕ) → (isOneOf ks k ≡ true) ↔ List·Memᴰ k ks
 is-one-of ks k = (λ e. let (y, m, h) = any-at (eqb k) ks e in rw (eqb-true k y h) m, λ m. any-of (eqb k) m (eq-eqb k k refl))
 
 module _ (b : List ℕ) (a : Accepted) (ok : checking b ≡ given a) where

@@ -15,7 +15,7 @@ ghost use Rattle.progress.specs.Bounds.{Within};
 ghost use Rattle.progress.specs.Filled.{Filled};
 
 // A difference that stops at 0, as it does in the definitions.
-fn less(a: u32, b: u32) -> u32
+pub fn less(a: u32, b: u32) -> u32
     ensures { λ r. ⌜ r ≡ a - b ⌝ }
 {
     if b < a { a - b } else { 0 }
