@@ -115,20 +115,21 @@ pair-parts l (eventually a w) f i p m = absurd (List·Memᴰ·not-nil m)
 
 -- ---- a node's entries as runs
 
+-- a node's rows are wanted from no later than its first unsettled point
+pub wanted-low : (b : List ℕ) (c : ℕ → ℕ) (x : ℕ) → wantedFrom b c x ≤ c x
+unfolding wantedFrom
+wanted-low b c x = go (eqb x (lastNode b)) _
+  where
+    go : (t : Bool) (f : ℕ) → cond t (c x) (min (c x) f) ≤ c x
+    go true f = omega arith
+    go false f = omega arith
+
 module _ (b : List ℕ) (a : Accepted) (ok : checking b ≡ given a) (l : Log) (ordered : Ordered l) where
   abbrev pub countIn : ℕ → ℕ
   countIn x = settledCount l (formulaAt b x)
 
   pub count-of : (x : ℕ) → x < nodeCount b → Counted l (formulaAt b x) (countIn x)
   count-of x o = count-counted l (formulaAt b x) ordered (fine b a ok x o)
-
-  pub wanted-low : (x : ℕ) → wantedFrom b countIn x ≤ countIn x
-  unfolding wantedFrom
-  wanted-low x = go (eqb x (lastNode b)) _
-    where
-      go : (t : Bool) (f : ℕ) → cond t (countIn x) (min (countIn x) f) ≤ countIn x
-      go true f = omega arith
-      go false f = omega arith
 
   -- the points at which a node that isn't the last keeps its rows
   kept-run : (x : ℕ) → x < nodeCount b - 1

@@ -317,8 +317,8 @@ module _ (b : List ℕ) (a : Accepted) (ok : checking b ≡ given a) (l : Log) (
       rw (wanted-now x o, count-before b a ok l (r .ordered) x o, heldPairs-is b a ok l (r .ordered) x o)
       (both
       (all-points _ (wantedFrom b was x) (was x - wantedFrom b was x) .1
-      (λ j u v. rw (held-is b a ok l (r .ordered) x o j u (omega (arith, wanted-low b a ok l (r .ordered) x)))
-      (set-fits x o j (upto-holds (settled l (formulaAt b x)) (was x) (was-counted x o) j (omega (arith, wanted-low b a ok l (r .ordered) x))))))
+      (λ j u v. rw (held-is b a ok l (r .ordered) x o j u (omega (arith, wanted-low b was x)))
+      (set-fits x o j (upto-holds (settled l (formulaAt b x)) (was x) (was-counted x o) j (omega (arith, wanted-low b was x))))))
       (last-pairs-fit x o))
 
   own-entries : (x : ℕ) → x < nodeCount b → entriesOf b l x ≡ ownEntries s x
@@ -329,7 +329,7 @@ module _ (b : List ℕ) (a : Accepted) (ok : checking b ≡ given a) (l : Log) (
       (rw (wanted-now x o, count-before b a ok l (r .ordered) x o, heldPairs-is b a ok l (r .ordered) x o)
       (ap (λ es. es ++ map (λ p. entryOf x 1 (getD p 0 0) (drop 1 p)) (lastPairs l (formulaAt b x)))
       (gather-over _ (λ j. map (entryOf x 0 (j .0)) (vals l (formulaAt b x) j)) (wantedFrom b was x) (was x - wantedFrom b was x)
-      (λ j u v. ap (map (entryOf x 0 (j .0))) (held-is b a ok l (r .ordered) x o j u (omega (arith, wanted-low b a ok l (r .ordered) x)))))))
+      (λ j u v. ap (map (entryOf x 0 (j .0))) (held-is b a ok l (r .ordered) x o j u (omega (arith, wanted-low b was x)))))))
 
   entries-own : entries b l ≡ gather (ownEntries s) (range 0 (nodeCount b))
   unfolding entries

@@ -106,10 +106,10 @@ abbrev pub pairsBefore : Log → Formula → Point → List (List ℕ)
 pairsBefore l φ i = cond (eqb (i .0) 0) [] (pairs l φ (pointBefore i))
 
 -- the first and the second of some children
-one : {y : ℕ} {ys : List ℕ} → List·Memᴰ y (y ∷ ys)
+pub one : {y : ℕ} {ys : List ℕ} → List·Memᴰ y (y ∷ ys)
 one = List·Memᴰ·head refl
 
-two : {x y : ℕ} {ys : List ℕ} → List·Memᴰ y (x ∷ y ∷ ys)
+pub two : {x y : ℕ} {ys : List ℕ} → List·Memᴰ y (x ∷ y ∷ ys)
 two = List·Memᴰ·tail (List·Memᴰ·head refl)
 
 -- an age of 0 is below every end

@@ -7,7 +7,7 @@ use mathlib.Core.List.{List, [], _∷_, _++_, map, List·Memᴰ}
 use lib.ListN.{length, getD, drop, length-append, length-map, List·getD-append, List·getD-eq-default}
 use lib.Seq.{getD-append-seam}
 use lib.Dec.{ltb, leb, eqb}
-use borrow.Author.Tests.{ltb-true, ltb-false, lt-ltb, le-leb, lt-leb, eqb-false, ne-eqb}
+use borrow.Author.Tests.{ltb-true, ltb-false, lt-ltb, le-leb, lt-leb, eqb-false}
 use Rattle.meaning.specs.Lists.{range, select, gather}
 use Rattle.meaning.specs.Outcome.{given, mostRows}
 use Rattle.meaning.specs.Log.{Log, LogPoint, Ordered, beyond, point, stamp, size, time, rowsAt, latest, pointsFrom}
@@ -15,7 +15,7 @@ use Rattle.meaning.specs.Formula.{free, variables}
 use Rattle.meaning.specs.Evaluator.{vals}
 use Rattle.meaning.specs.Settled.{settled, settledCount}
 use Rattle.meaning.specs.RuleFile.{Accepted, checking, nodeCount, nodeAt, childrenOf, formulaOf, formulaAt, lastNode, pattern}
-use Rattle.meaning.specs.Kept.{pairs, lastPairs, Entry, entryOf, parentOf, entries, entriesOf, kept, openPoints}
+use Rattle.meaning.specs.Kept.{pairs, lastPairs, Entry, entryOf, entries, entriesOf, kept, openPoints}
 use Rattle.meaning.specs.Event.{pointOf}
 use Rattle.meaning.specs.Report.{Reported, reportWords}
 use Rattle.meaning.specs.Keeper.{newlySettled, reportRow, reported, report, crowdedAt, grown}
@@ -32,12 +32,12 @@ use Rattle.meaning.proofs.Points.{pointsFrom-append, Tested, passed, failed, te
 use Rattle.method.specs.Stored.{Stored, baseOf, stampIn, held, heldPairs, leastOf, firstRetained, storedOf}
 use Rattle.method.specs.Counts.{countsTo}
 use Rattle.method.specs.Settle.{Sight, Turn, rowsOfTurn}
-use Rattle.method.specs.Step.{firstWanted, wantedFrom, newRows, newPairs, turnOf, sightOf, turnsTo, noTurn, stampsNow, countsStored, countBefore, keptStored, openStored, countAfter, countsAfter, turn, entriesNow, storedNow, crowdedNow, reportNow, latestStored}
+use Rattle.method.specs.Step.{wantedFrom, newRows, newPairs, turnOf, sightOf, turnsTo, noTurn, stampsNow, countsStored, countBefore, keptStored, openStored, countAfter, countsAfter, turn, entriesNow, storedNow, crowdedNow, reportNow, latestStored}
 use Rattle.method.proofs.Counted.{Counted, counted-most, counted-is, count-counted, counts-length, counts-right, counts-grow, upto-holds}
 use Rattle.method.proofs.Lists.{gather-each, select-run}
-use Rattle.method.proofs.Parents.{parent-is, has-parent}
 use Rattle.method.proofs.Keeps.{wanted-low, held-is, heldPairs-is, entries-run}
 use Rattle.method.proofs.Seen.{Sees, pairsBefore}
+use Rattle.method.proofs.Bounds.{Placed, at-last, with-parent, placed, wanted-under, wanted-moves}
 use Rattle.method.proofs.Turns.{any-over, least-below, least-most, least-grows, drop-points, gather-over, from-getD, points-length, getD-points, map-points, map-append, Ready, new-rows, new-pairs, atom-counted, wanted-on, turns-at, turns-stay}
 
 -- no point, no time
@@ -132,16 +132,11 @@ module _ (b : List ℕ) (a : Accepted) (ok : checking b ≡ given a) (l : Log) (
 
   -- what is wanted follows from the counts of the nodes
   pub wanted-same : (c d : ℕ → ℕ) → ((y : ℕ) → y < nodeCount b → c y ≡ d y) → (x : ℕ) → x < nodeCount b → wantedFrom b c x ≡ wantedFrom b d x
-  unfolding wantedFrom
-  wanted-same c d h x o = go (tested (eqb x (lastNode b)))
+  wanted-same c d h x o = go (placed b a ok x o)
     where
-      go : Tested (eqb x (lastNode b)) → wantedFrom b c x ≡ wantedFrom b d x
-      go (passed e) = rw e (h x o)
-      go (failed e) =
-          let q : x ≡ lastNode b → ⊥ = eqb-false x (lastNode b) e in
-          let (p, n, m) = has-parent b a ok x (omega arith) in
-          let r : parentOf b x ≡ p = parent-is b a ok p n x m in
-          rw (e, r, h x o, h p n)
+      go : Placed b x → wantedFrom b c x ≡ wantedFrom b d x
+      go (at-last e) = rw (e c, e d) (h x o)
+      go (with-parent p n e) = rw (e c, e d, h x o, h p n)
 
   -- an event that may join the log: its time is no earlier than the last
   module _ (w : List ℕ) (ordered' : Ordered (grown b l w)) where
@@ -203,14 +198,6 @@ module _ (b : List ℕ) (a : Accepted) (ok : checking b ≡ given a) (l : Log) (
 
     -- ---- the turns
 
-    -- a child is wanted from no later than its parent's first unsettled point consults it
-    wanted-child : (x : ℕ) → x < nodeCount b → (y : ℕ) → List·Memᴰ y (childrenOf (nodeAt b x)) → wantedFrom b was y ≤ firstWanted (nodeAt b x) (was x)
-    unfolding wantedFrom
-    wanted-child x o y m =
-        let under : y < x = lower b (nodeCount b) (accepted b a ok .each) x o x (omega arith) y m in
-        let e : eqb y (lastNode b) ≡ false = ne-eqb y (lastNode b) (λ d. omega arith) in
-        rw (e, parent-is b a ok x o y m) (omega arith)
-
     abbrev sight : ℕ → Sight
     sight x = sightOf b (stampsNow s w) (countAfter s w) (pointOf b w .rows) (turnsTo b (entries b l) (stampsNow s w) (countBefore s) (countAfter s w) (pointOf b w .rows) x)
 
@@ -266,7 +253,7 @@ module _ (b : List ℕ) (a : Accepted) (ok : checking b ≡ given a) (l : Log) (
               fine = λ y m. fine b a ok y (omega (arith, low y m));
               rows = λ y m j p q.
                   ap (λ (r : Point → List (List ℕ)). r j) (sight-rows x y (low y m) o)
-                  ∙ under y (low y m) .rows j (omega (arith, wanted-child x o y m, wanted-on (nodeAt b x) (was x) (i .0) u)) (omega (arith, count-after y (omega (arith, low y m))));
+                  ∙ under y (low y m) .rows j (omega (arith, wanted-under b a ok was x o y m, wanted-on (nodeAt b x) (was x) (i .0) u)) (omega (arith, count-after y (omega (arith, low y m))));
             }
 
     -- the pairs as the turn begins, and as it ends
@@ -289,7 +276,7 @@ module _ (b : List ℕ) (a : Accepted) (ok : checking b ≡ given a) (l : Log) (
       lo = wantedFrom b was x
 
       lo-low : lo ≤ was x
-      lo-low = wanted-low b a ok l ordered x
+      lo-low = wanted-low b was x
 
       abbrev node : Node
       node = nodeAt b x
@@ -350,24 +337,13 @@ module _ (b : List ℕ) (a : Accepted) (ok : checking b ≡ given a) (l : Log) (
 
     -- ---- the entries
 
-    wanted-grows : (x : ℕ) → x < nodeCount b → wantedFrom b was x ≤ wantedFrom b is x
-    unfolding wantedFrom
-    wanted-grows x o = go (tested (eqb x (lastNode b)))
-      where
-        go : Tested (eqb x (lastNode b)) → wantedFrom b was x ≤ wantedFrom b is x
-        go (passed e) = rw e (was-is x o)
-        go (failed e) =
-            let q : x ≡ lastNode b → ⊥ = eqb-false x (lastNode b) e in
-            let (p, n, m) = has-parent b a ok x (omega arith) in
-            rw (e, parent-is b a ok p n x m) (omega (arith, was-is x o, wanted-on (nodeAt b p) (was p) (is p) (was-is p n)))
-
     pub entries-now : (x : ℕ) → x < nodeCount b → entriesNow s w x ≡ entriesOf b l' x
     unfolding entriesNow storedOf
     entries-now x o =
         rw (wanted-same (countAfter s w) is count-after x o, count-after x o)
         (ap₂ (λ r p. r ++ p)
         (gather-over (λ j. map (entryOf x 0 (j .0)) (rowsOfTurn (turn s w x) j)) (λ j. map (entryOf x 0 (j .0)) (vals l' (formulaAt b x) j)) (wantedFrom b is x) (is x - wantedFrom b is x)
-        (λ j u v. ap (map (entryOf x 0 (j .0))) (turns-right x o .rows j (omega (arith, wanted-grows x o)) (omega (arith, wanted-low b a ok l' ordered' x)))))
+        (λ j u v. ap (map (entryOf x 0 (j .0))) (turns-right x o .rows j (omega (arith, wanted-moves b a ok was is was-is x o)) (omega (arith, wanted-low b is x)))))
         (ap (map (λ p. entryOf x 1 (getD p 0 0) (drop 1 p))) (turns-right x o .pairs))
         ∙ sym (entries-run b a ok l' ordered' x o))
 
@@ -444,7 +420,7 @@ module _ (b : List ℕ) (a : Accepted) (ok : checking b ≡ given a) (l : Log) (
             go (failed e) false = rw (le-leb c j (ltb-false j c e))
 
     new-rows-right : (x : ℕ) → x < nodeCount b → (j : Point) → was x ≤ j .0 → j .0 < was x + (is x - was x) → rowsOfTurn (turn s w x) j ≡ vals l' (formulaAt b x) j
-    new-rows-right x o j u v = turns-right x o .rows j (omega (arith, wanted-low b a ok l ordered x)) (omega (arith, was-is x o))
+    new-rows-right x o j u v = turns-right x o .rows j (omega (arith, wanted-low b was x)) (omega (arith, was-is x o))
 
     pub crowded-now : (x : ℕ) → x < nodeCount b → crowdedNow s w x ≡ crowdedAt b l l' x
     unfolding crowdedNow crowdedAt
