@@ -8,4 +8,5 @@ pub mod Seen
 pub mod Turns
 pub mod Stepped
 pub mod Whole
+pub mod Formed
 pub mod Reached
