@@ -3,6 +3,7 @@ pub mod Counted
 pub mod Grown
 pub mod Lists
 pub mod Parents
+pub mod Held
 pub mod Keeps
 pub mod Seen
 pub mod Turns
