@@ -33,7 +33,7 @@ entry-same e f t =
     let v : e .values ≡ f .values = same-row (e .values) (f .values) .0 (search second) in
     λ i. record { node = n i; mark = m i; number = k i; values = v i }
 
-entries-same : (es fs : List Entry) → sameEntries es fs ≡ true → es ≡ fs
+pub entries-same : (es fs : List Entry) → sameEntries es fs ≡ true → es ≡ fs
 entries-same [] [] t = refl
 entries-same [] (f ∷ fs) t = absurd (false≢true t)
 entries-same (e ∷ es) [] t = absurd (false≢true t)

@@ -1,0 +1,3 @@
+-- Facts about the test of what is stored.
+pub mod Fronts
+pub mod Walks

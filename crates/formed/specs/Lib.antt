@@ -1,0 +1,3 @@
+-- What is stored in slices, what the test of it leaves, and what its steps ask and ensure.
+pub mod Known
+pub mod Walk
