@@ -170,7 +170,7 @@ module _ (b : List ℕ) (low end : ℕ → ℕ) (es : List Entry) (nodes : ℕ) 
           (gather-over (λ j. map (entryOf x 0 (j .0)) (setsIn x j)) (λ j. map (entryOf x 0 (j .0)) (held es x j)) (low x) (many x) (λ j u l. ap (map (entryOf x 0 (j .0))) (sets-held j u l)))
           (ap (agedEntries x) pairs-held)
 
-      fit-same : runsFit low end es b x ≡ ownFit b low end es x
+      fit-same : runsFit b x (low x) (many x) (nodesRest low end es x) ≡ ownFit b low end es x
       unfolding runsFit ownFit
       fit-same =
           ap₂ (λ s t. s && t)
@@ -181,7 +181,7 @@ module _ (b : List ℕ) (low end : ℕ → ℕ) (es : List Entry) (nodes : ℕ) 
     own-whole = all-found ∙ gather-each found (ownRuns b low end es) 0 nodes (λ x u o. found-own x (omega arith))
 
   -- the runs fit, and nothing is behind them
-  pub walk-passes : ((x : ℕ) → x < nodes → runsFit low end es b x ≡ true) → nodesRest low end es nodes ≡ [] → entriesFit b low end es nodes ≡ true
+  pub walk-passes : ((x : ℕ) → x < nodes → runsFit b x (low x) (many x) (nodesRest low end es x) ≡ true) → nodesRest low end es nodes ≡ [] → entriesFit b low end es nodes ≡ true
   unfolding entriesFit
   walk-passes fit done =
       both (same-entries es (gather (ownRuns b low end es) (range 0 nodes)) (own-whole done))
@@ -196,6 +196,6 @@ module _ (b : List ℕ) (low end : ℕ → ℕ) (es : List Entry) (nodes : ℕ) 
         let e : es ≡ gather (ownRuns b low end es) (range 0 nodes) = entries-same es _ (search first) in
         ap (λ ys. nodesRest low end ys nodes) e ∙ through-nodes low end (held es) (heldPairs es) nodes nodes (omega arith) ∙ ap (λ m. gather (ownRuns b low end es) (range nodes m)) z
 
-    pub walk-fits : (x : ℕ) → x < nodes → runsFit low end es b x ≡ true
+    pub walk-fits : (x : ℕ) → x < nodes → runsFit b x (low x) (many x) (nodesRest low end es x) ≡ true
     unfolding entriesFit
     walk-fits x o = fit-same walk-ends x o ∙ all-at (ownFit b low end es) (range-of 0 nodes (omega arith) (omega arith)) (search second)

@@ -35,18 +35,14 @@ rowsFound x low es j = map (λ e. e .values) (front (isEntry x 0 (j .0)) (setsRe
 abbrev pub pairsFound : ℕ → List Entry → List (List ℕ)
 pairsFound x es = map (λ e. e .number ∷ e .values) (front (hasOwner x 1) es)
 
--- node x's rows are kept from point low x on and up to point end x
-module _ (low end : ℕ → ℕ) (es : List Entry) where
-  -- what is behind the entries of the nodes below x
-  abbrev pub nodesRest : ℕ → List Entry
-  nodesRest zero = es
-  nodesRest (suc x) = behind (hasOwner x 1) (setsRest x (low x) (end x - low x) (nodesRest x))
+-- the runs of node x at n points from low on, and that of its pairs, fit it
+unfoldable pub runsFit : List ℕ → ℕ → ℕ → ℕ → List Entry → Bool
+runsFit b x low n es = all (λ j. setFits b x (rowsFound x low es j)) (pointsFrom low n) && pairsFit b x (nodeAt b x) (pairsFound x (setsRest x low n es))
 
-  -- the runs found for node x fit it
-  unfoldable pub runsFit : List ℕ → ℕ → Bool
-  runsFit b x =
-      all (λ j. setFits b x (rowsFound x (low x) (nodesRest x) j)) (pointsFrom (low x) (end x - low x))
-      && pairsFit b x (nodeAt b x) (pairsFound x (setsRest x (low x) (end x - low x) (nodesRest x)))
+-- what is behind the entries of the nodes below x, where node y's rows are kept from point low y on and up to point end y
+abbrev pub nodesRest : (ℕ → ℕ) → (ℕ → ℕ) → List Entry → ℕ → List Entry
+nodesRest low end es zero = es
+nodesRest low end es (suc x) = behind (hasOwner x 1) (setsRest x (low x) (end x - low x) (nodesRest low end es x))
 
 -- The entries are those that are read off them for each node, and these fit it.
 module _ (b : List ℕ) (low end : ℕ → ℕ) (es : List Entry) where

@@ -51,7 +51,7 @@ pub record Formed (s : Stored) : Type 0 where
   pub nodes-fit : (x : ℕ) → x < nodeCount (s .rule) → nodeFits s x ≡ true
   pub sets-few : (x : ℕ) → x < nodeCount (s .rule) → (j : Point) → wantedFrom (s .rule) (countBefore s) x ≤ j .0 → j .0 < countBefore s x → length (held (s .entries) x j) ≤ mostRows
 
-is-accepted : (o : Outcome Accepted) → isAccepted o ≡ true → (a : Accepted) × (o ≡ given a)
+pub is-accepted : (o : Outcome Accepted) → isAccepted o ≡ true → (a : Accepted) × (o ≡ given a)
 is-accepted (refused n p) t = absurd (false≢true t)
 is-accepted (given a) t = (a, refl)
 
