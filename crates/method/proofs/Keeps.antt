@@ -3,8 +3,7 @@ use Prim.Native.Nat.{ℕ, zero, suc, _+_, _-_, _≤_, _<_, min}
 use native.Mathlib.Omega.{arith}
 use mathlib.Core.Path.{_≡_, refl, sym, _∙_, ap, subst}
 use mathlib.Core.Bool.{Bool, true, false, not, cond, _&&_, false≢true}
-use mathlib.Core.Logic.{_⊎_, inl, inr}
-use mathlib.Core.List.{List, [], _∷_, _++_, map, append-nil, List·Memᴰ, List·Memᴰ·not-nil, List·Memᴰ·append-cases, Memᴰ·of-map}
+use mathlib.Core.List.{List, [], _∷_, _++_, map, List·Memᴰ, List·Memᴰ·not-nil}
 use lib.ListN.{getD, drop}
 use lib.Dec.{ltb, leb, eqb}
 use borrow.Author.Tests.{ltb-true, ltb-false, le-ltb, leb-true, le-leb, lt-leb, eqb-true, eq-eqb, eqb-false, ne-eqb, not-true}
@@ -19,8 +18,8 @@ use Rattle.meaning.specs.Kept.{pairs, lastPairs, consulted, Entry, entryOf, par
 use Rattle.meaning.specs.declared.Point.{Point}
 use Rattle.meaning.specs.declared.Node.{Node}
 use Rattle.meaning.specs.declared.Node.the-variants.{Atom, And, AndNot, Keep, Or, Exists, Previous, Next, Since, NotSince, Until, NotUntil, Once, Eventually}
-use Rattle.meaning.proofs.Points.{first, second, both, select-append, Tested, passed, failed, tested}
-use Rattle.meaning.proofs.Rows.{both-ways, gather-at}
+use Rattle.meaning.proofs.Points.{first, second, both, Tested, passed, failed, tested}
+use Rattle.meaning.proofs.Rows.{both-ways}
 use Rattle.method.specs.Stored.{held, heldPairs}
 use Rattle.method.specs.Step.{firstWanted, wantedFrom}
 use Rattle.meaning.proofs.Fine.{Fine}
@@ -29,7 +28,8 @@ use Rattle.meaning.proofs.Tree.{formula-step}
 use Rattle.meaning.proofs.Accepted.{accepted, lower, fine}
 use Rattle.method.proofs.Counted.{Counted, counted-most, count-counted}
 use Rattle.method.proofs.Parents.{parent-is, has-parent}
-use Rattle.method.proofs.Lists.{any-is, select-no, select-yes, map-same, map-id, select-run, select-gather, select-map, map-map, gather-one, gather-none, gather-points}
+use Rattle.method.proofs.Lists.{any-is, select-run, gather-each}
+use Rattle.method.proofs.Held
 
 -- ---- the points that a parent still consults, with p of its points settled
 
@@ -194,69 +194,20 @@ module _ (b : List ℕ) (a : Accepted) (ok : checking b ≡ given a) (l : Log) (
       go : (k : ℕ) → List·Memᴰ p (cond (eqb k 0) [] (pairs l (formulaAt b x) (point (k - 1)))) → getD p 0 0 ∷ drop 1 p ≡ p
       go k h = elim (tested (eqb k 0)) [ passed t ↦ absurd (List·Memᴰ·not-nil (rw t at h)) | failed t ↦ whole (pair-parts l (formulaAt b x) (fine b a ok x o) (point (k - 1)) p (rw t at h)) ]
 
-  of-node : (y : ℕ) → y < nodeCount b → (e : Entry) → List·Memᴰ e (entriesOf b l y) → e .node ≡ y
-  of-node y o e m = go (List·Memᴰ·append-cases (rowEntries y) (rw (entries-run y o) at m))
-    where
-      go : List·Memᴰ e (rowEntries y) ⊎ List·Memᴰ e (pairEntries y) → e .node ≡ y
-      go (inl k) =
-          let (j, n, h) = gather-at (λ j. map (entryOf y 0 (j .0)) (vals l (formulaAt b y) j)) (pointsFrom (wantedFrom b countIn y) (countIn y - wantedFrom b countIn y)) k in
-          let (u, p, d) = Memᴰ·of-map (entryOf y 0 (j .0)) (vals l (formulaAt b y) j) h in
-          ap (λ (z : Entry). z .node) (sym d)
-      go (inr k) =
-          let (q, p, d) = Memᴰ·of-map (λ p. entryOf y 1 (getD p 0 0) (drop 1 p)) (lastPairs l (formulaAt b y)) k in
-          ap (λ (z : Entry). z .node) (sym d)
-
-  -- a test that asks for node x selects from node x's entries alone
-  from-node : (x : ℕ) → x < nodeCount b → (q : Entry → Bool) → ((e : Entry) → q e ≡ true → e .node ≡ x) → select q (entries b l) ≡ select q (rowEntries x) ++ select q (pairEntries x)
+  -- the entries are the nodes' in turn
+  entries-runs : entries b l ≡ gather (λ x. rowEntries x ++ pairEntries x) (range 0 (nodeCount b))
   unfolding entries
-  from-node x o q only =
-      select-gather q (entriesOf b l) (range 0 (nodeCount b))
-      ∙ gather-one (λ y. select q (entriesOf b l y)) x 0 (nodeCount b) (omega arith) (omega arith)
-      (λ y u v d. select-no q (entriesOf b l y) (λ e m. elim (tested (q e)) [ passed t ↦ absurd (d (sym (of-node y (omega arith) e m) ∙ only e t)) | failed t ↦ t ]))
-      ∙ ap (select q) (entries-run x o) ∙ select-append q (rowEntries x) (pairEntries x)
+  entries-runs = gather-each (entriesOf b l) (λ x. rowEntries x ++ pairEntries x) 0 (nodeCount b) (λ x u o. entries-run x (omega arith))
+
+  abbrev runs : ℕ → ℕ
+  runs x = countIn x - wantedFrom b countIn x
 
   pub held-is : (x : ℕ) → x < nodeCount b → (j : Point) → wantedFrom b countIn x ≤ j .0 → j .0 < countIn x → held (entries b l) x j ≡ vals l (formulaAt b x) j
-  unfolding held
   held-is x o j u n =
-      ap (map (λ e. e .values)) (from-node x o asked (λ e t. eqb-true (e .node) x (search (first, second))) ∙ ap (λ es. select asked (rowEntries x) ++ es) none ∙ append-nil (select asked (rowEntries x)) ∙ here)
-      ∙ map-map (λ e. e .values) (entryOf x 0 (j .0)) (vals l (formulaAt b x) j) ∙ map-same (vals l (formulaAt b x) j)
-    where
-      asked : Entry → Bool
-      asked e = eqb (e .node) x && eqb (e .mark) 0 && eqb (e .number) (j .0)
-
-      none : select asked (pairEntries x) ≡ []
-      none = select-map asked (λ p. entryOf x 1 (getD p 0 0) (drop 1 p)) (lastPairs l (formulaAt b x)) ∙ ap (map (λ p. entryOf x 1 (getD p 0 0) (drop 1 p))) (select-no _ (lastPairs l (formulaAt b x)) (λ p m. rw (eq-eqb x x refl)))
-
-      rowsAt : ℕ → List Entry
-      rowsAt k = select asked (map (entryOf x 0 k) (vals l (formulaAt b x) (point k)))
-
-      other : (k : ℕ) → (k ≡ j .0 → ⊥) → rowsAt k ≡ []
-      other k d = select-map asked (entryOf x 0 k) (vals l (formulaAt b x) (point k)) ∙ ap (map (entryOf x 0 k)) (select-no _ (vals l (formulaAt b x) (point k)) (λ p m. rw (eq-eqb x x refl, ne-eqb k (j .0) d)))
-
-      same : rowsAt (j .0) ≡ map (entryOf x 0 (j .0)) (vals l (formulaAt b x) j)
-      same = select-map asked (entryOf x 0 (j .0)) (vals l (formulaAt b x) j) ∙ ap (map (entryOf x 0 (j .0))) (select-yes _ (vals l (formulaAt b x) j) (λ p. rw (eq-eqb x x refl, eq-eqb (j .0) (j .0) refl)))
-
-      here : select asked (rowEntries x) ≡ map (entryOf x 0 (j .0)) (vals l (formulaAt b x) j)
-      here =
-          select-gather asked (λ k. map (entryOf x 0 (k .0)) (vals l (formulaAt b x) k)) (pointsFrom (wantedFrom b countIn x) (countIn x - wantedFrom b countIn x))
-          ∙ gather-points (λ k. select asked (map (entryOf x 0 (k .0)) (vals l (formulaAt b x) k))) (wantedFrom b countIn x) (countIn x - wantedFrom b countIn x)
-          ∙ gather-one rowsAt (j .0) (wantedFrom b countIn x) (countIn x - wantedFrom b countIn x) u (omega arith) (λ k p q d. other k d) ∙ same
+      ap (λ es. held es x j) entries-runs
+      ∙ Held.held-is (wantedFrom b countIn) runs (λ y. vals l (formulaAt b y)) (λ y. lastPairs l (formulaAt b y)) (nodeCount b) x o j u (omega arith)
 
   pub heldPairs-is : (x : ℕ) → x < nodeCount b → heldPairs (entries b l) x ≡ lastPairs l (formulaAt b x)
-  unfolding heldPairs
   heldPairs-is x o =
-      ap (map (λ e. e .number ∷ e .values)) (from-node x o asked (λ e t. eqb-true (e .node) x (search first)) ∙ ap (λ es. es ++ select asked (pairEntries x)) none ∙ here)
-      ∙ map-map (λ e. e .number ∷ e .values) (λ p. entryOf x 1 (getD p 0 0) (drop 1 p)) (lastPairs l (formulaAt b x)) ∙ map-id _ (lastPairs l (formulaAt b x)) (λ p m. pair-whole x o p m)
-    where
-      asked : Entry → Bool
-      asked e = eqb (e .node) x && eqb (e .mark) 1
-
-      none : select asked (rowEntries x) ≡ []
-      none =
-          select-gather asked (λ k. map (entryOf x 0 (k .0)) (vals l (formulaAt b x) k)) (pointsFrom (wantedFrom b countIn x) (countIn x - wantedFrom b countIn x))
-          ∙ gather-points (λ k. select asked (map (entryOf x 0 (k .0)) (vals l (formulaAt b x) k))) (wantedFrom b countIn x) (countIn x - wantedFrom b countIn x)
-          ∙ gather-none _ (wantedFrom b countIn x) (countIn x - wantedFrom b countIn x)
-          (λ k u v. select-map asked (entryOf x 0 k) (vals l (formulaAt b x) (point k)) ∙ ap (map (entryOf x 0 k)) (select-no _ (vals l (formulaAt b x) (point k)) (λ p m. rw (eq-eqb x x refl))))
-
-      here : select asked (pairEntries x) ≡ pairEntries x
-      here = select-map asked (λ p. entryOf x 1 (getD p 0 0) (drop 1 p)) (lastPairs l (formulaAt b x)) ∙ ap (map (λ p. entryOf x 1 (getD p 0 0) (drop 1 p))) (select-yes _ (lastPairs l (formulaAt b x)) (λ p. rw (eq-eqb x x refl)))
+      ap (λ es. heldPairs es x) entries-runs
+      ∙ Held.heldPairs-is (wantedFrom b countIn) runs (λ y. vals l (formulaAt b y)) (λ y. lastPairs l (formulaAt b y)) (nodeCount b) x o (pair-whole x o)

@@ -3,6 +3,7 @@ pub mod Counted
 pub mod Grown
 pub mod Lists
 pub mod Parents
+pub mod Held
 pub mod Keeps
 pub mod Seen
 pub mod Turns
@@ -10,4 +11,5 @@ pub mod News
 pub mod Bounds
 pub mod Stepped
 pub mod Whole
+pub mod Formed
 pub mod Reached

@@ -37,9 +37,10 @@ use Rattle.meaning.proofs.Points.{both, first, second, Tested, passed, failed, 
 use Rattle.meaning.proofs.Takings.{Accepts, every-log}
 use Rattle.method.specs.Stored.{Stored, leastOf, firstRetained, storedOf}
 use Rattle.method.specs.Step.{wantedFrom, countsStored, countBefore, storedRun}
-use Rattle.method.specs.WellFormed.{mostTimes, isAccepted, notFalling, sameEntries, rowOfNode, setFits, pairFits, pairsFit, ownEntries, nodeFits, wellFormed}
+use Rattle.method.specs.WellFormed.{mostTimes, isAccepted, notFalling, rowOfNode, setFits, pairFits, pairsFit, ownEntries, nodeFits, wellFormed}
 use Rattle.method.proofs.Counted.{Counted, counted-most, count-counted, counts-length, upto-holds, upto-below}
 use Rattle.method.proofs.Lists.{gather-each, gather-none}
+use Rattle.method.proofs.Formed.{same-entries}
 use Rattle.method.proofs.Parents.{has-parent}
 use Rattle.method.proofs.Keeps.{wanted-low, held-is, heldPairs-is, entries-run}
 use Rattle.method.proofs.Turns.{from-getD, gather-over, least-most, least-above, points-length}
@@ -147,14 +148,6 @@ behind l o F n f y g m i e h = go n f m e
     go (NotUntil a b w) f m e = two a b (here w (twin l (F a) (F b)) (f .3) e) m
     go (Once a w) f m e = one a (since-each (settled l (F a)) i e i (omega arith)) m
     go (Eventually a w) f m e = one a (here w (settled l (F a)) (f .1) e) m
-
--- a list of entries is the same as itself
-same-entries : (es fs : List Entry) → es ≡ fs → sameEntries es fs ≡ true
-same-entries es fs e = rw (← e) (go es)
-  where
-    go : (es : List Entry) → sameEntries es es ≡ true
-    go [] = refl
-    go (e ∷ es) = both (both (both (both (eq-eqb (e .node) (e .node) refl) (eq-eqb (e .mark) (e .mark) refl)) (eq-eqb (e .number) (e .number) refl)) (same-row (e .values) (e .values) .1 refl)) (go es)
 
 -- ---- rows and pairs
 

@@ -16,7 +16,7 @@ range-first x n l =
     ap (range x) e ∙ ap (λ k. x ∷ range k (n - (x + 1))) (sym (add-one x))
 
 -- one number more at a range's end
-pub gather-last : (f : ℕ → List ℕ) (a n : ℕ) → gather f (range a (n + 1)) ≡ gather f (range a n) ++ f (a + n)
+pub gather-last : {A : Type 0} (f : ℕ → List A) (a n : ℕ) → gather f (range a (n + 1)) ≡ gather f (range a n) ++ f (a + n)
 gather-last f a zero = ap (λ k. f k ++ []) (let e : a ≡ a + 0 = omega arith in e) ∙ append-nil (f (a + 0))
 gather-last f a (suc n) =
     ap (λ k. gather f (range a k)) (add-one (suc n))

@@ -52,6 +52,10 @@ abbrev pub NodesWeighed : List ℕ → List ℕ → Weighed → Type 0
 NodesWeighed b masks (Free m) = NodesPass b masks m
 NodesWeighed b masks (Refused c) = (rest : Outcome Answer) → weighNodes b (range 0 (nodeCount b)) rest ≡ answerOf c
 
+-- where the answer isn't a refusal, the list has the mask of each node's free variables
+abbrev pub Masked : List ℕ → List ℕ → Outcome Answer → Type 0
+Masked b masks o = (a : Answer) → o ≡ given a → (x : ℕ) → x < nodeCount b → getD masks x 0 ≡ maskOf (free (formulaAt b x))
+
 -- the stray node found so far, or node y where there is none yet and its count isn't 1
 abbrev pub strayOr : Stray → ℕ → Stray
 strayOr (At z) y = At z

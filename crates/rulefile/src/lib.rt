@@ -21,7 +21,7 @@ ghost use Rattle.meaning.specs.RuleFile.{nodeCount, arityFits, sizesFit, maskOf
 ghost use Rattle.rulenodes.specs.Children.{childrenIn};
 ghost use Rattle.ruleshape.specs.Sound.{windowReach};
 ghost use Rattle.rulefile.specs.Checked.{answerOf};
-ghost use Rattle.rulefile.specs.Weighing.{Sized, AllFit, weighing, NodesWeighed, firstOf, FirstStray, afterNodes};
+ghost use Rattle.rulefile.specs.Weighing.{Sized, AllFit, weighing, NodesWeighed, Masked, firstOf, FirstStray, afterNodes};
 
 // The answer: the reach and the mask of free variables, or the refusal, with its node where it has one.
 pub enum Checked {
@@ -231,20 +231,22 @@ fn check_parents(rule: &[u8], mask: u8) -> Checked
 }
 
 // Refusals 4 to 7 of a file whose sizes and length are right.
-fn check_nodes(rule: &[u8]) -> Checked
-    requires { ⌜ Sized (now rule) ⌝ }
+fn check_nodes(rule: &[u8], masks: &mut [u8]) -> Checked
+    requires { ⌜ Sized (now rule) × (32 ≤ length (now masks)) ⌝ }
     ensures { λ r. ⌜ answerOf r ≡ weighNodes (now (rule .entry)) (range 0 (nodeCount (now (rule .entry)))) (afterNodes (now (rule .entry))) ⌝ }
+    ensures { λ r. ⌜ Masked (now (rule .entry)) (now (masks .exit)) (answerOf r) ⌝ }
 {
-    let mut masks = [0u8; 32];
-    match weigh_nodes(rule, &mut masks) {
+    match weigh_nodes(rule, masks) {
         Weighed::Free(mask) => check_parents(rule, mask),
         Weighed::Refused(refusal) => refusal,
     }
 }
 
-// Checks a rule: any bytes.
-pub fn check(rule: &[u8]) -> Checked
+// Checks a rule: any bytes. Where it is accepted, the lent bytes hold the mask of each node's free variables.
+pub fn check_into(rule: &[u8], masks: &mut [u8]) -> Checked
+    requires { ⌜ 32 ≤ length (now masks) ⌝ }
     ensures { λ r. ⌜ answerOf r ≡ checking (now (rule .entry)) ⌝ }
+    ensures { λ _. ⌜ Masked (now (rule .entry)) (now (masks .exit)) (checking (now (rule .entry))) ⌝ }
 {
     if rule.len() < 12 {
         return Checked::Cut;
@@ -258,5 +260,13 @@ pub fn check(rule: &[u8]) -> Checked
     if rule.len() != 12 + 20 * (rule[2] as usize) {
         return Checked::Cut;
     }
-    check_nodes(rule)
+    check_nodes(rule, masks)
+}
+
+// Checks a rule: any bytes.
+pub fn check(rule: &[u8]) -> Checked
+    ensures { λ r. ⌜ answerOf r ≡ checking (now (rule .entry)) ⌝ }
+{
+    let mut masks = [0u8; 32];
+    check_into(rule, &mut masks)
 }

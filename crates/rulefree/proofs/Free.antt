@@ -16,7 +16,7 @@ use Rattle.ruleshape.specs.Sound.{TermBelow, VariablesBelow}
 use Rattle.rulefree.specs.Mask.{variableIn, nodeMask, nodeFits}
 
 -- the four tests are the four bits
-bits : (a b c d : Bool) → let m = oneIf a + 2 * oneIf b + 4 * oneIf c + 8 * oneIf d in (bit m 1 ≡ a) × (bit m 2 ≡ b) × (bit m 4 ≡ c) × (bit m 8 ≡ d)
+pub bits : (a b c d : Bool) → let m = oneIf a + 2 * oneIf b + 4 * oneIf c + 8 * oneIf d in (bit m 1 ≡ a) × (bit m 2 ≡ b) × (bit m 4 ≡ c) × (bit m 8 ≡ d)
 bits true true true true = (refl, refl, refl, refl)
 bits true true true false = (refl, refl, refl, refl)
 bits true true false true = (refl, refl, refl, refl)

@@ -78,12 +78,12 @@ values-of : (x mark number : ℕ) (rows : List (List ℕ)) → map (λ e. e .val
 values-of x mark number [] = refl
 values-of x mark number (r ∷ rows) = ap (λ rs. r ∷ rs) (values-of x mark number rows)
 
-all-are : (x mark number : ℕ) (rows : List (List ℕ)) → all (isEntry x mark number) (map (entryOf x mark number) rows) ≡ true
+pub all-are : (x mark number : ℕ) (rows : List (List ℕ)) → all (isEntry x mark number) (map (entryOf x mark number) rows) ≡ true
 all-are x mark number [] = refl
 all-are x mark number (r ∷ rows) = both (both (both (eq-eqb x x refl) (eq-eqb mark mark refl)) (eq-eqb number number refl)) (all-are x mark number rows)
 
 -- the rows of entries
-entries-rows : (os ns vs : List ℕ) (from count : ℕ) → map (λ e. e .values) (entriesFrom os ns vs from count) ≡ rowsFrom vs from count
+pub entries-rows : (os ns vs : List ℕ) (from count : ℕ) → map (λ e. e .values) (entriesFrom os ns vs from count) ≡ rowsFrom vs from count
 unfolding entriesFrom rowsFrom
 entries-rows os ns vs from count = map-twice (λ e. e .values) (entryAt os ns vs) (range from count)
 

@@ -17,12 +17,12 @@ use Rattle.shelf.proofs.Packing.{pair-run-within}
 use Rattle.shelf.proofs.Walking.{hasOwner, pairs-walked}
 use Rattle.shelving.specs.Shelved.{agedEntries, PairsEnd}
 
-all-owned : (x : ℕ) (pairs : List (List ℕ)) → all (hasOwner x 1) (agedEntries x pairs) ≡ true
+pub all-owned : (x : ℕ) (pairs : List (List ℕ)) → all (hasOwner x 1) (agedEntries x pairs) ≡ true
 all-owned x [] = refl
 all-owned x (p ∷ pairs) = both (both (eq-eqb x x refl) refl) (all-owned x pairs)
 
 -- an entry as a pair
-abbrev pairOf : Entry → List ℕ
+abbrev pub pairOf : Entry → List ℕ
 pairOf e = e .number ∷ e .values
 
 first-and-rest : (p : List ℕ) → length p ≡ 5 → getD p 0 0 ∷ drop 1 p ≡ p
@@ -33,7 +33,7 @@ pairs-back : (x : ℕ) (pairs : List (List ℕ)) → OfLength 5 pairs → map pa
 pairs-back x [] long = refl
 pairs-back x (p ∷ pairs) long = ap₂ (λ q qs. q ∷ qs) (first-and-rest p (long p (List·Memᴰ·head refl))) (pairs-back x pairs (λ q m. long q (List·Memᴰ·tail m)))
 
-entries-pairs : (os ns vs : List ℕ) (from count : ℕ) → map pairOf (entriesFrom os ns vs from count) ≡ pairsFrom ns vs from count
+pub entries-pairs : (os ns vs : List ℕ) (from count : ℕ) → map pairOf (entriesFrom os ns vs from count) ≡ pairsFrom ns vs from count
 unfolding entriesFrom pairsFrom
 entries-pairs os ns vs from count = map-twice pairOf (entryAt os ns vs) (range from count)
 

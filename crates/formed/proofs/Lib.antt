@@ -1,0 +1,8 @@
+-- Facts about the test of what is stored.
+pub mod Ascents
+pub mod Fronts
+pub mod Masks
+pub mod Walks
+pub mod Runs
+pub mod Times
+pub mod Whole

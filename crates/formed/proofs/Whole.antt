@@ -1,0 +1,137 @@
+-- The parts of the test, and that together they are well-formedness.
+use Prim.Native.Nat.{ℕ, zero, suc, _+_, _-_, _≤_, _<_}
+use native.Mathlib.Omega.{arith}
+use mathlib.Core.Path.{_≡_, refl, sym, ap, ap₂, _∙_}
+use mathlib.Core.Bool.{Bool, true, false, _&&_}
+use mathlib.Core.List.{List, _++_}
+use lib.ListN.{length, getD, take, length-map, length-take}
+use lib.Dec.{leb, eqb}
+use borrow.Author.Tests.{le-leb, lt-leb}
+use Rattle.meaning.specs.Lists.{all, range, gather}
+use Rattle.meaning.specs.Outcome.{given, mostPoints, mostKept}
+use Rattle.meaning.specs.Log.{pointsFrom}
+use Rattle.meaning.specs.Formula.{free}
+use Rattle.meaning.specs.RuleFile.{Accepted, checking, nodeCount, nodeAt, maskOf, formulaAt}
+use Rattle.meaning.specs.Kept.{Entry}
+use Rattle.meaning.proofs.Lists.{range-length}
+use Rattle.method.specs.Stored.{Stored, held, heldPairs, firstRetained}
+use Rattle.method.specs.Step.{wantedFrom, countsStored, countBefore}
+use Rattle.method.specs.WellFormed.{mostTimes, isAccepted, notFalling, sameEntries, setFits, pairsFit, ownEntries, nodeFits, wellFormed}
+use Rattle.method.proofs.Lists.{gather-each}
+use Rattle.method.proofs.Formed.{is-accepted}
+use Rattle.progress.specs.Bounds.{Within}
+use Rattle.kinds.specs.Kinds.{inMask}
+use Rattle.shelf.specs.Entries.{entryAt, entriesFrom}
+use Rattle.shelving.specs.Shelved.{setEntries, agedEntries}
+use Rattle.formed.specs.Known.{storedIn, Known}
+use Rattle.formed.specs.Walk.{ownRuns, ownFit, entriesFit}
+use Rattle.formed.specs.Parts.{countsIn, Counted, timesFit, keptFit}
+use Rattle.formed.specs.Tests.{MaskOf}
+use Rattle.formed.proofs.Masks.{mask-has}
+
+-- ---- the rule
+
+-- masks of an accepted rule
+pub masks-of : (b masks : List ℕ) → ((a : Accepted) → checking b ≡ given a → (x : ℕ) → x < nodeCount b → getD masks x 0 ≡ maskOf (free (formulaAt b x)))
+    → isAccepted (checking b) ≡ true → (x : ℕ) → x < nodeCount b → MaskOf b x (getD masks x 0)
+masks-of b masks h t x o =
+    let (a, e) = is-accepted (checking b) t in
+    record { each = λ v l. ap (λ m. inMask m v) (h a e x o) ∙ mask-has (free (formulaAt b x)) v l }
+
+-- ---- times
+
+-- the counts, as a part of a slice has them
+module _ {b : List ℕ} {points : ℕ} {times counts : List ℕ} (c : Counted b points times counts) where
+  part-exact : take (nodeCount b - 0) counts ≡ countsIn b points times
+  part-exact = let e : nodeCount b - 0 ≡ nodeCount b = omega arith in rw e (c .exact)
+
+  pub part-within : points ≤ mostPoints → Within mostPoints (take (nodeCount b - 0) counts)
+  part-within l y = let e : nodeCount b - 0 ≡ nodeCount b = omega arith in rw e (omega (arith, c .bounded y))
+
+  pub part-long : nodeCount b ≤ length counts → nodeCount b ≤ length (take (nodeCount b - 0) counts)
+  part-long l = rw (length-take (nodeCount b - 0) counts) (omega arith)
+
+module _ (b : List ℕ) (points : ℕ) (times : List ℕ) where
+  pub points-many : mostPoints < points → false ≡ timesFit b points times
+  unfolding timesFit
+  points-many l = rw (lt-leb points mostPoints l)
+
+  pub times-many : points ≤ mostPoints → mostTimes < length times → false ≡ timesFit b points times
+  unfolding timesFit
+  times-many m l = rw (le-leb points mostPoints m, lt-leb (length times) mostTimes l)
+
+  pub times-tested : points ≤ mostPoints → length times ≤ mostTimes → {counts : List ℕ} → Counted b points times counts
+      → (eqb (length times) (points - firstRetained points (take (nodeCount b - 0) counts)) && notFalling times) ≡ timesFit b points times
+  unfolding timesFit
+  times-tested m l c = rw (le-leb points mostPoints m, le-leb (length times) mostTimes l) (ap (λ cs. eqb (length times) (points - firstRetained points cs) && notFalling times) (part-exact c))
+
+-- ---- entries
+
+all-each : (p q : ℕ → Bool) (a n : ℕ) → ((y : ℕ) → a ≤ y → y < a + n → p y ≡ q y) → all p (range a n) ≡ all q (range a n)
+all-each p q a zero h = refl
+all-each p q a (suc n) h = ap₂ (λ s t. s && t) (h a (omega arith) (omega arith)) (all-each p q (suc a) n (λ y u o. h y (omega arith) (omega arith)))
+
+-- the first kept points by another name
+module _ (b : List ℕ) (low low' end : ℕ → ℕ) (es : List Entry) (nodes : ℕ) (same : (x : ℕ) → x < nodes → low x ≡ low' x) where
+  entries-same : entriesFit b low end es nodes ≡ entriesFit b low' end es nodes
+  unfolding entriesFit ownRuns ownFit
+  entries-same =
+      ap₂ (λ ys t. sameEntries es ys && t)
+      (gather-each (ownRuns b low end es) (ownRuns b low' end es) 0 nodes (λ x u o. ap (λ k. setEntries x (held es x) k (end x - k) ++ agedEntries x (heldPairs es x)) (same x (omega arith))))
+      (all-each (ownFit b low end es) (ownFit b low' end es) 0 nodes (λ x u o. ap (λ k. all (λ j. setFits b x (held es x j)) (pointsFrom k (end x - k)) && pairsFit b x (nodeAt b x) (heldPairs es x)) (same x (omega arith))))
+
+module _ (b counts : List ℕ) (es : List Entry) (count : ℕ) where
+  pub kept-many : mostKept < count → false ≡ keptFit b counts es count
+  unfolding keptFit
+  kept-many l = rw (lt-leb count mostKept l)
+
+  pub kept-tested : (lows : List ℕ) → count ≤ mostKept → ((x : ℕ) → x < nodeCount b → getD lows x 0 ≡ wantedFrom b (λ y. getD counts y 0) x)
+      → entriesFit b (λ y. getD lows y 0) (λ y. getD counts y 0) es (nodeCount b) ≡ keptFit b counts es count
+  unfolding keptFit
+  kept-tested lows l h = rw (le-leb count mostKept l) (entries-same b (λ y. getD lows y 0) (wantedFrom b (λ y. getD counts y 0)) (λ y. getD counts y 0) es (nodeCount b) h)
+
+-- ---- all
+
+regroup : (a b c d e f g h : Bool) → (a && b && c && d && e && f && g && h) ≡ (a && (b && c && d && e && (f && (g && h))))
+regroup false b c d e f g h = refl
+regroup true false c d e f g h = refl
+regroup true true false d e f g h = refl
+regroup true true true false e f g h = refl
+regroup true true true true false f g h = refl
+regroup true true true true true false g h = refl
+regroup true true true true true true g h = refl
+
+module _ (b : List ℕ) (points : ℕ) (times os ns vs : List ℕ) (count : ℕ) where
+  abbrev s : Stored
+  s = storedIn b points times os ns vs count
+
+  entries-long : length (entriesFrom os ns vs 0 count) ≡ count
+  unfolding entriesFrom
+  entries-long = length-map (range 0 count) (entryAt os ns vs) ∙ range-length 0 count
+
+  well-is : wellFormed s ≡ (isAccepted (checking b) && (timesFit b points times && keptFit b (countsIn b points times) (entriesFrom os ns vs 0 count) count))
+  unfolding wellFormed ownEntries nodeFits timesFit keptFit countsIn entriesFit ownRuns ownFit countsStored countBefore
+  well-is =
+      regroup (isAccepted (checking b)) (leb points mostPoints) (leb (length times) mostTimes) (eqb (length times) (points - firstRetained points (countsStored s))) (notFalling times) (leb (length (s .entries)) mostKept)
+      (sameEntries (s .entries) (gather (ownEntries s) (range 0 (nodeCount b)))) (all (nodeFits s) (range 0 (nodeCount b)))
+      ∙ ap (λ n. isAccepted (checking b) && (timesFit b points times && (leb n mostKept && (sameEntries (s .entries) (gather (ownEntries s) (range 0 (nodeCount b))) && all (nodeFits s) (range 0 (nodeCount b)))))) entries-long
+
+  pub well-refused : isAccepted (checking b) ≡ false → false ≡ wellFormed s
+  well-refused t = sym (well-is ∙ rw t)
+
+  module _ (ok : isAccepted (checking b) ≡ true) where
+    pub well-times : timesFit b points times ≡ false → false ≡ wellFormed s
+    well-times t = sym (well-is ∙ rw (ok, t))
+
+    pub well-kept : timesFit b points times ≡ true → {counts : List ℕ} → Counted b points times counts → keptFit b (take (nodeCount b - 0) counts) (entriesFrom os ns vs 0 count) count ≡ wellFormed s
+    well-kept t c = ap (λ cs. keptFit b cs (entriesFrom os ns vs 0 count) count) (part-exact c) ∙ sym (well-is ∙ rw (ok, t))
+
+  pub known : (masks counts lows : List ℕ) → ((x : ℕ) → x < nodeCount b → MaskOf b x (getD masks x 0)) → Counted b points times counts
+      → ((x : ℕ) → x < nodeCount b → getD lows x 0 ≡ wantedFrom b (λ y. getD (take (nodeCount b - 0) counts) y 0) x) → Known s masks counts lows
+  unfolding countsIn countsStored countBefore
+  known masks counts lows m c l =
+      record {
+        masks-free = λ x o. m x o .each;
+        counts-stored = c .exact;
+        lows-wanted = λ x o. l x o ∙ ap (λ cs. wantedFrom b (λ y. getD cs y 0) x) (part-exact c);
+      }

@@ -1,0 +1,26 @@
+-- `times_asked` meets its contract.
+use Prim.Native.Nat.{_-_}
+use mathlib.Core.Path.{_≡_, sym, ap, _∙_}
+use borrow.Author.Tests.{eq-eqb, ne-eqb}
+use borrow.Author.Needs.{needs}
+use Rattle.method.specs.Stored.{firstRetained}
+use Rattle.formed.proofs.times_asked.Statement.{statement}
+use Rattle.formed.proofs.times_asked.Tie as tie
+
+-- how many times the counts ask
+asked : (c : tie.After-less2) → let a = c .before .before .before .before .before .args in c .less2 .result ≡ a .points - firstRetained (a .points) (a .counts .now)
+asked c =
+    let a = c .before .before .before .before .before .args in
+    c .less2 .ensures ∙ ap (λ k. a .points - k) (c .before .less .ensures ∙ ap (λ k. k - 1) (c .before .before .least .ensures))
+
+pub times-asked-spec : {M : Type 1} → statement M
+times-asked-spec =
+    tie.close
+    (tie.spec
+    (λ c κs. search needs)
+    (λ c κs. search needs)
+    (λ c. search needs)
+    (λ c κs. search needs)
+    (λ c κs. search needs)
+    (λ c. rw (eq-eqb _ _ (c .before .if1 .taken ∙ asked (c .before .before))) (c .not-falling .ensures))
+    (λ c. rw (ne-eqb _ _ (λ e. c .if1 .left (e ∙ sym (asked (c .before)))))))

@@ -1,0 +1,20 @@
+-- What is stored, as it stands in slices, and what the test of it leaves where it passes.
+use Prim.Native.Nat.{ℕ, _<_}
+use mathlib.Core.Path.{_≡_}
+use mathlib.Core.List.{List}
+use lib.ListN.{getD, take}
+use Rattle.meaning.specs.Formula.{free}
+use Rattle.meaning.specs.RuleFile.{nodeCount, formulaAt}
+use Rattle.method.specs.Stored.{Stored}
+use Rattle.method.specs.Step.{wantedFrom, countsStored, countBefore}
+use Rattle.kinds.specs.Kinds.{inMask}
+use Rattle.shelf.specs.Entries.{entriesFrom}
+
+abbrev pub storedIn : List ℕ → ℕ → List ℕ → List ℕ → List ℕ → List ℕ → ℕ → Stored
+storedIn b points times os ns vs count = record { rule = b; points = points; times = times; entries = entriesFrom os ns vs 0 count }
+
+-- for each node the mask of its free variables, how many points it has settled, and from which point on its rows are kept
+pub record Known (s : Stored) (masks counts lows : List ℕ) : Type 0 where
+  pub masks-free : (x : ℕ) → x < nodeCount (s .rule) → (v : ℕ) → v < 4 → inMask (getD masks x 0) v ≡ free (formulaAt (s .rule) x) v
+  pub counts-stored : take (nodeCount (s .rule)) counts ≡ countsStored s
+  pub lows-wanted : (x : ℕ) → x < nodeCount (s .rule) → getD lows x 0 ≡ wantedFrom (s .rule) (countBefore s) x

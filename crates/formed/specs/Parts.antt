@@ -1,0 +1,33 @@
+-- The test in two parts beside the rule's: what is stored of times, and what is stored of entries.
+use Prim.Native.Nat.{ℕ, _-_}
+use mathlib.Core.Path.{_≡_}
+use mathlib.Core.Bool.{Bool, _&&_}
+use mathlib.Core.List.{List}
+use lib.ListN.{length, getD, take}
+use lib.Dec.{leb, eqb}
+use Rattle.meaning.specs.Outcome.{mostPoints, mostKept}
+use Rattle.meaning.specs.RuleFile.{nodeCount}
+use Rattle.meaning.specs.Kept.{Entry}
+use Rattle.method.specs.Stored.{stampIn, firstRetained}
+use Rattle.method.specs.Counts.{countsTo}
+use Rattle.method.specs.Step.{wantedFrom}
+use Rattle.method.specs.WellFormed.{mostTimes, notFalling}
+use Rattle.progress.specs.Bounds.{Within}
+use Rattle.formed.specs.Walk.{entriesFit}
+
+-- how many points each node has settled, from the retained times
+unfoldable pub countsIn : List ℕ → ℕ → List ℕ → List ℕ
+countsIn b points times = countsTo b (stampIn (points - length times) times) points (λ x. points - length times) (nodeCount b)
+
+-- these counts stand in front, and none is above the number of points
+pub record Counted (b : List ℕ) (points : ℕ) (times counts : List ℕ) : Type 0 where
+  pub exact : take (nodeCount b) counts ≡ countsIn b points times
+  pub bounded : Within points (take (nodeCount b) counts)
+
+-- few points and times, as many times as the counts ask, and none that falls
+unfoldable pub timesFit : List ℕ → ℕ → List ℕ → Bool
+timesFit b points times = leb points mostPoints && leb (length times) mostTimes && eqb (length times) (points - firstRetained points (countsIn b points times)) && notFalling times
+
+-- few entries, and they are those of the nodes, where each has settled as many points as counts says
+unfoldable pub keptFit : List ℕ → List ℕ → List Entry → ℕ → Bool
+keptFit b counts es count = leb count mostKept && entriesFit b (wantedFrom b (λ y. getD counts y 0)) (λ y. getD counts y 0) es (nodeCount b)

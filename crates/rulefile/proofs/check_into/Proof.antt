@@ -1,0 +1,37 @@
+-- `rulefile::check_into` meets its contract: each refusal of the sizes and the length, in their order, and then the nodes.
+use native.Mathlib.Omega.{arith}
+use mathlib.Core.Path.{_≡_, sym, _∙_}
+use borrow.Author.Tests.{lt-ltb, le-ltb, eq-eqb, ne-eqb, not-true, not-false}
+use borrow.Author.Needs.{needs}
+use Rattle.meaning.specs.RuleFile.{checking}
+use Rattle.rulefile.specs.Checked.{answerOf}
+use Rattle.rulefile.proofs.Answer.{sized-from, refused-masked}
+use Rattle.rulefile.proofs.check_into.Statement.{statement}
+use Rattle.rulefile.proofs.check_into.Tie as tie
+
+pub check-into-spec : {M : Type 1} → statement M
+unfolding checking
+check-into-spec =
+    tie.close
+    (tie.spec
+    (λ c. let args = c .before .before .before .args in refused-masked (args .rule .now) (args .masks .now) (simp (lt-ltb _ _ (c .if1 .taken))))
+    (λ c. search needs)
+    (λ c. let args = c .before .before .before .before .before .args in refused-masked (args .rule .now) (args .masks .now) (simp (le-ltb _ _ (c .before .before .if1 .left), ne-eqb _ _ (c .if2 .taken))))
+    (λ c κs. search needs)
+    (λ c.
+    let args = c .before .before .before .before .before .before .before .args in
+    refused-masked (args .rule .now) (args .masks .now) (simp (le-ltb _ _ (c .before .before .before .before .if1 .left), eq-eqb _ _ (c .before .before .if2 .left), sym (c .before .sizes-fit .ensures) ∙ not-true _ (c .if3 .taken))))
+    (λ c. search needs)
+    (λ c. omega (arith, c .shared-slice-known3 .given 2))
+    (λ c. omega (arith, c .shared-slice-known3 .given 2))
+    (λ c. omega (arith, c .shared-slice-known3 .given 2))
+    (λ c.
+    let args = c .before .before .before .before .before .before .before .before .before .args in
+    refused-masked (args .rule .now) (args .masks .now)
+    (simp (le-ltb _ _ (c .before .before .before .before .before .before .if1 .left), eq-eqb _ _ (c .before .before .before .before .if2 .left), sym (c .before .before .before .sizes-fit .ensures) ∙ not-false _ (c .before .before .if3 .left), ne-eqb _ _ (c .if4 .taken))))
+    (λ c κs. (sized-from (c .before .before .before .before .before .before .before .before .before .before .args .rule .now) (sym (c .before .before .before .before .sizes-fit .ensures) ∙ not-false _ (c .before .before .before .if3 .left)) (c .before .if4 .left), search needs))
+    (λ c. search needs)
+    (λ c.
+    let nodes = c .before .before .check-nodes in
+    let same : answerOf (nodes .result) ≡ checking (c .before .before .before .before .before .before .before .before .before .before .before .before .before .args .rule .now) = simp (le-ltb _ _ (c .before .before .before .before .before .before .before .before .before .before .if1 .left), eq-eqb _ _ (c .before .before .before .before .before .before .before .before .if2 .left), sym (c .before .before .before .before .before .before .before .sizes-fit .ensures) ∙ not-false _ (c .before .before .before .before .before .before .if3 .left), eq-eqb _ _ (c .before .before .before .before .if4 .left)) (nodes .ensures .0) in
+    (same, λ a e. nodes .ensures .1 a (same ∙ e))))
