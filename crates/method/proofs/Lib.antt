@@ -6,6 +6,8 @@ pub mod Parents
 pub mod Keeps
 pub mod Seen
 pub mod Turns
+pub mod News
+pub mod Bounds
 pub mod Stepped
 pub mod Whole
 pub mod Reached
