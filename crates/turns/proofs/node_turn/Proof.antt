@@ -1,0 +1,131 @@
+-- `node_turn` meets its contract: from where the turns stand, the node's kept sets and pairs read, and the rest of its turn.
+use native.Mathlib.Omega.{arith}
+use mathlib.Core.Path.{_∙_}
+use lib.ListN.{length-set}
+use borrow.Author.Needs.{needs}
+use Rattle.meaning.proofs.Accepted.{accepted}
+use Rattle.turns.proofs.Taking.{figures, load-spaces, finishable, crowds, taken}
+use Rattle.turns.proofs.node_turn.Statement.{statement}
+use Rattle.turns.proofs.node_turn.Tie as tie
+
+-- the places behind one another
+abbrev entry : tie.After-node-at → tie.Start
+entry c = c .before .before .before .before .before .before .before .before .before .before .before .before .before .before .before .before .before .before .before .before .before .before
+
+abbrev decoded : tie.After-load-node → tie.After-node-at
+decoded c = c .before .before .before .before .before .before .before
+
+abbrev loaded : tie.After-finish-turn → tie.After-load-node
+loaded c = c .before .before .before .before .before .before .before .before .before .before .before .before .before .before .before .before .before
+
+abbrev finished : tie.After-slice-known21 → tie.After-finish-turn
+finished c = c .before .before .before .before .before .before .before .before .before .before .before .before .before .before .before .before .before .before
+
+node-at-requires : tie.Need-node-at-requires
+node-at-requires c κs =
+    let s = c .before .before .before .before .before .before .before .before .before .before .before .before .before .before .before .before .before .before .before .before .before in
+    let (a, ok) = s .pre .0 .accepted in
+    (accepted _ a ok .long, s .pre .1 .1 .1)
+
+load-node-requires : tie.Need-load-node-requires
+load-node-requires c κs =
+    let s = entry (c .before .before .before .before .before .before) in
+    let g = s .pre .0 in
+    let t = s .pre .1 .1 .0 in
+    let o = s .pre .1 .1 .1 in
+    let f = figures g _ o in
+    (t .within, g .stand, load-spaces g t o (s .pre .1 .0 .0), omega arith, omega arith)
+
+finish-turn-requires : tie.Need-finish-turn-requires
+finish-turn-requires c κs =
+    let l = c .before .before .before .before .before .before .before .before .before .before .before .before .before .before .before .before in
+    let d = decoded l in
+    let s = entry d in
+    let g = s .pre .0 in
+    let t = s .pre .1 .1 .0 in
+    let o = s .pre .1 .1 .1 in
+    let f = figures g _ o in
+    (finishable g t o (l .load-node .ensures) (d .node-at .ensures) (s .pre .1 .0 .0), (s .pre .1 .0 .1, omega (arith, t .few-kept, t .within, g .few-kept)))
+
+returns : tie.Need-returns
+returns c =
+    let e = finished (c .before .before) in
+    let l = loaded e in
+    let d = decoded l in
+    let s = entry d in
+    let g = s .pre .0 in
+    let t = s .pre .1 .1 .0 in
+    let o = s .pre .1 .1 .1 in
+    record { gives = crowds g t o (l .load-node .ensures) (d .node-at .ensures) (e .finish-turn .ensures) (c .enum-told .given .1) }
+
+returns-2 : tie.Need-returns-2
+returns-2 c =
+    let e = finished (c .before .before .before) in
+    let l = loaded e in
+    let d = decoded l in
+    let s = entry d in
+    let g = s .pre .0 in
+    let t = s .pre .1 .1 .0 in
+    let o = s .pre .1 .1 .1 in
+    let f = figures g _ o in
+    record { gives = taken g t o (l .load-node .ensures) (d .node-at .ensures) (e .finish-turn .ensures) (omega (arith, s .pre .1 .0 .0 .nodes)) (c .before .ended .given .1) }
+
+pub node-turn-spec : {M : Type 1} → statement M
+node-turn-spec =
+    tie.close
+    (tie.spec
+    node-at-requires
+    (λ c. search needs)
+    (λ c. let s = entry (c .before) in omega (arith, s .pre .0 .many-lows, s .pre .1 .1 .1))
+    (λ c. search needs)
+    (λ c. let s = entry (c .before .before) in omega (arith, s .pre .0 .many-wants, s .pre .1 .1 .1))
+    (λ c. search needs)
+    (λ c. let s = entry (c .before .before .before) in omega (arith, s .pre .0 .many-before, s .pre .1 .1 .1))
+    (λ c. search needs)
+    (λ c. let s = entry (c .before .before .before .before) in omega (arith, s .pre .0 .many-after, s .pre .1 .1 .1))
+    (λ c. let s = entry (c .before .before .before .before) in let f = figures (s .pre .0) _ (s .pre .1 .1 .1) in omega (arith, s .pre .1 .1 .0 .few-sets, s .pre .1 .0 .0 .nodes))
+    (λ c. let s = entry (c .before .before .before .before) in let f = figures (s .pre .0) _ (s .pre .1 .1 .1) in omega (arith, s .pre .1 .1 .0 .few-sets, s .pre .1 .0 .0 .nodes))
+    (λ c. let s = entry (c .before .before .before .before) in let f = figures (s .pre .0) _ (s .pre .1 .1 .1) in omega (arith, s .pre .1 .1 .0 .few-sets, s .pre .1 .0 .0 .nodes))
+    (λ c. let s = entry (c .before .before .before .before) in let f = figures (s .pre .0) _ (s .pre .1 .1 .1) in omega (arith, s .pre .1 .1 .0 .few-sets, s .pre .1 .0 .0 .nodes))
+    (λ c. let s = entry (c .before .before .before .before) in let f = figures (s .pre .0) _ (s .pre .1 .1 .1) in omega (arith, s .pre .1 .1 .0 .few-sets, s .pre .1 .0 .0 .nodes))
+    (λ c. let s = entry (c .before .before .before .before) in let f = figures (s .pre .0) _ (s .pre .1 .1 .1) in omega (arith, s .pre .1 .1 .0 .few-sets, s .pre .1 .0 .0 .nodes))
+    (λ c. let s = entry (c .before .before .before .before) in let f = figures (s .pre .0) _ (s .pre .1 .1 .1) in omega (arith, s .pre .1 .1 .0 .few-sets, s .pre .1 .0 .0 .nodes))
+    (λ c. search needs)
+    (λ c. let s = entry (c .before .before .before .before) in let f = figures (s .pre .0) _ (s .pre .1 .1 .1) in omega (arith, s .pre .1 .1 .0 .few-sets, s .pre .1 .0 .0 .nodes))
+    load-node-requires
+    (λ c. let l = c .before .before .before .before .before .before .before in let n = l .load-node .ensures .pairs in let g = entry (decoded l) .pre .0 in omega (arith, n .onward, n .within, g .stand, g .few-kept))
+    (λ c. let l = c .before .before .before .before .before .before .before in let n = l .load-node .ensures .pairs in let g = entry (decoded l) .pre .0 in omega (arith, n .onward, n .within, g .stand, g .few-kept))
+    (λ c. let l = c .before .before .before .before .before .before .before in let n = l .load-node .ensures .pairs in let g = entry (decoded l) .pre .0 in omega (arith, n .onward, n .within, g .stand, g .few-kept))
+    (λ c. let l = c .before .before .before .before .before .before .before in let n = l .load-node .ensures .pairs in let g = entry (decoded l) .pre .0 in omega (arith, n .onward, n .within, g .stand, g .few-kept))
+    (λ c. let l = c .before .before .before .before .before .before .before .before in let n = l .load-node .ensures .pairs in let g = entry (decoded l) .pre .0 in omega (arith, n .onward, n .within, g .stand, g .few-kept))
+    (λ c. let l = c .before .before .before .before .before .before .before .before in let n = l .load-node .ensures .pairs in let g = entry (decoded l) .pre .0 in omega (arith, n .onward, n .within, g .stand, g .few-kept))
+    (λ c. let l = c .before .before .before .before .before .before .before .before in let n = l .load-node .ensures .pairs in let g = entry (decoded l) .pre .0 in omega (arith, n .onward, n .within, g .stand, g .few-kept))
+    (λ c. let l = c .before .before .before .before .before .before .before .before in let n = l .load-node .ensures .pairs in let g = entry (decoded l) .pre .0 in omega (arith, n .onward, n .within, g .stand, g .few-kept))
+    (λ c. let l = c .before .before .before .before .before .before .before .before in let n = l .load-node .ensures .pairs in let g = entry (decoded l) .pre .0 in omega (arith, n .onward, n .within, g .stand, g .few-kept))
+    (λ c. let l = c .before .before .before .before .before .before .before .before in let n = l .load-node .ensures .pairs in let g = entry (decoded l) .pre .0 in omega (arith, n .onward, n .within, g .stand, g .few-kept))
+    (λ c. let l = c .before .before .before .before .before .before .before .before .before in let n = l .load-node .ensures .pairs in let g = entry (decoded l) .pre .0 in omega (arith, n .onward, n .within, g .stand, g .few-kept))
+    finish-turn-requires
+    (λ c. search needs)
+    (λ c. search needs)
+    (λ c. let d = finished (c .before .before) in d .finish-turn .kept .1 .1 .0 ∙ loaded d .load-node .kept .1 .1 .1 .1 .1 .1 .1 .1 .0)
+    (λ c. let d = finished (c .before .before) in d .finish-turn .kept .1 .1 .1 .0 ∙ loaded d .load-node .kept .1 .1 .1 .1 .1 .1 .1 .1 .1 .0)
+    (λ c. let s = entry (decoded (loaded (finished (c .before .before)))) in length-set (s .args .firsts .now) (s .args .x) (s .args .place .sets))
+    (λ c. finished (c .before .before) .finish-turn .kept .1 .1 .1 .1 .1 .1 .1 .1 .1 .1 .1 .1 .1 .1 .1 .1 .1 .1 .1 .1 .1 .1 .0)
+    (λ c. finished (c .before .before) .finish-turn .kept .1 .1 .1 .1 .1 .1 .1 .1 .1 .1 .1 .1 .1 .1 .1 .1 .1 .1 .1 .1 .1 .1 .1 .0)
+    (λ c. finished (c .before .before) .finish-turn .kept .1 .1 .1 .1 .1 .1 .1 .1 .1 .1 .1 .1 .1 .1 .1 .1 .1 .1 .1 .1 .1 .1 .1 .1 .0)
+    (λ c. finished (c .before .before) .finish-turn .kept .1 .1 .1 .1 .1 .1 .1 .1 .1 .1 .1 .1 .1 .1 .1 .1 .1 .1 .1 .1 .1 .1 .1 .1 .1 .0)
+    (λ c. finished (c .before .before) .finish-turn .kept .1 .1 .1 .1 .1 .1 .1 .1 .1 .1 .1 .1 .1 .1 .1 .1 .1 .1 .1 .1 .1 .1 .1 .1 .1 .1 .0)
+    (λ c. finished (c .before .before) .finish-turn .kept .1 .1 .1 .1 .1 .1 .1 .1 .1 .1 .1 .1 .1 .1 .1 .1 .1 .1 .1 .1 .1 .1 .1 .1 .1 .1 .1 .0)
+    (λ c. finished (c .before .before) .finish-turn .kept .1 .1 .1 .1 .1 .1 .1 .1 .1 .1 .1 .1 .1 .1 .1 .1 .1 .1 .1 .1 .1 .1 .1 .1 .1 .1 .1 .1 .0)
+    returns
+    (λ c. let d = finished (c .before .before .before) in d .finish-turn .kept .1 .1 .0 ∙ loaded d .load-node .kept .1 .1 .1 .1 .1 .1 .1 .1 .0)
+    (λ c. let d = finished (c .before .before .before) in d .finish-turn .kept .1 .1 .1 .0 ∙ loaded d .load-node .kept .1 .1 .1 .1 .1 .1 .1 .1 .1 .0)
+    (λ c. let s = entry (decoded (loaded (finished (c .before .before .before)))) in length-set (s .args .firsts .now) (s .args .x) (s .args .place .sets))
+    (λ c. finished (c .before .before .before) .finish-turn .kept .1 .1 .1 .1 .1 .1 .1 .1 .1 .1 .1 .1 .1 .1 .1 .1 .1 .1 .1 .1 .1 .1 .0)
+    (λ c. finished (c .before .before .before) .finish-turn .kept .1 .1 .1 .1 .1 .1 .1 .1 .1 .1 .1 .1 .1 .1 .1 .1 .1 .1 .1 .1 .1 .1 .1 .0)
+    (λ c. finished (c .before .before .before) .finish-turn .kept .1 .1 .1 .1 .1 .1 .1 .1 .1 .1 .1 .1 .1 .1 .1 .1 .1 .1 .1 .1 .1 .1 .1 .1 .0)
+    (λ c. finished (c .before .before .before) .finish-turn .kept .1 .1 .1 .1 .1 .1 .1 .1 .1 .1 .1 .1 .1 .1 .1 .1 .1 .1 .1 .1 .1 .1 .1 .1 .1 .0)
+    (λ c. finished (c .before .before .before) .finish-turn .kept .1 .1 .1 .1 .1 .1 .1 .1 .1 .1 .1 .1 .1 .1 .1 .1 .1 .1 .1 .1 .1 .1 .1 .1 .1 .1 .0)
+    (λ c. finished (c .before .before .before) .finish-turn .kept .1 .1 .1 .1 .1 .1 .1 .1 .1 .1 .1 .1 .1 .1 .1 .1 .1 .1 .1 .1 .1 .1 .1 .1 .1 .1 .1 .0)
+    (λ c. finished (c .before .before .before) .finish-turn .kept .1 .1 .1 .1 .1 .1 .1 .1 .1 .1 .1 .1 .1 .1 .1 .1 .1 .1 .1 .1 .1 .1 .1 .1 .1 .1 .1 .1 .0)
+    returns-2)
