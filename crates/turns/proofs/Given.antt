@@ -49,7 +49,7 @@ module _ (b os ns vs : List ℕ) (count : ℕ) (before after times : List ℕ) (
     abbrev pub fresh : List (List (List ℕ))
     fresh = newRows (sight x) (nodeAt b x) (figure before x) (figure after x - figure before x) (heldPairs kept x)
 
-    pub turn-low : turn x .low ≡ low x
+    turn-low : turn x .low ≡ low x
     unfolding turnOf
     turn-low = ap (λ t. t .low) turn-is
 

@@ -8,6 +8,7 @@ use lib.ListN.{length, getD, take, drop, length-take, length-drop}
 use lib.Seq.{getD-take, getD-drop}
 use lib.Dec.{eqb}
 use Rattle.meaning.specs.Lists.{range}
+use Rattle.meaning.specs.Outcome.{mostKept}
 use Rattle.meaning.specs.Kept.{Entry}
 use Rattle.meaning.proofs.Rows.{OfLength, select-at}
 use Rattle.method.specs.Stored.{heldPairs}
@@ -34,12 +35,20 @@ listed-moved f g c a (suc n) h =
     let e : c + suc a ≡ suc (c + a) = omega arith in
     ap₂ (λ x xs. x ∷ xs) (h a (omega arith) (omega arith)) (rw e at (listed-moved f g c (suc a) n (λ k l m. h k (omega arith) (omega arith))))
 
-module _ (ns vs : List ℕ) (from to : ℕ) (ordered : from ≤ to) where
+-- the entries from `from` to `to` stand in the words, where few are kept
+pub record Among (ns vs : List ℕ) (from to : ℕ) : Type 0 where
+  pub ordered : from ≤ to
+  pub few : to ≤ mostKept
+  pub numbersThere : to ≤ length ns
+  pub valuesThere : to * 4 ≤ length vs
+
+module _ {ns vs : List ℕ} {from to : ℕ} (a : Among ns vs from to) where
   part-word : (j : ℕ) → j < to * 4 - from * 4 → getD (take (to * 4 - from * 4) (drop (from * 4) vs)) j 0 ≡ getD vs (from * 4 + j) 0
   part-word j l = getD-take (to * 4 - from * 4) (drop (from * 4) vs) j 0 l ∙ getD-drop (from * 4) vs j 0
 
   part-pair : (k : ℕ) → k < to - from → pairAt (take (to - from) (drop from ns)) (take (to * 4 - from * 4) (drop (from * 4) vs)) k ≡ pairAt ns vs (from + k)
   part-pair k l =
+      let o = a .ordered in
       let age = getD-take (to - from) (drop from ns) k 0 l ∙ getD-drop from ns k 0 in
       let at : (i : ℕ) → i < 4 → from * 4 + (k * 4 + i) ≡ (from + k) * 4 + i = λ i m. omega arith in
       let word : (i : ℕ) → i < 4 → getD (take (to * 4 - from * 4) (drop (from * 4) vs)) (k * 4 + i) 0 ≡ getD vs ((from + k) * 4 + i) 0
@@ -54,9 +63,9 @@ module _ (ns vs : List ℕ) (from to : ℕ) (ordered : from ≤ to) where
       let e : from + 0 ≡ from = omega arith in
       rw e at (listed-moved (pairAt (take (to - from) (drop from ns)) (take (to * 4 - from * 4) (drop (from * 4) vs))) (pairAt ns vs) from 0 (to - from) (λ k a l. part-pair k (omega arith)))
 
-  pub part-there : to ≤ length ns → to * 4 ≤ length vs → PairsThere (take (to - from) (drop from ns)) (take (to * 4 - from * 4) (drop (from * 4) vs)) (to - from)
-  part-there l m =
+  pub part-there : PairsThere (take (to - from) (drop from ns)) (take (to * 4 - from * 4) (drop (from * 4) vs)) (to - from)
+  part-there =
       record {
-        agesThere = omega (arith, length-take (to - from) (drop from ns), length-drop from ns);
-        valuesThere = omega (arith, length-take (to * 4 - from * 4) (drop (from * 4) vs), length-drop (from * 4) vs);
+        agesThere = omega (arith, a .ordered, a .numbersThere, length-take (to - from) (drop from ns), length-drop from ns);
+        valuesThere = omega (arith, a .ordered, a .valuesThere, length-take (to * 4 - from * 4) (drop (from * 4) vs), length-drop (from * 4) vs);
       }

@@ -38,7 +38,7 @@ use Rattle.turns.specs.declared.Ended.the-variants.{Crowded, Kept}
 use Rattle.turns.specs.Turns.{figure, turnIn, crowdedIn, entriesOut, entriesIn, Begun, Roomy}
 use Rattle.turns.specs.Nodes.{NodeRead, Finishable, keeps, Finished, Finishes, FinishesNew, SetsBelow, TurnedTo, Turned}
 use Rattle.turns.proofs.Behind.{gather-first, after-sets, after-node}
-use Rattle.turns.proofs.Parts.{pairs-five, part-pairs, part-there}
+use Rattle.turns.proofs.Parts.{Among, pairs-five, part-pairs, part-there}
 use Rattle.turns.proofs.Given.{sight, fresh, turn-pairs, rows-at, rows-held, rows-new}
 use Rattle.turns.proofs.Laying.{set-few, sets-more}
 use Rattle.turns.proofs.Lower.{below-later, below-noted, below-own, ready, same}
@@ -145,6 +145,16 @@ module _ {b os ns vs : List ℕ} {count : ℕ} {before after times : List ℕ} {
       opened : SetsBelow b os ns vs count before after times base w lows (set firsts x sets) rows' at' (sets + own) x
       opened = below-noted (below-later (t .below) (read-sets .0) kept-sets) sets
 
+      pub among : Among ns vs p r
+      among =
+          let l = n .pairs .within in
+          record {
+            ordered = n .pairs .onward;
+            few = omega (arith, g .few-kept);
+            numbersThere = omega (arith, g .stand .numbersThere);
+            valuesThere = omega (arith, g .stand .valuesThere);
+          }
+
       abbrev ages₀ : List ℕ
       ages₀ = take (r - p) (drop p ns)
 
@@ -152,7 +162,7 @@ module _ {b os ns vs : List ℕ} {count : ℕ} {before after times : List ℕ} {
       values₀ = take (r * 4 - p * 4) (drop (p * 4) vs)
 
       held-here : pairsFrom ages₀ values₀ 0 (r - p) ≡ keptPairs
-      held-here = part-pairs ns vs p r (n .pairs .onward) ∙ read-pairs .0
+      held-here = part-pairs among ∙ read-pairs .0
 
       module _ {node : Node} (is : node ≡ nodeAt b x) where
         pub finishable : {ages paired spareAges sparePaired : List ℕ} → Roomy rows at firsts ages paired spareAges sparePaired count most
@@ -172,7 +182,7 @@ module _ {b os ns vs : List ℕ} {count : ℕ} {before after times : List ℕ} {
                     words = omega (arith, k .end, k .onward, k .within, t .few-rows, m .words, e .rowsLong);
                     small = omega (arith, k .end, k .onward, k .within, t .few-rows, m .small);
                   };
-              held = part-there ns vs p r (n .pairs .onward) (omega (arith, n .pairs .within, g .stand)) (omega (arith, n .pairs .within, g .stand));
+              held = part-there among;
               pairs = pairs-there (m .pairs) refl refl few;
               spare = λ l. pairs-there (m .spare (omega arith)) refl refl few;
               own = refl;
@@ -183,7 +193,7 @@ module _ {b os ns vs : List ℕ} {count : ℕ} {before after times : List ℕ} {
               small = omega (arith, f .small);
             }
 
-        pub seen : Same (sight b os ns vs count before after times base w x) b w rows' at' (set firsts x sets) lows masks after times base node
+        seen : Same (sight b os ns vs count before after times base w x) b w rows' at' (set firsts x sets) lows masks after times base node
         seen = rw is (same g x o opened)
 
         module _ {rows'' at'' os₁ ns₁ vs₁ os₂ ns₂ vs₂ : List ℕ} {e : Ended}

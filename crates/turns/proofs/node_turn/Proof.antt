@@ -1,10 +1,11 @@
 -- `node_turn` meets its contract: from where the turns stand, the node's kept sets and pairs read, and the rest of its turn.
 use native.Mathlib.Omega.{arith}
 use mathlib.Core.Path.{_∙_}
-use lib.ListN.{length-set}
+use lib.ListN.{getD, length-set}
 use borrow.Author.Needs.{needs}
 use Rattle.meaning.proofs.Accepted.{accepted}
-use Rattle.turns.proofs.Taking.{figures, load-spaces, finishable, crowds, taken}
+use Rattle.turns.proofs.Parts.{Among}
+use Rattle.turns.proofs.Taking.{Figures, figures, load-spaces, among, finishable, crowds, taken}
 use Rattle.turns.proofs.node_turn.Statement.{statement}
 use Rattle.turns.proofs.node_turn.Tie as tie
 
@@ -21,6 +22,16 @@ loaded c = c .before .before .before .before .before .before .before .before .be
 abbrev finished : tie.After-slice-known21 → tie.After-finish-turn
 finished c = c .before .before .before .before .before .before .before .before .before .before .before .before .before .before .before .before .before .before
 
+-- the node's figures, and where its pairs are
+figures-at : (s : tie.Start)
+    → Figures (s .args .x) (s .args .most) (getD (s .args .lows .now) (s .args .x) 0) (getD (s .args .wants .now) (s .args .x) 0) (getD (s .args .before .now) (s .args .x) 0) (getD (s .args .after .now) (s .args .x) 0)
+figures-at s = figures (s .pre .0) (s .args .x) (s .pre .1 .1 .1)
+
+among-at : (l : tie.After-load-node) → Among (entry (decoded l) .args .numbers .now) (entry (decoded l) .args .values .now) (l .load-node .result .pairs) (l .load-node .result .end)
+among-at l =
+    let s = entry (decoded l) in
+    among (s .pre .0) (s .pre .1 .1 .0) (s .pre .1 .1 .1) (l .load-node .ensures)
+
 node-at-requires : tie.Need-node-at-requires
 node-at-requires c κs =
     let s = c .before .before .before .before .before .before .before .before .before .before .before .before .before .before .before .before .before .before .before .before .before in
@@ -33,8 +44,7 @@ load-node-requires c κs =
     let g = s .pre .0 in
     let t = s .pre .1 .1 .0 in
     let o = s .pre .1 .1 .1 in
-    let f = figures g _ o in
-    (t .within, g .stand, load-spaces g t o (s .pre .1 .0 .0), omega arith, omega arith)
+    (t .within, g .stand, load-spaces g t o (s .pre .1 .0 .0), omega (arith, figures-at s), omega (arith, figures-at s))
 
 finish-turn-requires : tie.Need-finish-turn-requires
 finish-turn-requires c κs =
@@ -44,8 +54,7 @@ finish-turn-requires c κs =
     let g = s .pre .0 in
     let t = s .pre .1 .1 .0 in
     let o = s .pre .1 .1 .1 in
-    let f = figures g _ o in
-    (finishable g t o (l .load-node .ensures) (d .node-at .ensures) (s .pre .1 .0 .0), (s .pre .1 .0 .1, omega (arith, t .few-kept, t .within, g .few-kept)))
+    (finishable g t o (l .load-node .ensures) (d .node-at .ensures) (s .pre .1 .0 .0), (s .pre .1 .0 .1, omega (arith, figures-at s, t .few-kept, t .within, g .few-kept)))
 
 returns : tie.Need-returns
 returns c =
@@ -67,8 +76,7 @@ returns-2 c =
     let g = s .pre .0 in
     let t = s .pre .1 .1 .0 in
     let o = s .pre .1 .1 .1 in
-    let f = figures g _ o in
-    record { gives = taken g t o (l .load-node .ensures) (d .node-at .ensures) (e .finish-turn .ensures) (omega (arith, s .pre .1 .0 .0 .nodes)) (c .before .ended .given .1) }
+    record { gives = taken g t o (l .load-node .ensures) (d .node-at .ensures) (e .finish-turn .ensures) (omega (arith, figures-at s, s .pre .1 .0 .0 .nodes)) (c .before .ended .given .1) }
 
 pub node-turn-spec : {M : Type 1} → statement M
 node-turn-spec =
@@ -83,27 +91,27 @@ node-turn-spec =
     (λ c. let s = entry (c .before .before .before) in omega (arith, s .pre .0 .many-before, s .pre .1 .1 .1))
     (λ c. search needs)
     (λ c. let s = entry (c .before .before .before .before) in omega (arith, s .pre .0 .many-after, s .pre .1 .1 .1))
-    (λ c. let s = entry (c .before .before .before .before) in let f = figures (s .pre .0) _ (s .pre .1 .1 .1) in omega (arith, s .pre .1 .1 .0 .few-sets, s .pre .1 .0 .0 .nodes))
-    (λ c. let s = entry (c .before .before .before .before) in let f = figures (s .pre .0) _ (s .pre .1 .1 .1) in omega (arith, s .pre .1 .1 .0 .few-sets, s .pre .1 .0 .0 .nodes))
-    (λ c. let s = entry (c .before .before .before .before) in let f = figures (s .pre .0) _ (s .pre .1 .1 .1) in omega (arith, s .pre .1 .1 .0 .few-sets, s .pre .1 .0 .0 .nodes))
-    (λ c. let s = entry (c .before .before .before .before) in let f = figures (s .pre .0) _ (s .pre .1 .1 .1) in omega (arith, s .pre .1 .1 .0 .few-sets, s .pre .1 .0 .0 .nodes))
-    (λ c. let s = entry (c .before .before .before .before) in let f = figures (s .pre .0) _ (s .pre .1 .1 .1) in omega (arith, s .pre .1 .1 .0 .few-sets, s .pre .1 .0 .0 .nodes))
-    (λ c. let s = entry (c .before .before .before .before) in let f = figures (s .pre .0) _ (s .pre .1 .1 .1) in omega (arith, s .pre .1 .1 .0 .few-sets, s .pre .1 .0 .0 .nodes))
-    (λ c. let s = entry (c .before .before .before .before) in let f = figures (s .pre .0) _ (s .pre .1 .1 .1) in omega (arith, s .pre .1 .1 .0 .few-sets, s .pre .1 .0 .0 .nodes))
+    (λ c. let s = entry (c .before .before .before .before) in omega (arith, figures-at s, s .pre .1 .1 .0 .few-sets, s .pre .1 .0 .0 .nodes))
+    (λ c. let s = entry (c .before .before .before .before) in omega (arith, figures-at s, s .pre .1 .1 .0 .few-sets, s .pre .1 .0 .0 .nodes))
+    (λ c. let s = entry (c .before .before .before .before) in omega (arith, figures-at s, s .pre .1 .1 .0 .few-sets, s .pre .1 .0 .0 .nodes))
+    (λ c. let s = entry (c .before .before .before .before) in omega (arith, figures-at s, s .pre .1 .1 .0 .few-sets, s .pre .1 .0 .0 .nodes))
+    (λ c. let s = entry (c .before .before .before .before) in omega (arith, figures-at s, s .pre .1 .1 .0 .few-sets, s .pre .1 .0 .0 .nodes))
+    (λ c. let s = entry (c .before .before .before .before) in omega (arith, figures-at s, s .pre .1 .1 .0 .few-sets, s .pre .1 .0 .0 .nodes))
+    (λ c. let s = entry (c .before .before .before .before) in omega (arith, figures-at s, s .pre .1 .1 .0 .few-sets, s .pre .1 .0 .0 .nodes))
     (λ c. search needs)
-    (λ c. let s = entry (c .before .before .before .before) in let f = figures (s .pre .0) _ (s .pre .1 .1 .1) in omega (arith, s .pre .1 .1 .0 .few-sets, s .pre .1 .0 .0 .nodes))
+    (λ c. let s = entry (c .before .before .before .before) in omega (arith, figures-at s, s .pre .1 .1 .0 .few-sets, s .pre .1 .0 .0 .nodes))
     load-node-requires
-    (λ c. let l = c .before .before .before .before .before .before .before in let n = l .load-node .ensures .pairs in let g = entry (decoded l) .pre .0 in omega (arith, n .onward, n .within, g .stand, g .few-kept))
-    (λ c. let l = c .before .before .before .before .before .before .before in let n = l .load-node .ensures .pairs in let g = entry (decoded l) .pre .0 in omega (arith, n .onward, n .within, g .stand, g .few-kept))
-    (λ c. let l = c .before .before .before .before .before .before .before in let n = l .load-node .ensures .pairs in let g = entry (decoded l) .pre .0 in omega (arith, n .onward, n .within, g .stand, g .few-kept))
-    (λ c. let l = c .before .before .before .before .before .before .before in let n = l .load-node .ensures .pairs in let g = entry (decoded l) .pre .0 in omega (arith, n .onward, n .within, g .stand, g .few-kept))
-    (λ c. let l = c .before .before .before .before .before .before .before .before in let n = l .load-node .ensures .pairs in let g = entry (decoded l) .pre .0 in omega (arith, n .onward, n .within, g .stand, g .few-kept))
-    (λ c. let l = c .before .before .before .before .before .before .before .before in let n = l .load-node .ensures .pairs in let g = entry (decoded l) .pre .0 in omega (arith, n .onward, n .within, g .stand, g .few-kept))
-    (λ c. let l = c .before .before .before .before .before .before .before .before in let n = l .load-node .ensures .pairs in let g = entry (decoded l) .pre .0 in omega (arith, n .onward, n .within, g .stand, g .few-kept))
-    (λ c. let l = c .before .before .before .before .before .before .before .before in let n = l .load-node .ensures .pairs in let g = entry (decoded l) .pre .0 in omega (arith, n .onward, n .within, g .stand, g .few-kept))
-    (λ c. let l = c .before .before .before .before .before .before .before .before in let n = l .load-node .ensures .pairs in let g = entry (decoded l) .pre .0 in omega (arith, n .onward, n .within, g .stand, g .few-kept))
-    (λ c. let l = c .before .before .before .before .before .before .before .before in let n = l .load-node .ensures .pairs in let g = entry (decoded l) .pre .0 in omega (arith, n .onward, n .within, g .stand, g .few-kept))
-    (λ c. let l = c .before .before .before .before .before .before .before .before .before in let n = l .load-node .ensures .pairs in let g = entry (decoded l) .pre .0 in omega (arith, n .onward, n .within, g .stand, g .few-kept))
+    (λ c. omega (arith, among-at (c .before .before .before .before .before .before .before)))
+    (λ c. omega (arith, among-at (c .before .before .before .before .before .before .before)))
+    (λ c. omega (arith, among-at (c .before .before .before .before .before .before .before)))
+    (λ c. omega (arith, among-at (c .before .before .before .before .before .before .before)))
+    (λ c. omega (arith, among-at (c .before .before .before .before .before .before .before .before)))
+    (λ c. omega (arith, among-at (c .before .before .before .before .before .before .before .before)))
+    (λ c. omega (arith, among-at (c .before .before .before .before .before .before .before .before)))
+    (λ c. omega (arith, among-at (c .before .before .before .before .before .before .before .before)))
+    (λ c. omega (arith, among-at (c .before .before .before .before .before .before .before .before)))
+    (λ c. omega (arith, among-at (c .before .before .before .before .before .before .before .before)))
+    (λ c. omega (arith, among-at (c .before .before .before .before .before .before .before .before .before)))
     finish-turn-requires
     (λ c. search needs)
     (λ c. search needs)
