@@ -256,7 +256,7 @@ fn entries_fit(
 }
 
 // The least of the counts and the number of points.
-fn least(points: u32, counts: &[u32]) -> u32
+pub fn least(points: u32, counts: &[u32]) -> u32
     ensures { λ r. ⌜ r ≡ leastOf points (now (counts .entry)) ⌝ }
 {
     let mut m = points;

@@ -34,6 +34,9 @@ abbrev pub notOneParent : ℕ
 notOneParent = 7
 
 -- "Take an event"
+abbrev pub notWellFormed : ℕ
+notWellFormed = 8
+
 abbrev pub notAnEvent : ℕ
 notAnEvent = 9
 

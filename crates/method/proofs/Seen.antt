@@ -45,7 +45,7 @@ found-among v l F a k f e r u =
     rw (e, r) (look-member (cutTo (free (F a)) (valuationOf u)) (vals l (F a) k) (all-of _ (vals l (F a) k) (λ s m. eq-eqb (length s) 4 (rows-length l (F a) f k s m))) (ascends l (F a) f k))
 
 -- until over fewer points, where the others are past the window's end
-until-cut : (τ τ' : Point → Stamp) (m n : ℕ) (w : Window) (left left' : List ℕ → Point → Bool) (right right' : Point → List (List ℕ)) (i : Point)
+pub until-cut : (τ τ' : Point → Stamp) (m n : ℕ) (w : Window) (left left' : List ℕ → Point → Bool) (right right' : Point → List (List ℕ)) (i : Point)
     → i .0 ≤ m → m ≤ n
     → ((j : Point) → i .0 ≤ j .0 → j .0 < n → τ j ≡ τ' j) → i .0 < n
     → ((j : Point) → m ≤ j .0 → j .0 < n → inWindow w (elapsed (τ' i) (τ' j)) ≡ false)

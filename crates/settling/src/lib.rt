@@ -26,7 +26,7 @@ ghost use Rattle.untils.specs.Until.{leftTest};
 ghost use Rattle.settling.specs.Sights.{nodeSet, sightIn, There, asked};
 
 // Node y's set at point j stands in the rows from..to.
-fn set_part(at: &[u32], firsts: &[u32], lows: &[u32], y: u8, j: Point) -> Part
+pub fn set_part(at: &[u32], firsts: &[u32], lows: &[u32], y: u8, j: Point) -> Part
     requires { ⌜ (y < length (now firsts)) × (y < length (now lows)) × (getD (now lows) y 0 ≤ j .0) × (getD (now firsts) y 0 + (j .0 - getD (now lows) y 0) + 1 < length (now at)) ⌝ }
     ensures { λ p. ⌜ (p .from ≡ getD (now (at .entry)) (getD (now (firsts .entry)) y 0 + (j .0 - getD (now (lows .entry)) y 0)) 0) × (p .to ≡ getD (now (at .entry)) (getD (now (firsts .entry)) y 0 + (j .0 - getD (now (lows .entry)) y 0) + 1) 0) ⌝ }
 {
