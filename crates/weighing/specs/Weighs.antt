@@ -1,0 +1,83 @@
+-- What weighing 13 to 16 answers, the outcome of 01 that each answer stands for, and what it leaves.
+use Prim.Native.Nat.{ℕ, _+_, _-_, _≤_, _<_}
+use mathlib.Core.Path.{_≡_}
+use mathlib.Core.List.{List, map}
+use lib.ListN.{length, getD}
+use lib.Dec.{ltb}
+use Rattle.meaning.specs.Lists.{select, range, gather}
+use Rattle.meaning.specs.Outcome.{Outcome, refused, given, when, notWellFormed, notAnEvent, rowOut, timeFalls, logFull, crowded, backlog, keptOver, bufferShort, mostRows, mostOpen, mostKept}
+use Rattle.meaning.specs.Log.{pointsFrom}
+use Rattle.meaning.specs.Formula.{free, variables}
+use Rattle.meaning.specs.RuleFile.{nodeCount, lastNode, pattern}
+use Rattle.meaning.specs.Report.{reportWords}
+use Rattle.meaning.specs.Keeper.{reportRow, weighed, bufferAfter}
+use Rattle.method.specs.Stored.{stampIn}
+use Rattle.method.specs.Settle.{rowsOfTurn}
+use Rattle.shelf.specs.Entries.{entriesFrom}
+use Rattle.writer.specs.Words.{setOf, words, Reportable}
+use Rattle.turns.specs.Turns.{figure, turnIn, crowdedIn, entriesOut}
+use Rattle.weighing.specs.declared.Refusal.{Refusal}
+use Rattle.weighing.specs.declared.Refusal.the-variants.{NotWellFormed, NotAnEvent, RowOut, TimeFalls, LogFull, Crowded, Backlog, KeptOver, BufferShort}
+use Rattle.weighing.specs.declared.Weighed.{Weighed}
+use Rattle.weighing.specs.declared.Weighed.the-variants.{Refused, Written}
+
+-- 01's number and place for each refusal of a taking
+abbrev pub refusalOf : Refusal → Outcome ℕ
+refusalOf NotWellFormed = refused notWellFormed 0
+refusalOf NotAnEvent = refused notAnEvent 0
+refusalOf (RowOut k) = refused rowOut k
+refusalOf TimeFalls = refused timeFalls 0
+refusalOf LogFull = refused logFull 0
+refusalOf (Crowded x) = refused crowded x
+refusalOf Backlog = refused backlog 0
+refusalOf KeptOver = refused keptOver 0
+refusalOf (BufferShort words) = refused bufferShort words
+
+abbrev pub weighedOf : Weighed → Outcome ℕ
+weighedOf (Refused r) = refusalOf r
+weighedOf (Written words kept) = given words
+
+-- 14 to 16, by the points left unsettled, the entries kept, the report's words and the buffer's
+abbrev pub afterCrowds : ℕ → ℕ → ℕ → ℕ → Outcome ℕ
+afterCrowds unsettled entries words room =
+    when (ltb mostOpen unsettled) backlog 0 (when (ltb mostKept entries) keptOver 0 (when (ltb room words) bufferShort words (given words)))
+
+-- 14 to 16 weighed, and the buffer then; `kept` is what was weighed for 15
+pub record Weighs (unsettled entries : ℕ) (report buffer buffer' : List ℕ) (r : Weighed) : Type 0 where
+  pub outcome : weighedOf r ≡ afterCrowds unsettled entries (length report) (length buffer)
+  pub written : buffer' ≡ bufferAfter (weighedOf r) report buffer
+  pub kept : (words kept : ℕ) → r ≡ Written words kept → (kept ≡ entries) × (entries ≤ mostKept)
+
+-- the last node's sets at its newly settled points can be reported, in a log of so many points
+pub record Last (b rows at firsts lows masks before after : List ℕ) (points : ℕ) : Type 0 where
+  pub nodes : 2 < length b
+  pub some : 0 < nodeCount b
+  pub in-firsts : lastNode b < length firsts
+  pub in-lows : lastNode b < length lows
+  pub in-masks : lastNode b < length masks
+  pub in-before : lastNode b < length before
+  pub in-after : lastNode b < length after
+  pub grown : figure before (lastNode b) ≤ figure after (lastNode b)
+  pub settled : figure after (lastNode b) ≤ points
+  pub sets : Reportable rows at (figure firsts (lastNode b)) (figure lows (lastNode b)) (figure before (lastNode b)) (figure after (lastNode b) - figure before (lastNode b))
+  pub few : (q : ℕ) → q < figure after (lastNode b) - figure before (lastNode b) → getD at (setOf (figure firsts (lastNode b)) (figure lows (lastNode b)) (figure before (lastNode b)) + q + 1) 0 - getD at (setOf (figure firsts (lastNode b)) (figure lows (lastNode b)) (figure before (lastNode b)) + q) 0 ≤ mostRows
+  pub few-points : figure after (lastNode b) - figure before (lastNode b) ≤ 65
+
+-- the words of that report
+abbrev pub lastWords : List ℕ → List ℕ → List ℕ → List ℕ → List ℕ → List ℕ → List ℕ → List ℕ → ℕ → List ℕ → List ℕ
+lastWords b rows at firsts lows masks before after base times =
+    words rows at (figure firsts (lastNode b)) (figure lows (lastNode b)) base times (figure masks (lastNode b)) (figure before (lastNode b)) (figure after (lastNode b) - figure before (lastNode b))
+
+-- the report of the turns of a call
+module _ (b os ns vs : List ℕ) (count : ℕ) (before after times : List ℕ) (base : ℕ) (w : List ℕ) where
+  unfoldable pub reportIn : List ℕ
+  reportIn =
+      reportWords (length (select (free (pattern b)) variables))
+      (map (λ i. record { at = i; time = stampIn base times i; rows = map (reportRow (free (pattern b))) (rowsOfTurn (turnIn b os ns vs count before after times base w (lastNode b)) i) })
+      (pointsFrom (figure before (lastNode b)) (figure after (lastNode b) - figure before (lastNode b))))
+
+  -- 13 to 16 weighed after the turns of a call in a log of so many points; where nothing is refused, the entries that are kept stand in os', ns' and vs'
+  pub record SettledAll (points : ℕ) (buffer buffer' os' ns' vs' : List ℕ) (r : Weighed) : Type 0 where
+    pub outcome : weighedOf r ≡ weighed (crowdedIn b os ns vs count before after times base w) (nodeCount b) (points - figure after (lastNode b)) (length (gather (entriesOut b os ns vs count before after times base w) (range 0 (nodeCount b)))) (length reportIn) (length buffer)
+    pub written : buffer' ≡ bufferAfter (weighedOf r) reportIn buffer
+    pub kept : (words kept : ℕ) → r ≡ Written words kept → (entriesFrom os' ns' vs' 0 kept ≡ gather (entriesOut b os ns vs count before after times base w) (range 0 (nodeCount b))) × (kept ≤ mostKept)

@@ -1,0 +1,388 @@
+// Refusals 13 to 16 and the report: all nodes' turns in the room that a call asks, what they leave weighed, and the report written.
+use meaning::Point;
+use turns::Turns;
+ghost use Prim.Native.Nat.{_-_, _≤_, _<_};
+ghost use lib.ListN.{length, getD};
+ghost use Rattle.meaning.specs.Outcome.{mostKept};
+ghost use Rattle.meaning.specs.RuleFile.{lastNode};
+ghost use Rattle.shelf.specs.Entries.{Stands};
+ghost use Rattle.writer.specs.Words.{words, Reportable};
+ghost use Rattle.turns.specs.Turns.{Begun, Roomy};
+ghost use Rattle.weighing.specs.Weighs.{Weighs, SettledAll, Last, lastWords};
+
+// A refusal of a taking, with its place where it has one.
+pub enum Refusal {
+    NotWellFormed,
+    NotAnEvent,
+    RowOut(u32),
+    TimeFalls,
+    LogFull,
+    Crowded(u8),
+    Backlog,
+    KeptOver,
+    BufferShort(u32),
+}
+
+// What weighing 13 to 16 gives: a refusal, or the words written and the entries kept.
+pub enum Weighed {
+    Refused(Refusal),
+    Written(u32, u32),
+}
+
+// Refusals 14 to 16, and the report where none applies: on so many points from i on, which the last node has newly settled. `unsettled` points are left for it, and `kept` entries would be kept.
+fn weigh(
+    rows: &[u32],
+    marks: &[u32],
+    first: usize,
+    low: Point,
+    times: &[u32],
+    base: Point,
+    mask: u8,
+    i: Point,
+    points: u32,
+    unsettled: u32,
+    kept: usize,
+    report: &mut [u32],
+) -> Weighed
+    requires { ⌜ Reportable (now rows) (now marks) first (low .0) (i .0) points ⌝ }
+    requires { ⌜ length (words (now rows) (now marks) first (low .0) (base .0) (now times) mask (i .0) points) < 4294967296 ⌝ }
+    ensures { λ r. ⌜ Weighs unsettled kept (words (now (rows .entry)) (now (marks .entry)) first (low .0) (base .0) (now (times .entry)) mask (i .0) points) (now (report .entry)) (now (report .exit)) r ⌝ }
+{
+    if 32 < unsettled {
+        return Weighed::Refused(Refusal::Backlog);
+    }
+    if 512 < kept {
+        return Weighed::Refused(Refusal::KeptOver);
+    }
+    let needed = writer::words_needed(marks, first, low, i, points, mask);
+    if report.len() < needed {
+        return Weighed::Refused(Refusal::BufferShort(needed as u32));
+    }
+    let written = writer::write(
+        rows,
+        marks,
+        first,
+        low,
+        times,
+        base,
+        mask,
+        i,
+        points,
+        report,
+    );
+    Weighed::Written(written as u32, kept as u32)
+}
+
+// The same from the figures of all nodes, after their turns.
+fn weigh_last(
+    rule: &[u8],
+    rows: &[u32],
+    marks: &[u32],
+    firsts: &[u32],
+    lows: &[u32],
+    masks: &[u8],
+    before: &[u32],
+    after: &[u32],
+    times: &[u32],
+    base: Point,
+    points: u32,
+    kept: usize,
+    report: &mut [u32],
+) -> Weighed
+    requires { ⌜ Last (now rule) (now rows) (now marks) (now firsts) (now lows) (now masks) (now before) (now after) points ⌝ }
+    ensures { λ r. ⌜ Weighs (points - getD (now (after .entry)) (lastNode (now (rule .entry))) 0) kept (lastWords (now (rule .entry)) (now (rows .entry)) (now (marks .entry)) (now (firsts .entry)) (now (lows .entry)) (now (masks .entry)) (now (before .entry)) (now (after .entry)) (base .0) (now (times .entry))) (now (report .entry)) (now (report .exit)) r ⌝ }
+{
+    let x = (rule[2] - 1) as usize;
+    let settled = after[x];
+    let i = before[x];
+    weigh(
+        rows,
+        marks,
+        firsts[x] as usize,
+        Point(lows[x]),
+        times,
+        base,
+        masks[x],
+        Point(i),
+        settled - i,
+        points - settled,
+        kept,
+        report,
+    )
+}
+
+// All nodes' turns, refusals 13 to 16, and the report where none applies.
+fn settle(
+    rule: &[u8],
+    owners: &[u32],
+    numbers: &[u32],
+    values: &[u32],
+    count: usize,
+    lows: &[u32],
+    wants: &[u32],
+    masks: &[u8],
+    before: &[u32],
+    after: &[u32],
+    times: &[u32],
+    base: Point,
+    points: u32,
+    event: &[u32],
+    most: usize,
+    rows: &mut [u32],
+    at: &mut [u32],
+    firsts: &mut [u32],
+    ages: &mut [u32],
+    paired: &mut [u32],
+    spare_ages: &mut [u32],
+    spare_paired: &mut [u32],
+    out_owners: &mut [u32],
+    out_numbers: &mut [u32],
+    out_values: &mut [u32],
+    report: &mut [u32],
+) -> Weighed
+    requires { ⌜ Begun (now rule) (now owners) (now numbers) (now values) count (now before) (now after) (now times) (base .0) (now event) (now lows) (now wants) (now masks) points most ⌝ }
+    requires { ⌜ Roomy (now rows) (now at) (now firsts) (now ages) (now paired) (now «spare_ages») (now «spare_paired») count most ⌝ }
+    requires { ⌜ Stands (now «out_owners») (now «out_numbers») (now «out_values») mostKept ⌝ }
+    ensures { λ r. ⌜ SettledAll (now (rule .entry)) (now (owners .entry)) (now (numbers .entry)) (now (values .entry)) count (now (before .entry)) (now (after .entry)) (now (times .entry)) (base .0) (now (event .entry)) points (now (report .entry)) (now (report .exit)) (now («out_owners» .exit)) (now («out_numbers» .exit)) (now («out_values» .exit)) r ⌝ }
+{
+    let turned = turns::all_turns(
+        rule,
+        owners,
+        numbers,
+        values,
+        count,
+        lows,
+        wants,
+        masks,
+        before,
+        after,
+        times,
+        base,
+        points,
+        event,
+        most,
+        rows,
+        at,
+        firsts,
+        ages,
+        paired,
+        spare_ages,
+        spare_paired,
+        out_owners,
+        out_numbers,
+        out_values,
+    );
+    match turned {
+        Turns::Crowded(x) => Weighed::Refused(Refusal::Crowded(x)),
+        Turns::Kept(kept) => weigh_last(
+            rule,
+            rows,
+            at,
+            firsts,
+            lows,
+            masks,
+            before,
+            after,
+            times,
+            base,
+            points,
+            kept,
+            report,
+        ),
+    }
+}
+
+// The same with room for one newly settled point a node.
+fn settle_usual(
+    rule: &[u8],
+    owners: &[u32],
+    numbers: &[u32],
+    values: &[u32],
+    count: usize,
+    lows: &[u32],
+    wants: &[u32],
+    masks: &[u8],
+    before: &[u32],
+    after: &[u32],
+    times: &[u32],
+    base: Point,
+    points: u32,
+    event: &[u32],
+    out_owners: &mut [u32],
+    out_numbers: &mut [u32],
+    out_values: &mut [u32],
+    report: &mut [u32],
+) -> Weighed
+    requires { ⌜ Begun (now rule) (now owners) (now numbers) (now values) count (now before) (now after) (now times) (base .0) (now event) (now lows) (now wants) (now masks) points 1 ⌝ }
+    requires { ⌜ Stands (now «out_owners») (now «out_numbers») (now «out_values») mostKept ⌝ }
+    ensures { λ r. ⌜ SettledAll (now (rule .entry)) (now (owners .entry)) (now (numbers .entry)) (now (values .entry)) count (now (before .entry)) (now (after .entry)) (now (times .entry)) (base .0) (now (event .entry)) points (now (report .entry)) (now (report .exit)) (now («out_owners» .exit)) (now («out_numbers» .exit)) (now («out_values» .exit)) r ⌝ }
+{
+    let mut rows = [0u32; 6144];
+    let mut at = [0u32; 2081];
+    let mut firsts = [0u32; 32];
+    let mut ages = [0u32; 544];
+    let mut paired = [0u32; 2176];
+    let mut spare_ages = [0u32; 1];
+    let mut spare_paired = [0u32; 1];
+    settle(
+        rule,
+        owners,
+        numbers,
+        values,
+        count,
+        lows,
+        wants,
+        masks,
+        before,
+        after,
+        times,
+        base,
+        points,
+        event,
+        1,
+        &mut rows,
+        &mut at,
+        &mut firsts,
+        &mut ages,
+        &mut paired,
+        &mut spare_ages,
+        &mut spare_paired,
+        out_owners,
+        out_numbers,
+        out_values,
+        report,
+    )
+}
+
+// The same with room for the most points that a node can newly settle.
+fn settle_burst(
+    rule: &[u8],
+    owners: &[u32],
+    numbers: &[u32],
+    values: &[u32],
+    count: usize,
+    lows: &[u32],
+    wants: &[u32],
+    masks: &[u8],
+    before: &[u32],
+    after: &[u32],
+    times: &[u32],
+    base: Point,
+    points: u32,
+    event: &[u32],
+    out_owners: &mut [u32],
+    out_numbers: &mut [u32],
+    out_values: &mut [u32],
+    report: &mut [u32],
+) -> Weighed
+    requires { ⌜ Begun (now rule) (now owners) (now numbers) (now values) count (now before) (now after) (now times) (base .0) (now event) (now lows) (now wants) (now masks) points 65 ⌝ }
+    requires { ⌜ Stands (now «out_owners») (now «out_numbers») (now «out_values») mostKept ⌝ }
+    ensures { λ r. ⌜ SettledAll (now (rule .entry)) (now (owners .entry)) (now (numbers .entry)) (now (values .entry)) count (now (before .entry)) (now (after .entry)) (now (times .entry)) (base .0) (now (event .entry)) points (now (report .entry)) (now (report .exit)) (now («out_owners» .exit)) (now («out_numbers» .exit)) (now («out_values» .exit)) r ⌝ }
+{
+    let mut rows = [0u32; 268288];
+    let mut at = [0u32; 2081];
+    let mut firsts = [0u32; 32];
+    let mut ages = [0u32; 2592];
+    let mut paired = [0u32; 10368];
+    let mut spare_ages = [0u32; 2592];
+    let mut spare_paired = [0u32; 10368];
+    settle(
+        rule,
+        owners,
+        numbers,
+        values,
+        count,
+        lows,
+        wants,
+        masks,
+        before,
+        after,
+        times,
+        base,
+        points,
+        event,
+        65,
+        &mut rows,
+        &mut at,
+        &mut firsts,
+        &mut ages,
+        &mut paired,
+        &mut spare_ages,
+        &mut spare_paired,
+        out_owners,
+        out_numbers,
+        out_values,
+        report,
+    )
+}
+
+// The same in the room that the most newly settled points of a node ask.
+pub fn settle_in_room(
+    rule: &[u8],
+    owners: &[u32],
+    numbers: &[u32],
+    values: &[u32],
+    count: usize,
+    lows: &[u32],
+    wants: &[u32],
+    masks: &[u8],
+    before: &[u32],
+    after: &[u32],
+    times: &[u32],
+    base: Point,
+    points: u32,
+    event: &[u32],
+    most: u32,
+    out_owners: &mut [u32],
+    out_numbers: &mut [u32],
+    out_values: &mut [u32],
+    report: &mut [u32],
+) -> Weighed
+    requires { ⌜ Begun (now rule) (now owners) (now numbers) (now values) count (now before) (now after) (now times) (base .0) (now event) (now lows) (now wants) (now masks) points most ⌝ }
+    requires { ⌜ most ≤ 65 ⌝ }
+    requires { ⌜ Stands (now «out_owners») (now «out_numbers») (now «out_values») mostKept ⌝ }
+    ensures { λ r. ⌜ SettledAll (now (rule .entry)) (now (owners .entry)) (now (numbers .entry)) (now (values .entry)) count (now (before .entry)) (now (after .entry)) (now (times .entry)) (base .0) (now (event .entry)) points (now (report .entry)) (now (report .exit)) (now («out_owners» .exit)) (now («out_numbers» .exit)) (now («out_values» .exit)) r ⌝ }
+{
+    if most <= 1 {
+        return settle_usual(
+            rule,
+            owners,
+            numbers,
+            values,
+            count,
+            lows,
+            wants,
+            masks,
+            before,
+            after,
+            times,
+            base,
+            points,
+            event,
+            out_owners,
+            out_numbers,
+            out_values,
+            report,
+        );
+    }
+    settle_burst(
+        rule,
+        owners,
+        numbers,
+        values,
+        count,
+        lows,
+        wants,
+        masks,
+        before,
+        after,
+        times,
+        base,
+        points,
+        event,
+        out_owners,
+        out_numbers,
+        out_values,
+        report,
+    )
+}
