@@ -83,7 +83,7 @@ all-are x mark number [] = refl
 all-are x mark number (r ∷ rows) = both (both (both (eq-eqb x x refl) (eq-eqb mark mark refl)) (eq-eqb number number refl)) (all-are x mark number rows)
 
 -- the rows of entries
-pub entries-rows : (os ns vs : List ℕ) (from count : ℕ) → map (λ e. e .values) (entriesFrom os ns vs from count) ≡ rowsFrom vs from count
+entries-rows : (os ns vs : List ℕ) (from count : ℕ) → map (λ e. e .values) (entriesFrom os ns vs from count) ≡ rowsFrom vs from count
 unfolding entriesFrom rowsFrom
 entries-rows os ns vs from count = map-twice (λ e. e .values) (entryAt os ns vs) (range from count)
 
