@@ -321,7 +321,7 @@ fn settle_rest(
     Settled::Pairs(n)
 }
 
-// The points from start on before end, of which there is one at least. The node's pairs before them are `old` at the front of the old slices; after them they are at the front of ages and values. The spare slices are needed for more than one point alone.
+// The points from start on before end, of which there is one at least. The node's pairs before them are `old` at the front of the old slices; after them they are at the front of ages and values. The spare slices are needed for more than one point alone. The number of points is there for the contract.
 pub fn settle_new(
     node: Node,
     rule: &[u8],
