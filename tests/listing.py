@@ -1,0 +1,119 @@
+#!/usr/bin/env python3
+"""Runs the listing program on files with known output and on generated inputs beside plain.py, and compares byte for byte.
+
+    rt check listing
+    listing.py [--program PROGRAM] [--seed SEED] CASES [FOLDER ..]
+
+CASES inputs are generated: rules of up to seven nodes (one in five damaged in a byte) with up to 40 events, then in part cut,
+lengthened by stray bytes, given a wrong length word, or replaced by garbage. In each FOLDER every NAME.in is run and what is
+printed compared with NAME.out. The default program is target/bin/listing. Exits with 1 on any difference, or where one of the
+ways to end a run was met less than once in 200 cases.
+"""
+import argparse
+import collections
+import pathlib
+import random
+import struct
+import subprocess
+import sys
+
+import definitions
+import plain
+
+TOP = pathlib.Path(__file__).resolve().parent.parent
+CASES_TO_A_MEETING = 200
+
+
+def log(rng, arities):
+    """Events end to end; where many, their rows are few and far between or many at once."""
+    now, out = rng.choice((0, 3, 2**32 - 60)), []
+    most = rng.choice((2, 4, 32))
+    for _ in range(rng.randint(0, rng.choice((6, 12, 40)))):
+        m = rng.randint(0, most)
+        relations = [rng.randrange(len(arities)) for _ in range(m)]
+        rows = [[rng.randint(0, rng.choice((2, 40))) for _ in range(arities[r])] + [0] * (4 - arities[r]) for r in relations]
+        words = [now, m] + relations + sum(rows, [])
+        fault = rng.random()
+        if fault < 0.04:
+            words[0] = max(0, now - 5)
+        elif fault < 0.07 and m:
+            words[2 + rng.randrange(m)] = len(arities)
+        elif fault < 0.10 and m:
+            words[-1] = 1
+        out.append(struct.pack(f"<{len(words)}I", *words))
+        now = min(now + rng.choice((0, 0, 1, 1, 2, 3, 6, 9)), 2**32 - 1)
+    return b"".join(out)
+
+
+def generated(rng):
+    """What was done to the input, and its bytes."""
+    file, arities = definitions.rule_file(rng)
+    events = log(rng, arities)
+    whole = struct.pack("<I", len(file)) + file + events
+    how = rng.choice(("whole",) * 5 + ("cut in the rule", "cut in the events", "stray bytes", "33 rows", "length", "garbage"))
+    if how == "cut in the rule":
+        whole = whole[:rng.randrange(4 + len(file))]
+    elif how == "cut in the events":
+        whole = whole[:rng.randint(4 + len(file), len(whole))]
+    elif how == "stray bytes":
+        whole += rng.randbytes(rng.randint(1, 7))
+    elif how == "33 rows":
+        whole += struct.pack("<II", 2**32 - 1, rng.choice((33, 34, 2**32 - 1))) + rng.randbytes(rng.choice((0, 100, 700)))
+    elif how == "length":
+        length = rng.choice((0, 1, 11, len(file) - 1, len(file) + 1, 652, 653, 2**31, 2**32 - 1))
+        whole = struct.pack("<I", length) + whole[4:]
+    elif how == "garbage":
+        whole = rng.randbytes(rng.choice((0, 1, 3, 4, 5, 40, 700, 3000)))
+        if rng.random() < 0.5:
+            whole = struct.pack("<I", rng.choice((12, 32, 72, 652))) + bytes([1, 2, 3, 0]) + whole
+    return how, whole
+
+
+def run(program, data):
+    """What the program prints. It ends by itself, whatever it is fed."""
+    done = subprocess.run([program], input=data, stdout=subprocess.PIPE, stderr=subprocess.STDOUT, timeout=60)
+    return done.stdout if done.returncode == 0 else done.stdout + b"ended with %d\n" % done.returncode
+
+
+def differ(what, data, printed, expected):
+    print(f"difference: {what}\ninput {data.hex()}\nprinted\n{printed.decode(errors='replace')}expected\n{expected.decode()}")
+    sys.exit(1)
+
+
+def main():
+    parser = argparse.ArgumentParser()
+    parser.add_argument("--program", default=TOP / "target" / "bin" / "listing")
+    parser.add_argument("--seed", type=int, default=1)
+    parser.add_argument("cases", type=int)
+    parser.add_argument("folders", nargs="*", type=pathlib.Path)
+    args = parser.parse_args()
+    met, lines, rng = collections.Counter(), collections.Counter(), random.Random(args.seed)
+    files = sorted(f for folder in args.folders for f in folder.glob("*.in"))
+    if args.folders and not files:
+        sys.exit("no NAME.in in the folders")
+    for file in files:
+        data, expected = file.read_bytes(), file.with_suffix(".out").read_bytes()
+        printed = run(args.program, data)
+        if printed != expected:
+            differ(file.name, data, printed, expected)
+    for k in range(args.cases):
+        how, data = generated(rng)
+        expected = plain.listing(data).encode()
+        printed = run(args.program, data)
+        if printed != expected:
+            differ(f"case {k} of seed {args.seed}, {how}", data, printed, expected)
+        met[how] += 1
+        for line in expected.decode().split("\n"):
+            words = line.split()
+            if words:
+                lines[" ".join(words[:2]) if words[0] == "refused" else words[0] if words[0].isalpha() else "row"] += 1
+    print(f"{len(files)} files and {args.cases} generated inputs compared; no difference")
+    print("inputs: " + ", ".join(f"{how} {n}" for how, n in sorted(met.items())))
+    print("lines: " + ", ".join(f"{what} {n}" for what, n in sorted(lines.items())))
+    wanted = [lines[what] for what in ("point", "row", "open", "refused 1", "refused 4", "refused 9", "refused 10", "refused 11", "refused 13")]
+    if min(wanted + list(met.values()), default=0) < args.cases // CASES_TO_A_MEETING:
+        sys.exit("something was met too rarely")
+
+
+if __name__ == "__main__":
+    main()

@@ -1,0 +1,264 @@
+// What one taking costs: time after 1,000 and after 1,000,000 points, side by side, and stack.
+//
+//   rt staticlib boundary
+//   rustc -O --edition 2021 -L target/staticlib -o target/speed tests/speed.rs
+//   target/speed
+mod input;
+mod library;
+
+use input::*;
+use library::{State, Taken};
+use std::hint::black_box;
+use std::mem::{size_of, MaybeUninit};
+use std::time::Instant;
+
+// ---- the rules, and the events of each by the point's number
+
+struct Case {
+    name: &'static str,
+    rule: Rule,
+    // The time of a point and its rows; these come again after PERIOD points.
+    step: u32,
+    rows: fn(usize) -> Vec<Row>,
+}
+
+const PERIOD: usize = 1_000;
+const FEW: usize = 1_000;
+const MANY: usize = 1_000_000;
+
+impl Case {
+    fn event(&self, point: usize) -> Vec<u32> {
+        event(point as u32 * self.step, &(self.rows)(point % PERIOD))
+    }
+}
+
+fn rows_of_l(i: usize) -> Vec<Row> {
+    let block = vec![(i / 3 % 8) as u32];
+    match i % 3 {
+        0 => vec![(0, block)],
+        1 if i % 9 != 1 => vec![(1, block)],
+        _ => vec![],
+    }
+}
+
+// "No valve opens without a reading of its block in the last thirty minutes."
+fn half_hour() -> Rule {
+    let nodes = vec![atom(0, &[0]), atom(1, &[0]), node(ONCE, 1, 0, 0, 1_801), node(AND_NOT, 0, 2, 0, 0)];
+    Rule { arities: vec![1, 1], nodes }
+}
+
+// A point every 20 seconds; each of 8 blocks is read every 160 seconds, so some 90 pairs are kept.
+fn rows_of_half_hour(i: usize) -> Vec<Row> {
+    let mut rows = vec![(1, vec![(i % 8) as u32])];
+    if i % 4 == 0 {
+        rows.push((0, vec![(i / 4 % 9) as u32]));
+    }
+    rows
+}
+
+// Eight relations, each seen through two nodes, joined in pairs, and a comparison on top.
+fn nodes_32() -> Rule {
+    let mut nodes = vec![];
+    let mut roots = vec![];
+    for relation in 0..8u8 {
+        let at = nodes.len() as u8;
+        nodes.push(atom(relation, &[0]));
+        let (first, second) = match relation % 4 {
+            0 => (node(ONCE, at, 0, 0, 301), node(PREVIOUS, at + 1, 0, 0, 0)),
+            1 => (node(EVENTUALLY, at, 0, 0, 61), node(ONCE, at + 1, 0, 30, 121)),
+            2 => (node(PREVIOUS, at, 0, 0, 31), node(EVENTUALLY, at + 1, 0, 0, 31)),
+            _ => (node(NEXT, at, 0, 0, 31), node(ONCE, at + 1, 0, 0, 121)),
+        };
+        nodes.extend([first, second]);
+        roots.push(at + 2);
+    }
+    for kind in [OR, SINCE, AND_NOT, UNTIL, OR, NOT_SINCE, OR] {
+        let (a, b) = (roots.remove(0), roots.remove(0));
+        let (c, d) = if kind >= SINCE { (0, 61) } else { (0, 0) };
+        roots.push(nodes.len() as u8);
+        nodes.push(node(kind, a, b, c, d));
+    }
+    let different_from_9 = Node { kind: KEEP, left: roots[0], right: 1, mask: 2, words: [0, 9, 0, 0] };
+    nodes.push(different_from_9);
+    Rule { arities: vec![1; 8], nodes }
+}
+
+fn rows_of_nodes_32(i: usize) -> Vec<Row> {
+    vec![((i % 8) as u32, vec![(i % 4) as u32]), ((i * 5 % 8) as u32, vec![(i / 2 % 4) as u32])]
+}
+
+fn cases() -> Vec<Case> {
+    vec![
+        Case { name: "rule L", rule: rule_l(), step: 7, rows: rows_of_l },
+        Case { name: "the half-hour rule", rule: half_hour(), step: 20, rows: rows_of_half_hour },
+        Case { name: "32 nodes", rule: nodes_32(), step: 10, rows: rows_of_nodes_32 },
+    ]
+}
+
+// ---- time
+
+fn started(rule: &Rule) -> State {
+    let started = library::start(&rule.bytes());
+    assert_eq!(started.number, 0, "{rule}");
+    started.state
+}
+
+fn run(state: &mut State, events: &[Vec<u32>], buffer: &mut [u32]) -> u64 {
+    let mut rows = 0;
+    for e in events {
+        let taken = library::take(state, black_box(e), buffer);
+        assert_eq!(taken.number, 0, "refused at {}", taken.place);
+        *state = taken.state;
+        rows += buffer[2] as u64;
+    }
+    rows
+}
+
+fn median(mut of: Vec<f64>) -> f64 {
+    of.sort_by(f64::total_cmp);
+    of[of.len() / 2]
+}
+
+// The next PERIOD events from a state of FEW points and from one of MANY, by turns, so that both meet the same noise.
+fn time(case: &Case) {
+    let mut buffer = vec![0; LONGEST_REPORT];
+    let mut state = started(&case.rule);
+    let mut from = vec![];
+    for point in (0..MANY).step_by(PERIOD) {
+        let events: Vec<Vec<u32>> = (point..point + PERIOD).map(|i| case.event(i)).collect();
+        run(&mut state, &events, &mut buffer);
+        if point + PERIOD == FEW || point + PERIOD == MANY {
+            let next: Vec<Vec<u32>> = (point + PERIOD..point + 2 * PERIOD).map(|i| case.event(i)).collect();
+            from.push((state, next));
+        }
+    }
+    let mut spent = [vec![], vec![]];
+    let mut rows = [0, 0];
+    for _ in 0..41 {
+        for (k, (state, events)) in from.iter().enumerate() {
+            let mut state = *state;
+            let began = Instant::now();
+            rows[k] = run(&mut state, events, &mut buffer);
+            spent[k].push(began.elapsed().as_nanos() as f64 / PERIOD as f64);
+        }
+    }
+    assert_eq!(rows[0], rows[1]);
+    let [few, many] = spent.map(median);
+    let (name, kept, open) = (case.name, library::kept(&state), library::open(&state).points);
+    println!("{name}: {few:.0} ns an event after {FEW} points, {many:.0} ns after {MANY}, ratio {:.2}; kept {kept}, open {open}", many / few);
+}
+
+// ---- stack
+
+const PAINTED: usize = 8 << 20;
+const PAINT: u64 = 0x5afe_5afe_5afe_5afe;
+
+// Fills the stack below the caller with one word, and answers where that begins.
+#[inline(never)]
+fn paint() -> usize {
+    let mut room = [MaybeUninit::<u64>::uninit(); PAINTED / 8];
+    for word in room.iter_mut() {
+        unsafe { word.as_mut_ptr().write_volatile(PAINT) };
+    }
+    black_box(&mut room).as_ptr() as usize
+}
+
+// The first address from `low` on that isn't painted any more.
+#[inline(never)]
+fn overwritten_from(low: usize) -> usize {
+    let painted = |at: usize| unsafe { (at as *const u64).read_volatile() == PAINT };
+    (low..).step_by(8).find(|at| !painted(*at)).unwrap()
+}
+
+#[inline(never)]
+fn call(state: &State, event: &[u32], buffer: &mut [u32], out: &mut MaybeUninit<Taken>) {
+    out.write(library::take(state, event, buffer));
+}
+
+// Bytes of stack below the caller of one taking: what its frames overwrote, the copy of the state that is passed among them.
+fn stack_of(state: &State, event: &[u32]) -> (usize, Taken) {
+    let (state, event) = (*state, event.to_vec());
+    let measure = move || {
+        let mut buffer = vec![0; LONGEST_REPORT];
+        let mut out = Box::new(MaybeUninit::uninit());
+        let here = 0u64;
+        let low = paint();
+        call(&state, &event, &mut buffer, &mut out);
+        let used = black_box(&here) as *const u64 as usize - overwritten_from(low);
+        (used, unsafe { *out.assume_init() })
+    };
+    std::thread::Builder::new().stack_size(4 * PAINTED).spawn(measure).unwrap().join().unwrap()
+}
+
+fn stack_of_usual(case: &Case) {
+    let mut state = started(&case.rule);
+    let mut buffer = vec![0; LONGEST_REPORT];
+    let events: Vec<Vec<u32>> = (0..FEW).map(|i| case.event(i)).collect();
+    run(&mut state, &events, &mut buffer);
+    let mut most = 0;
+    for point in FEW..FEW + 24 {
+        let (used, taken) = stack_of(&state, &case.event(point));
+        assert_eq!(taken.number, 0);
+        most = most.max(used);
+        state = taken.state;
+    }
+    println!("stack of a usual event, {}: {most} bytes", case.name);
+}
+
+// Points that wait, with rows of 4 values until 512 entries are kept; then one event that settles them all for every node.
+fn stack_of_burst(name: &str, nodes: Vec<Node>, waiting: usize, late: u32) {
+    let atoms = nodes.iter().filter(|n| n.kind == ATOM).count();
+    let rule = Rule { arities: vec![4], nodes };
+    let mut state = started(&rule);
+    let mut buffer = vec![0; LONGEST_REPORT];
+    // each point has `each` rows; the earlier half have 32 between them, the later half `late`
+    let each = 512 / (waiting * atoms) as u32;
+    for i in 0..waiting as u32 {
+        let between = if (i as usize) < waiting / 2 { 32 } else { late };
+        let rows: Vec<Row> = (0..each).map(|k| (0, vec![1, 2, i % (between / each), k])).collect();
+        run(&mut state, &[event(i, &rows)], &mut buffer);
+    }
+    let (kept, open) = (library::kept(&state), library::open(&state).points);
+    let last = event(LONGEST_WINDOW + waiting as u32, &[]);
+    let (used, taken) = stack_of(&state, &last);
+    assert_eq!(taken.number, 0);
+    let times = (0..41).map(|_| {
+        let began = Instant::now();
+        black_box(library::take(black_box(&state), &last, &mut buffer));
+        began.elapsed().as_nanos() as f64
+    });
+    let micros = median(times.collect()) / 1_000.0;
+    println!("burst of {name}: {used} bytes of stack, {micros:.0} us; before it {open} open, {kept} kept; {} points, {} rows", buffer[0], buffer[2]);
+}
+
+// An atom and 31 nodes above it: `bottom` of them eventually, the others previous.
+fn chain(bottom: u8) -> Vec<Node> {
+    let mut nodes = vec![atom(0, &[0, 1, 2, 3])];
+    for x in 0..31 {
+        nodes.push(if x < bottom { node(EVENTUALLY, x, 0, 0, LONGEST_WINDOW) } else { node(PREVIOUS, x, 0, 0, 0) });
+    }
+    nodes
+}
+
+// 15 times until, each the right of the next, over 16 atoms.
+fn untils() -> Vec<Node> {
+    let mut nodes = vec![atom(0, &[0, 1, 2, 3])];
+    for x in (0..30).step_by(2) {
+        nodes.extend([atom(0, &[0, 1, 2, 3]), node(UNTIL, x + 1, x, 0, LONGEST_WINDOW)]);
+    }
+    nodes
+}
+
+fn main() {
+    println!("a state is {} bytes", size_of::<State>());
+    for case in cases() {
+        time(&case);
+    }
+    for case in cases() {
+        stack_of_usual(&case);
+    }
+    stack_of_burst("31 eventually", chain(31), 32, 32);
+    stack_of_burst("15 until", untils(), 32, 32);
+    // a child of "previous" may have one open point more than its parent, and keeps the rows of its last point
+    stack_of_burst("30 previous over eventually", chain(1), 62, 16);
+}
