@@ -6,7 +6,7 @@
 
 Each tree gives a text and a file: the tool must turn either into the other. The text is also tried with comments, line
 ends and parentheses that change nothing, the file with its nodes in another order and damaged in a byte, and events both
-ways; then a table of wrong texts, each with the place of its fault, and the four commands as programs.
+ways; then a table of wrong texts, each with the place of its fault, the four commands as programs, and the examples.
 """
 import collections
 import importlib.machinery
@@ -393,6 +393,16 @@ def try_commands():
     same("help", "grammar" in run("--help")[1].decode(), True, "")
 
 
+def try_examples():
+    """Each text of examples/ gives the rule file beside it, and that file's own text gives it again."""
+    texts = sorted((TOP / "examples").glob("*.text"))
+    for path in texts:
+        file = path.with_suffix(".rule").read_bytes()
+        same("example", outcome(rules.rule_file, path.read_text()), file, path.name)
+        same("example again", outcome(rules.rule_file, read_rule(file, None)), file, path.name)
+    return len(texts)
+
+
 def try_inputs(files):
     """Inputs to text and back, where a text can say them: the same bytes, or the same text if the nodes stood in another order."""
     done = collections.Counter()
@@ -423,12 +433,13 @@ def main():
         try_damaged(rng, file, met)
     try_wrong()
     try_commands()
+    examples = try_examples()
     for key in sorted(met, key=str):
         print(f"{key[0]} {key[1]}: {met[key]}", end="; ")
     wanted = [("kind", k) for k in range(1, 15)] + [("comparison", k) for k in range(4)] + [("arity", k) for k in range(5)] \
         + [("refusal", k) for k in range(1, 8)] + [("window", "without"), ("order", "another"), ("nodes", "32")]
     rare = [key for key in wanted if count >= 3000 and met[key] < LEAST]
-    print(f"\n{count} rules as text and file, {len(WRONG)} wrong texts, {failures} differ", *(f"rare: {k}" for k in rare))
+    print(f"\n{count} rules as text and file, {len(WRONG)} wrong texts, {examples} examples, {failures} differ", *(f"rare: {k}" for k in rare))
     sys.exit(failures > 0 or bool(rare))
 
 
