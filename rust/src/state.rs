@@ -6,7 +6,7 @@ use core::fmt;
 pub struct State(library::State);
 
 impl State {
-    /// A state of the rule with no points.
+    /// A state of the rule with no points. A rule that was checked meets no refusal here.
     pub fn start(rule: &Rule) -> Result<State, Refusal> {
         let started = library::start(rule.file());
         match started.number {

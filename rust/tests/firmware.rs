@@ -144,14 +144,10 @@ fn list(run: &mut Run, seed: u64) {
     let mut draw = Draw::new(seed);
     let meaning = Meaning::of(draw.rule());
     let bytes = meaning.rule.bytes();
-    let at_end = draw.g.one_in(2);
-    run.rule.bytes(bytes.len(), at_end).copy_from_slice(&bytes);
     let Ok(rule) = Rule::check(&bytes) else { run.differ("the rule is refused") };
-    if (Rule::check(run.rule.bytes(bytes.len(), at_end)).err(), rule.reach()) != (None, meaning.reach()) {
-        run.differ("the rule is refused, or has another reach");
-    }
-    if !rule.free_variables().eq((0..4).filter(|v| meaning.pattern_free()[*v])) {
-        run.differ("the pattern has other free variables");
+    let free = (0..4).filter(|v| meaning.pattern_free()[*v]);
+    if rule.reach() != meaning.reach() || !rule.free_variables().eq(free) {
+        run.differ("the rule has another reach or other free variables");
     }
     let Ok(mut state) = State::start(&rule) else { run.differ("start is refused") };
     let (mut log, mut time) = (Log::new(&meaning), draw.first_time());
