@@ -1,0 +1,32 @@
+//! Rule L of the scope, a leak that no closing follows within 60 seconds: takes its four events and prints what the listing
+//! program prints.
+use std::error::Error;
+use yokemango::{Event, Rule, State, REPORT_WORDS};
+
+const LEAK: usize = 0;
+const CLOSE: usize = 1;
+
+fn main() -> Result<(), Box<dyn Error>> {
+    let rule = Rule::check(include_bytes!("../../examples/leak.rule"))?;
+    println!("rule ok reach {}", rule.reach());
+
+    let events = [
+        Event::new(&rule, 100).with(LEAK, &[7])?.with(LEAK, &[9])?,
+        Event::new(&rule, 130).with(CLOSE, &[9])?,
+        Event::new(&rule, 161).with(CLOSE, &[7])?,
+        Event::new(&rule, 191).with(LEAK, &[9])?,
+    ];
+    let mut state = State::start(&rule)?;
+    let mut buffer = [0; REPORT_WORDS];
+    for event in &events {
+        for point in state.take(event, &mut buffer)? {
+            println!("point {} time {} rows {}", point.number(), point.time(), point.rows().len());
+            for row in point.rows() {
+                let values: Vec<String> = row.iter().map(u32::to_string).collect();
+                println!("{}", values.join(" "));
+            }
+        }
+    }
+    println!("open {} kept {}", state.open_points()?, state.kept());
+    Ok(())
+}

@@ -1,0 +1,82 @@
+//! A monitor for metric first-order temporal rules, such as "no valve opens without a reading of its block in the last
+//! thirty minutes". It takes events one by one, in fixed memory, and reports for each point, in the very call that settles
+//! it, exactly the valuations that break the rule. What it does is proved; this crate is a thin safe wrapper around it.
+//!
+//! A rule is checked, a state is started, and events are taken:
+//!
+//! ```
+//! use yokemango::{Event, Refusal, Report, Rule, State, REPORT_WORDS};
+//!
+//! # fn main() -> Result<(), Box<dyn std::error::Error>> {
+//! // a leak (relation 0) that no closing (relation 1) follows within 60 seconds
+//! let file = include_bytes!("../../examples/leak.rule");
+//! let rule = Rule::check(file)?;
+//! assert_eq!(rule.reach(), 61);
+//!
+//! let mut state = State::start(&rule)?;
+//! let mut buffer = [0; REPORT_WORDS];
+//! let leak = Event::new(&rule, 100).with(0, &[7])?.with(0, &[9])?;
+//! assert!(state.take(&leak, &mut buffer)?.is_empty());
+//! let close = Event::new(&rule, 130).with(1, &[9])?;
+//! state.take(&close, &mut buffer)?;
+//!
+//! // 61 seconds after the leak, it is known that valve 7 wasn't closed in time
+//! let report = state.take(&Event::new(&rule, 161), &mut buffer)?;
+//! for point in &report {
+//!     assert_eq!((point.number(), point.time()), (0, 100));
+//!     assert!(point.rows().eq([[7]]));
+//! }
+//!
+//! // a refused event changes nothing
+//! assert_eq!(state.take(&Event::new(&rule, 100), &mut buffer).err(), Some(Refusal::Time));
+//! assert_eq!((state.points(), state.open_points()), (3, Ok(2)));
+//! # Ok(())
+//! # }
+//! ```
+//!
+//! It needs no heap and no operating system. A state is 13,216 bytes; the longest report is 4,326 words.
+//!
+//! To build it, the environment variable `YOKEMANGO_LIB` names the folder that has libboundary.a, the monitor's static
+//! library.
+#![no_std]
+#![deny(missing_docs)]
+#![deny(unsafe_code)]
+
+#[cfg(test)]
+extern crate std;
+
+mod event;
+mod library;
+mod refusal;
+mod report;
+mod rule;
+mod state;
+
+pub use event::{Event, Unfit};
+pub use refusal::Refusal;
+pub use report::{Point, Points, Report, Rows};
+pub use rule::Rule;
+pub use state::State;
+
+/// The bytes of the longest rule file.
+pub const RULE_BYTES: usize = 652;
+/// The most relations of a rule.
+pub const RELATIONS: usize = 8;
+/// The most columns of a relation, and the most variables of a rule.
+pub const COLUMNS: usize = 4;
+/// The most rows of an event, and the most valuations of a node at a point.
+pub const ROWS: usize = 32;
+/// The most points that are accepted and not yet reported.
+pub const OPEN: u32 = 32;
+/// The most kept entries.
+pub const KEPT: u32 = 512;
+/// The most points from a start on.
+pub const POINTS: u32 = 10_000_000;
+/// The longest window, in seconds.
+pub const LONGEST_WINDOW: u32 = 604_800;
+/// The words of the longest event.
+pub const EVENT_WORDS: usize = 162;
+/// The words of the longest report: a buffer of this length never meets [`Refusal::Short`].
+pub const REPORT_WORDS: usize = 4_326;
+/// The words of a state.
+pub const STATE_WORDS: usize = 3_304;

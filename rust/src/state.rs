@@ -1,0 +1,118 @@
+use crate::{library, Event, Refusal, Report, Rule, STATE_WORDS};
+use core::fmt;
+
+/// A running rule: 13,216 bytes that point nowhere. It may be copied and kept anywhere.
+#[derive(Clone, PartialEq, Eq)]
+pub struct State(library::State);
+
+impl State {
+    /// A state of the rule with no points. A rule that was checked meets no refusal here.
+    pub fn start(rule: &Rule) -> Result<State, Refusal> {
+        let started = library::start(rule.file());
+        match started.number {
+            0 => Ok(State(started.state)),
+            number => Err(Refusal::of(number, started.place)),
+        }
+    }
+
+    /// Takes an event and writes what it settles to the front of `buffer`; words past that stay. Refusals are 8 to 16, and
+    /// leave state and buffer as they were.
+    pub fn take<'b>(&mut self, event: &Event, buffer: &'b mut [u32]) -> Result<Report<'b>, Refusal> {
+        self.take_words(event.words(), buffer)
+    }
+
+    /// Takes an event that is given as its words: time, row count m, m relations, m rows of 4 words with unused columns 0.
+    pub fn take_words<'b>(&mut self, event: &[u32], buffer: &'b mut [u32]) -> Result<Report<'b>, Refusal> {
+        let taken = library::take(&self.0, event, buffer);
+        match taken.number {
+            0 => {
+                self.0 = taken.state;
+                Ok(Report::written(&buffer[..taken.words as usize]))
+            }
+            number => Err(Refusal::of(number, taken.place)),
+        }
+    }
+
+    /// The points taken so far.
+    pub fn points(&self) -> u32 {
+        self.0.points
+    }
+
+    /// The kept entries: at most 512.
+    pub fn kept(&self) -> u32 {
+        library::kept(&self.0)
+    }
+
+    /// The points that are taken and not yet reported: at most 32. The refusal is 8.
+    pub fn open_points(&self) -> Result<u32, Refusal> {
+        let open = library::open_points(&self.0);
+        match open.number {
+            0 => Ok(open.points),
+            number => Err(Refusal::of(number, 0)),
+        }
+    }
+
+    /// The state's words, as they stand in memory.
+    pub fn words(&self) -> &[u32; STATE_WORDS] {
+        library::words(&self.0)
+    }
+
+    /// A state of these words, whatever they are. Where they aren't those of a well-formed state, a call meets refusal 8.
+    pub fn from_words(words: &[u32; STATE_WORDS]) -> State {
+        State(library::of_words(words))
+    }
+}
+
+impl fmt::Debug for State {
+    fn fmt(&self, out: &mut fmt::Formatter) -> fmt::Result {
+        out.debug_struct("State").field("points", &self.points()).field("kept", &self.kept()).finish_non_exhaustive()
+    }
+}
+
+#[cfg(test)]
+mod tests {
+    use super::State;
+    use crate::{Event, Refusal, Rule, REPORT_WORDS, STATE_WORDS};
+
+    const LEAK: &[u8] = include_bytes!("../../examples/leak.rule");
+
+    #[test]
+    fn kept_is_as_the_scope_has_it() {
+        let rule = Rule::check(LEAK).unwrap();
+        let mut state = State::start(&rule).unwrap();
+        let mut buffer = [0; REPORT_WORDS];
+        let events = [(100, &[(0, 7), (0, 9)][..], 2), (130, &[(1, 9)], 3), (161, &[(1, 7)], 2), (191, &[(0, 9)], 2)];
+        for (time, rows, kept) in events {
+            let mut event = Event::new(&rule, time);
+            rows.iter().for_each(|(relation, value)| event.push(*relation, &[*value]).unwrap());
+            state.take(&event, &mut buffer).unwrap();
+            assert_eq!(state.kept(), kept);
+        }
+        assert_eq!((state.points(), state.open_points()), (4, Ok(2)));
+    }
+
+    #[test]
+    fn a_refusal_leaves_state_and_buffer() {
+        let rule = Rule::check(LEAK).unwrap();
+        let mut state = State::start(&rule).unwrap();
+        let before = state.clone();
+        let mut buffer = [5; 2];
+        assert_eq!(state.take(&Event::new(&rule, 1), &mut buffer).err(), Some(Refusal::Short { needed: 3 }));
+        assert_eq!(state.take_words(&[1], &mut buffer).err(), Some(Refusal::Event));
+        assert_eq!(state.take_words(&[1, 1, 2, 0, 0, 0, 0], &mut buffer).err(), Some(Refusal::Row { row: 0 }));
+        assert!(state == before && buffer == [5; 2]);
+    }
+
+    #[test]
+    fn words_of_a_state_are_a_state() {
+        let rule = Rule::check(LEAK).unwrap();
+        let mut state = State::start(&rule).unwrap();
+        state.take(&Event::new(&rule, 1).with(0, &[7]).unwrap(), &mut [0; 3]).unwrap();
+        let mut again = State::from_words(state.words());
+        assert!(again == state);
+        assert!(again.take(&Event::new(&rule, 2), &mut [0; 3]).is_ok());
+        let mut nothing = State::from_words(&[0; STATE_WORDS]);
+        assert_eq!(nothing.take(&Event::new(&rule, 2), &mut [0; 3]).err(), Some(Refusal::State));
+        assert_eq!(nothing.open_points(), Err(Refusal::State));
+    }
+}

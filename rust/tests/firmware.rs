@@ -1,0 +1,484 @@
+//! The crate as firmware uses it, beside the keeper of the scope (tests/keeper.rs), which holds the whole log.
+//!
+//!     cargo test --test firmware                 500 lists from seed 1
+//!     cargo test --test firmware -- LISTS SEED   others
+//!
+//! Every buffer that is lent ends, or begins, at a page that can't be read or written, so that a word read or written outside
+//! it stops the run. What is tried:
+//!
+//! - lists of events, some to be refused, each with report buffers of every length from 0 up to enough. The monitor written by
+//!   hand, with which the benchmark compares, takes the accepted ones too;
+//! - states changed in a word: every bit of the words in use and random values in any word. Refusal 8 comes exactly where
+//!   docs/STATE.md has it (tests/formed.rs), and a refusal leaves state and buffer as they were;
+//! - rules damaged in a byte or cut;
+//! - reports damaged in a word or cut, read through the iterators.
+#[path = "../../tests/draw.rs"]
+#[allow(dead_code)]
+mod draw;
+#[path = "../../tests/formed.rs"]
+mod formed;
+#[path = "../benches/compare/incremental.rs"]
+mod incremental;
+#[path = "../../tests/input.rs"]
+mod input;
+#[path = "../../tests/keeper.rs"]
+#[allow(dead_code)]
+mod keeper;
+#[path = "../../tests/library.rs"]
+mod library;
+
+use draw::Draw;
+use input::{event, Random, LONGEST_REPORT};
+use keeper::{point_of, reckon, Log, Meaning};
+use std::process::exit;
+use yokemango::{Event, Refusal, Report, Rule, State, Unfit, STATE_WORDS};
+
+// ---- memory that ends or begins at a page without access
+
+const PAGE: usize = 4_096;
+
+extern "C" {
+    fn mmap(at: *mut u8, length: usize, access: i32, flags: i32, file: i32, offset: i64) -> *mut u8;
+    fn mprotect(at: *mut u8, length: usize, access: i32) -> i32;
+}
+
+struct Fenced {
+    data: *mut u8,
+    length: usize,
+}
+
+impl Fenced {
+    fn new(least: usize) -> Fenced {
+        let length = least.next_multiple_of(PAGE);
+        // read and write; private, of no file
+        let all = unsafe { mmap(std::ptr::null_mut(), length + 2 * PAGE, 3, 0x22, -1, 0) };
+        assert!(all as isize != -1);
+        let fences = unsafe { [mprotect(all, PAGE, 0), mprotect(all.add(PAGE + length), PAGE, 0)] };
+        assert_eq!(fences, [0, 0]);
+        Fenced { data: unsafe { all.add(PAGE) }, length }
+    }
+
+    /// `count` bytes that end at the fence, or begin at it.
+    fn bytes(&mut self, count: usize, at_end: bool) -> &mut [u8] {
+        assert!(count <= self.length);
+        let from = if at_end { self.length - count } else { 0 };
+        unsafe { std::slice::from_raw_parts_mut(self.data.add(from), count) }
+    }
+
+    fn words(&mut self, count: usize, at_end: bool) -> &mut [u32] {
+        let bytes = self.bytes(4 * count, at_end);
+        unsafe { std::slice::from_raw_parts_mut(bytes.as_mut_ptr().cast(), count) }
+    }
+
+    fn copy(&mut self, words: &[u32], at_end: bool) -> &mut [u32] {
+        let room = self.words(words.len(), at_end);
+        room.copy_from_slice(words);
+        room
+    }
+}
+
+// ---- what was tried
+
+#[derive(Default)]
+struct Tally {
+    lists: u64,
+    calls: u64,
+    taken: u64,
+    refusals: [u64; 18],
+    lengths: u64,
+    rows_unfit: u64,
+    states: u64,
+    states_refused: u64,
+    states_taken: u64,
+    rules: u64,
+    rules_accepted: u64,
+    reports: u64,
+    reports_in_form: u64,
+}
+
+struct Run {
+    seed: u64,
+    event: Fenced,
+    report: Fenced,
+    rule: Fenced,
+    tally: Tally,
+}
+
+impl Run {
+    fn differ(&self, what: &str) -> ! {
+        println!("difference in the list of seed {}: {what}", self.seed);
+        exit(1)
+    }
+
+    /// One call with a report buffer of `room` words, by the function for C and by the crate's. What it answers, and the
+    /// buffer before and after it.
+    fn call(&mut self, g: &mut Random, state: &mut State, event: &[u32], room: usize) -> (Result<usize, Refusal>, Vec<u32>, Vec<u32>) {
+        let at_end = g.one_in(2);
+        let event = self.event.copy(event, at_end);
+        let buffer = self.report.words(room, at_end);
+        buffer.iter_mut().for_each(|w| *w = g.next() as u32);
+        let before = buffer.to_vec();
+        let taken = library::take(&raw_of(state.words()), event, buffer);
+        let in_c = buffer.to_vec();
+        buffer.copy_from_slice(&before);
+        let answer = state.take_words(event, buffer).map(|report| 3 + 3 * report.len() + report.columns() * report.total_rows());
+        let after = buffer.to_vec();
+        self.tally.calls += 1;
+        let said = match answer {
+            Ok(words) => (0, 0, words as u32),
+            Err(refusal) => (refusal.number(), refusal.place(), 0),
+        };
+        self.tally.refusals[said.0 as usize] += 1;
+        if (taken.number, taken.place, taken.words) != said || taken.state != raw_of(state.words()) || in_c != after {
+            self.differ(&format!("the function for C gives another answer than {answer:?}, another state or other words"));
+        }
+        (answer, before, after)
+    }
+}
+
+// ---- lists of events
+
+fn list(run: &mut Run, seed: u64) {
+    run.seed = seed;
+    run.tally.lists += 1;
+    let mut draw = Draw::new(seed);
+    let meaning = Meaning::of(draw.rule());
+    let bytes = meaning.rule.bytes();
+    let Ok(rule) = Rule::check(&bytes) else { run.differ("the rule is refused") };
+    let free = (0..4).filter(|v| meaning.pattern_free()[*v]);
+    if rule.reach() != meaning.reach() || !rule.free_variables().eq(free) {
+        run.differ("the rule has another reach or other free variables");
+    }
+    let Ok(mut state) = State::start(&rule) else { run.differ("start is refused") };
+    let (mut log, mut time) = (Log::new(&meaning), draw.first_time());
+    let mut by_hand = incremental::Monitor::new(&bytes);
+    let mut last_report = vec![];
+    for _ in 0..draw.g.from(5, 40) {
+        time = time.saturating_add(draw.step(&meaning.rule, log.open()));
+        let rows = draw.rows();
+        let mut words = event(time, &rows);
+        build(run, &rule, time, &rows, &words);
+        if draw.g.one_in(12) {
+            draw.damage(&mut words, log.last_time());
+        }
+        if let Some(report) = take(run, &mut draw.g, &mut state, &mut log, &words) {
+            if by_hand.take(&words) != report {
+                run.differ("the monitor written by hand gives another report");
+            }
+            last_report = report;
+        }
+        time = log.last_time().unwrap_or(time);
+    }
+    let words = event(time, &draw.rows());
+    let late = event(time.saturating_add(604_800), &draw.rows());
+    other_states(run, &mut draw.g, &state, &[words, late]);
+    damaged_rules(run, &mut draw.g, &bytes);
+    damaged_reports(run, &mut draw.g, &last_report);
+}
+
+/// The builder gives the event's words, and refuses a row too many or of the wrong form.
+fn build(run: &mut Run, rule: &Rule, time: u32, rows: &[input::Row], words: &[u32]) {
+    let mut built = Event::new(rule, time);
+    let pushed = rows.iter().all(|(relation, values)| built.push(*relation as usize, values).is_ok());
+    if !pushed || built.words() != words {
+        run.differ("the builder gives other words");
+    }
+    let arity = rule.columns(0).unwrap_or(0);
+    let faults = [
+        (0, arity + 1, Unfit::OtherColumns { expected: arity }),
+        (8, arity, Unfit::NoRelation),
+        (usize::MAX, arity, Unfit::NoRelation),
+    ];
+    for (relation, columns, why) in faults {
+        if built.push(relation, &vec![0; columns]) != Err(why) || built.words() != words {
+            run.differ("the builder takes a row that doesn't fit");
+        }
+    }
+    run.tally.rows_unfit += faults.len() as u64;
+    if built.rows() == 32 && built.push(0, &vec![0; arity]) != Err(Unfit::TooManyRows) {
+        run.differ("the builder takes a 33rd row");
+    }
+}
+
+/// An event, with every length of buffer that is too short and one that is enough, beside the keeper. The report, if it is
+/// taken.
+fn take(run: &mut Run, g: &mut Random, state: &mut State, log: &mut Log, words: &[u32]) -> Option<Vec<u32>> {
+    let reckoned = point_of(log, words).map(|p| reckon(log, p));
+    let refusal = match &reckoned {
+        Err(refusal) => Some(*refusal),
+        Ok(r) => r.refusal,
+    };
+    let report = reckoned.as_ref().map_or(vec![0; 3], |r| r.report());
+    // a long report's lengths are tried by steps, and near its end one by one
+    let step = 1 + report.len() / 100;
+    let short: Vec<usize> = (0..report.len()).filter(|n| n % step == 0 || n + 3 >= report.len()).collect();
+    let enough = report.len() + g.pick(&[0, 0, 1, 7]);
+    for room in short.into_iter().chain([enough]) {
+        let expected = match refusal {
+            Some(refusal) => Err(refusal),
+            None if room < report.len() => Err((16, report.len() as u32)),
+            None => Ok(report.len()),
+        };
+        let before = state.clone();
+        let (answer, buffer, after) = run.call(g, state, words, room);
+        run.tally.lengths += 1;
+        if answer.map_err(|r| (r.number(), r.place())) != expected {
+            run.differ(&format!("the answer is {answer:?} for {expected:?}"));
+        }
+        let written = answer.unwrap_or(0);
+        if after[..written] != report[..written] || after[written..] != buffer[written..] {
+            run.differ(&format!("the buffer is {after:?}, the report {report:?}"));
+        }
+        if answer.is_err() && *state != before {
+            run.differ("the state of a refused call isn't as it was");
+        }
+    }
+    let figures = |state: &State| (state.points() as usize, state.open_points().map(|n| n as usize), state.kept() as usize);
+    let (None, Ok(r)) = (refusal, reckoned) else { return None };
+    run.tally.taken += 1;
+    *log = r.log;
+    if figures(state) != (log.size(), Ok(r.open), r.kept) {
+        run.differ(&format!("the figures are {:?}", figures(state)));
+    }
+    Some(report)
+}
+
+// ---- states changed in a word
+
+fn other_states(run: &mut Run, g: &mut Random, state: &State, events: &[Vec<u32>; 2]) {
+    let words = *state.words();
+    let raw = raw_of(&words);
+    // where each field begins: rule, length, points, times, retained, owners, numbers, values, count
+    let (length, points, times, retained, owners, numbers, values, count) = (163, 164, 165, 230, 231, 743, 1_255, 3_303);
+    let kept = raw.count as usize;
+    let mut used: Vec<usize> = (0..(raw.length as usize).div_ceil(4)).collect();
+    used.extend([length, points, retained, count]);
+    used.extend((0..raw.retained as usize).map(|k| times + k));
+    for k in 0..kept {
+        used.extend([owners + k, numbers + k]);
+        used.extend((0..4).map(|v| values + 4 * k + v));
+    }
+    // every bit of the words in use in one list of 32, some bits of some of them in the others
+    let every = run.seed % 32 == 0;
+    for w in &used {
+        for bit in 0..32 {
+            if every || g.one_in(128) {
+                let mut changed = words;
+                changed[*w] ^= 1 << bit;
+                other_state(run, g, &changed, events);
+            }
+        }
+    }
+    for _ in 0..100 {
+        let mut changed = words;
+        for _ in 0..g.pick(&[1, 1, 2, 5]) {
+            let w = if g.one_in(2) { used[g.below(used.len())] } else { g.below(STATE_WORDS) };
+            changed[w] = match g.below(5) {
+                0 => changed[w].wrapping_add(1),
+                1 => changed[w].wrapping_sub(1),
+                2 => g.pick(&[0, 1, 32, 64, 65, 66, 512, 513, 652, 10_000_000, 10_000_001, u32::MAX]),
+                3 => words[g.below(STATE_WORDS)],
+                _ => g.next() as u32,
+            };
+        }
+        other_state(run, g, &changed, events);
+    }
+    let noise: [u32; STATE_WORDS] = std::array::from_fn(|_| g.next() as u32);
+    other_state(run, g, &noise, events);
+}
+
+fn raw_of(words: &[u32; STATE_WORDS]) -> library::State {
+    unsafe { std::mem::transmute(*words) }
+}
+
+fn other_state(run: &mut Run, g: &mut Random, words: &[u32; STATE_WORDS], events: &[Vec<u32>; 2]) {
+    run.tally.states += 1;
+    let well_formed = formed::well_formed(&raw_of(words));
+    let mut state = State::from_words(words);
+    // a state that is taken is taken on
+    for k in 0..3 {
+        let before = state.clone();
+        let event = &events[(k + run.tally.states as usize) % 2];
+        let room = g.pick(&[0, 3, 40, LONGEST_REPORT]);
+        let (answer, buffer, after) = run.call(g, &mut state, event, room);
+        if (answer == Err(Refusal::State)) == well_formed || state.open_points().is_ok() != well_formed {
+            run.differ(&format!("a state that is well formed: {well_formed} is answered {answer:?}"));
+        }
+        let written = match answer {
+            Ok(words) => words,
+            Err(refusal) if !(8..=16).contains(&refusal.number()) => run.differ(&format!("a taking answers {refusal}")),
+            Err(_) if state != before => run.differ("the state of a refused call isn't as it was"),
+            Err(_) => 0,
+        };
+        if after.get(written..) != buffer.get(written..) {
+            run.differ("words past the report are changed");
+        }
+        if written > 0 && read(&after[..written]).is_none() {
+            run.differ(&format!("{:?} is written, which is no report", &after[..written]));
+        }
+        run.tally.states_taken += (written > 0) as u64;
+        run.tally.states_refused += (answer == Err(Refusal::State)) as u64;
+        if answer == Err(Refusal::State) {
+            return;
+        }
+    }
+}
+
+/// Rule L with 32 leaks kept at its first point, and with one more, which no log has.
+fn crowded_states(run: &mut Run, g: &mut Random) {
+    let rule = Rule::check(include_bytes!("../../examples/leak.rule")).unwrap();
+    let mut state = State::start(&rule).unwrap();
+    let leaks: Vec<input::Row> = (0..32).map(|v| (0, vec![v])).collect();
+    state.take_words(&event(100, &leaks), &mut [0; 3]).unwrap();
+    let mut words = *state.words();
+    let (owners, numbers, values, count) = (231, 743, 1_255, 3_303);
+    let events = [event(100, &[]), event(161, &[])];
+    let refused = run.tally.states_refused;
+    for k in [31, 32, 33] {
+        (words[owners + k], words[numbers + k], words[values + 4 * k], words[count]) = (0, 0, k as u32, k as u32 + 1);
+        other_state(run, g, &words, &events);
+    }
+    if run.tally.states_refused != refused + 2 {
+        run.differ("a state with 33 rows of a node at a point isn't refused, or one with 32 is");
+    }
+}
+
+// ---- damaged rules
+
+fn damaged_rules(run: &mut Run, g: &mut Random, rule: &[u8]) {
+    for _ in 0..20 {
+        let mut bytes = rule.to_vec();
+        for _ in 0..g.pick(&[1, 1, 2]) {
+            let at = g.below(bytes.len());
+            bytes[at] = match g.below(3) {
+                0 => bytes[at] ^ 1 << g.below(8),
+                1 => g.pick(&[0, 1, 2, 3, 4, 5, 9, 14, 15, 32, 33]),
+                _ => g.next() as u8,
+            };
+        }
+        match g.below(8) {
+            0 => bytes.truncate(g.below(bytes.len())),
+            1 => bytes.resize(bytes.len() + g.from(1, 40), 0),
+            _ => {}
+        }
+        let at_end = g.one_in(2);
+        let (number, place) = library::check(&bytes);
+        let lent = run.rule.bytes(bytes.len(), at_end);
+        lent.copy_from_slice(&bytes);
+        let started = library::start(lent);
+        let answer = Rule::check(lent);
+        run.tally.rules += 1;
+        let said = answer.as_ref().err().map_or((0, 0), |r| (r.number(), r.place()));
+        if said != (number, place) || (started.number, started.place) != (number, place) {
+            run.differ(&format!("checking and starting answer differently for {bytes:?}"));
+        }
+        let Ok(rule) = answer else {
+            let nothing = started.state == library::NO_STATE && (started.reach, started.free) == (0, 0);
+            if !nothing || !(1..=7).contains(&number) {
+                run.differ(&format!("a refused start isn't of zeros, or its number is {number}"));
+            }
+            run.tally.refusals[number as usize] += 1;
+            continue;
+        };
+        run.tally.rules_accepted += 1;
+        let mut state = State::start(&rule).unwrap();
+        let mut event = Event::new(&rule, 5);
+        let fits = (0..8).filter_map(|r| rule.columns(r).map(|n| (r, n))).all(|(r, n)| event.push(r, &[7; 4][..n]).is_ok());
+        let answer = state.take(&event, &mut vec![0; LONGEST_REPORT]).map(|report| report.len());
+        if !fits || answer.is_err() {
+            run.differ(&format!("a first event of {bytes:?} is answered {answer:?}"));
+        }
+    }
+}
+
+// ---- damaged reports
+
+type Entry = (u32, u32, Vec<Vec<u32>>);
+
+/// The entries of a report by the scope's text, or nothing where the words are none.
+fn read(words: &[u32]) -> Option<Vec<Entry>> {
+    let [p, f, total] = *words.first_chunk::<3>()?;
+    let triples = words.get(3..3 + 3 * p as usize)?.chunks(3);
+    let counted: u64 = triples.clone().map(|t| t[2] as u64).sum();
+    let needed = 3 + 3 * p as u64 + f as u64 * total as u64;
+    if p > 33 || f > 4 || counted != total as u64 || needed > words.len() as u64 {
+        return None;
+    }
+    let mut rest = &words[3 + 3 * p as usize..];
+    let mut entries: Vec<Entry> = vec![];
+    for t in triples {
+        // rows of no words don't ascend
+        if f == 0 && t[2] > 1 {
+            return None;
+        }
+        let (own, after) = rest.split_at(f as usize * t[2] as usize);
+        let rows: Vec<Vec<u32>> = (0..t[2] as usize).map(|k| own[f as usize * k..][..f as usize].to_vec()).collect();
+        if rows.windows(2).any(|w| w[0] >= w[1]) || entries.last().is_some_and(|e| e.0 >= t[0]) {
+            return None;
+        }
+        entries.push((t[0], t[1], rows));
+        rest = after;
+    }
+    Some(entries)
+}
+
+fn damaged_reports(run: &mut Run, g: &mut Random, report: &[u32]) {
+    for k in 0..20 {
+        let mut words = report.to_vec();
+        if k > 0 && !words.is_empty() {
+            let at = g.below(words.len());
+            words[at] = match g.below(4) {
+                0 => words[at].wrapping_add(1),
+                1 => words[at].wrapping_sub(1),
+                2 => g.pick(&[0, 1, 2, 4, 5, 33, 34, u32::MAX]),
+                _ => words[g.below(words.len())],
+            };
+            match g.below(4) {
+                0 => words.truncate(g.below(words.len())),
+                1 => words.extend([g.next() as u32, 0]),
+                _ => {}
+            }
+        }
+        let expected = read(&words);
+        let lent = run.report.copy(&words, g.one_in(2));
+        let got = Report::read(lent).map(|report| {
+            let points = report.points();
+            let exact = points.len() == points.clone().count() && points.clone().all(|p| p.rows().len() == p.rows().count());
+            let rows = |p: &yokemango::Point| p.rows().map(<[u32]>::to_vec).collect::<Vec<_>>();
+            let back = |p: &yokemango::Point| p.rows().rev().map(<[u32]>::to_vec).collect::<Vec<_>>();
+            let turned = points.clone().all(|p| rows(&p).into_iter().rev().eq(back(&p)));
+            (exact && turned, points.map(|p| (p.number(), p.time(), rows(&p))).collect::<Vec<Entry>>())
+        });
+        run.tally.reports += 1;
+        run.tally.reports_in_form += expected.is_some() as u64;
+        run.tally.refusals[17] += expected.is_none() as u64;
+        if got != expected.map(|e| (true, e)).ok_or(Refusal::Report) {
+            run.differ(&format!("{words:?} is read as {got:?}"));
+        }
+    }
+}
+
+fn main() {
+    let mut args = std::env::args().skip(1).filter_map(|a| a.parse::<u64>().ok());
+    let (lists, seed) = (args.next().unwrap_or(500), args.next().unwrap_or(1));
+    let words = 4 * (LONGEST_REPORT + 16);
+    let mut run = Run { seed, event: Fenced::new(PAGE), report: Fenced::new(words), rule: Fenced::new(PAGE), tally: Tally::default() };
+    crowded_states(&mut run, &mut Random(seed));
+    for k in 0..lists {
+        list(&mut run, seed.wrapping_add(k));
+    }
+    let t = &run.tally;
+    println!("{} lists, {} events taken, {} calls; {} of them with a buffer of some length up to enough", t.lists, t.taken, t.calls, t.lengths);
+    println!("{} rows that the builder refused", t.rows_unfit);
+    println!("{} changed states: {} refused by 8, {} events taken from the others", t.states, t.states_refused, t.states_taken);
+    println!("{} damaged rules, {} of them accepted; {} reports, {} of them in form", t.rules, t.rules_accepted, t.reports, t.reports_in_form);
+    let rare: Vec<String> = t.refusals.iter().enumerate().skip(1).filter(|(n, met)| **met < lists / 25 && *n != 12).map(|(n, _)| n.to_string()).collect();
+    for (number, met) in t.refusals.iter().enumerate().skip(1) {
+        println!("refusal {number}: {met}");
+    }
+    println!("no difference");
+    if lists >= 500 && !rare.is_empty() {
+        println!("refusals met too rarely: {}", rare.join(", "));
+        exit(1);
+    }
+}

@@ -1,0 +1,23 @@
+#!/bin/sh
+# What firmware uses, with the static library: the header from C and C++, the Rust crate, the example in both, and the
+# crate's random lists once more under valgrind. YOKEMANGO_LIB may name another folder that has libboundary.a.
+set -eu
+cd "$(dirname "$0")/.."
+export YOKEMANGO_LIB="${YOKEMANGO_LIB:-$PWD/target/staticlib}" CARGO_TARGET_DIR="$PWD/target/cargo"
+
+for standard in c99 c17; do
+    cc -std=$standard -Wall -Wextra -pedantic -Werror -g -fsanitize=address,undefined -fno-sanitize-recover=all -Iinclude \
+        -o target/header tests/header.c -L"$YOKEMANGO_LIB" -lboundary
+    target/header examples/leak.rule
+done
+c++ -x c++ -std=c++11 -Wall -Wextra -pedantic -Werror -fsyntax-only include/yokemango.h
+
+cc -std=c99 -Wall -Wextra -pedantic -Werror -O2 -Iinclude -o target/leak examples/leak.c -L"$YOKEMANGO_LIB" -lboundary
+target/leak examples/leak.rule | diff - examples/leak.out
+cd rust
+cargo run --offline --quiet --example leak | diff - ../examples/leak.out
+echo "the example prints the same in C and in Rust"
+
+cargo test --offline --quiet
+program=$(cargo test --offline --no-run --test firmware --message-format=json 2>/dev/null | sed -n 's/.*"executable":"\([^"]*firmware[^"]*\)".*/\1/p')
+valgrind --quiet --error-exitcode=1 "$program" 8 1

@@ -1,0 +1,445 @@
+#!/usr/bin/env python3
+"""Holds tools/rules to rule files and texts that are made here, from the same trees, by code of their own.
+
+    text.py [CASES [SEED]]   default: 3,000 cases, seed 1
+    text.py FILE.in ..       turns inputs of the listing program to text and back
+
+Each tree gives a text and a file: the tool must turn either into the other. The text is also tried with comments, line
+ends and parentheses that change nothing, the file with its nodes in another order and damaged in a byte, and events both
+ways; then a table of wrong texts, each with the place of its fault, the four commands as programs, and the examples.
+"""
+import collections
+import importlib.machinery
+import importlib.util
+import pathlib
+import random
+import struct
+import subprocess
+import sys
+
+import plain
+
+TOP = pathlib.Path(__file__).resolve().parent.parent
+TOOL = TOP / "tools" / "rules"
+loader = importlib.machinery.SourceFileLoader("rules", str(TOOL))
+rules = importlib.util.module_from_spec(importlib.util.spec_from_loader("rules", loader))
+sys.dont_write_bytecode = True
+loader.exec_module(rules)
+
+VARIABLES = "xyzw"
+PREFIX = {7: "previous", 8: "next", 13: "once", 14: "eventually"}
+INFIX = {9: "since", 10: "not since", 11: "until", 12: "not until"}
+LEAST = 50  # how often each kind, comparison, arity and refusal must be met
+
+# Texts with a fault, which begins where the bar stands, and what is said of it.
+WRONG = [
+    ("|", "expected a relation"),
+    ("# only a comment|", "expected a relation"),
+    ("|$", "`$` has no meaning here"),
+    ("a(x) |& b(x)", "`&` has no meaning here"),
+    ("|x < 3", "a comparison stands after `and`"),
+    ("x|", "expected `(`"),
+    ("next|(x)", "expected a window, as in `next [0, 61)`"),
+    ("a(x) and |or(x)", "expected a relation; `or` is a word of the language"),
+    ("a(x, |next)", "expected a variable or a number; `next` is a word of the language"),
+    ("a(x|", "expected `,` or `)`"),
+    ("a(x |y)", "expected `,` or `)`"),
+    ("a(x,|)", "expected a variable or a number"),
+    ("a(x, y, z, w, |x)", "a relation has at most 4 columns"),
+    ("a(|4294967296)", "a constant is at most 4294967295"),
+    ("a(|99999999999999999999)", "a constant is at most 4294967295"),
+    ("(a(x) and b(x)|", "expected `and`, `or` or `)`"),
+    ("a(x) and b(x)|)", "expected `and`, `or`, an event or the end"),
+    ("a(x) |b(x)", "expected `and`, `or`, an event or the end"),
+    ("|not a(x)", "`not` stands after `and`, or before `since` or `until`"),
+    ("a(x) or |not a(x)", "`not` stands after `and`, or before `since` or `until`"),
+    ("a(x) |not b(x)", "`not` stands after `and`, or before `since` or `until`"),
+    ("a(x) and not b(x, |y)", "`y` is not free in what stands before `and not`"),
+    ("a(x)\n  and not (b(x)\n    and c(|y))", "`y` is not free in what stands before `and not`"),
+    ("a(x) or b(|y)", "`y` is not free in what stands before `or`"),
+    ("a(x) or b(x, |y, y)", "`y` is not free in what stands before `or`"),
+    ("a(x, |y) or b(x)", "`y` is not free in what stands after `or`"),
+    ("a(x) and |y < 3", "`y` is not free in what stands before the comparison"),
+    ("exists x a(x) and |x < 3", "`x` is not free in what stands before the comparison"),
+    ("a(x) and x |> 3", "expected `=`, `!=`, `<` or `>=`: `a > b` is `b < a`"),
+    ("a(x) and 3 |<= x", "expected `=`, `!=`, `<` or `>=`: `a <= b` is `b >= a`"),
+    ("a(x) and x |== 3", "expected `=`, `!=`, `<` or `>=`"),
+    ("a(x) and x| ", "expected `=`, `!=`, `<` or `>=`, or the `(` of a relation"),
+    ("a(x) and not |x < 3", "a comparison is not denied: `!=` is the denied `=`, and `>=` the denied `<`"),
+    ("exists |y a(x)", "`y` is not free in what stands after it"),
+    ("exists |3 a(x)", "expected a variable"),
+    ("a(x, |y) since [0, 5) b(x)", "`y` is not free in what stands after `since`"),
+    ("a(|y) not until [0, 5) b(x)", "`y` is not free in what stands after `not until`"),
+    ("a(x) since |b(x)", "expected a window, as in `since [0, 61)`"),
+    ("a(x) since [0, 5) b(x) |since [0, 5) c(x)", "`since` after `since`: put one of them in parentheses"),
+    ("a(x) until [0, 5) b(x) |not since [0, 5) c(x)", "`not since` after `until`: put one of them in parentheses"),
+    ("once [0, |0) a(x)", "a window's end is above its start, 0"),
+    ("once [7, |7) a(x)", "a window's end is above its start, 7"),
+    ("once [0, |604801) a(x)", "a window's end is at most 604800"),
+    ("once [|604800, *) a(x)", "a window's start is at most 604799"),
+    ("once [0 |5) a(x)", "expected `,`"),
+    ("once [0, 5|] a(x)", "expected `)`"),
+    ("once [|*, 5) a(x)", "expected a window's start"),
+    ("once [0, |) a(x)", "expected a window's end"),
+    ("eventually [0, |*) a(x)", "`eventually` needs a window with an end"),
+    ("a(x) until [0, |*) b(x)", "`until` needs a window with an end"),
+    ("a(x) not until [0, |*) b(x)", "`not until` needs a window with an end"),
+    ("a(x) and |a(x, y)", "`a` has 1 column elsewhere, here 2"),
+    ("relations a/1\na(x) and |b(x)", "`b` is not among the relations"),
+    ("relations a/2\n|a(x)", "`a` has 2 columns elsewhere, here 1"),
+    ("relations a/1, |a/2 a(x)", "`a` stands twice among the relations"),
+    ("relations a/|5 a(x)", "an arity is at most 4"),
+    ("relations a|(x)", "expected `/`"),
+    ("relations |or/1 or(x)", "expected a relation's name; `or` is a word of the language"),
+    ("relations a/1, b/1, c/1, d/1, e/1, f/1, g/1, h/1, |i/1 a(x)", "a rule has at most 8 relations"),
+    ("a() and b() and c() and d() and e() and f() and g() and h() and |i()", "a rule has at most 8 relations"),
+    ("variables x, |x a(x)", "`x` stands twice among the variables"),
+    ("variables x a(x, |y)", "`y` is not among the variables"),
+    ("variables p, q, r, s, |t a(p)", "a rule has at most 4 variables"),
+    ("a(p, q) and b(r, s) and c(|t)", "a rule has at most 4 variables"),
+    ("a()" + " and a()" * 15 + " |and a()", "a rule has at most 32 nodes"),
+    ("|once [0, 1) " + "once [0, 1) " * 31 + "a()", "a rule has at most 32 nodes"),
+    ("once [0, 1) " * 100 + "|a()", "more than 100 parentheses or operators inside one another"),
+    ("(" * 100 + "|(a()" + ")" * 101, "more than 100 parentheses or operators inside one another"),
+    ("a(x) @|x", "expected a time"),
+    ("a(x) @|4294967296", "a time is at most 4294967295"),
+    ("a(x) @1 a(|x)", "expected a value"),
+    ("a(x)\n@1 a(7)\n@2 a(7) |b(7)", "`b` is not a relation of the rule"),
+    ("a(x)\n@1 |a(7, 8)", "`a` has 1 column elsewhere, here 2"),
+    ("a(x)\n\t@1 a(|4294967296)", "a value is at most 4294967295"),
+    ("a(x)\n@1 |not(3)", "expected a relation; `not` is a word of the language"),
+    ("a(x)\n@1 a(7) |and a(8)", "expected a relation; `and` is a word of the language"),
+    ("a(x)\n@1 a(7)|, a(8)", "expected a row, an event or the end"),
+    ("a()\n@1" + " a()" * 32 + " |a()", "an event has at most 32 rows"),
+]
+
+
+# ---- trees: (kind, children, further fields), free variables beside them
+
+class Maker:
+    def __init__(self, rng):
+        self.rng = rng
+        self.arities = [rng.randint(0, 4) for _ in range(rng.randint(1, 8))]
+        self.early = rng.choice((0, 0.08))  # how often a tree ends before its room is used
+
+    def window(self, ends):
+        c = self.rng.choice((0, 0, 1, 5, 604_799, self.rng.randrange(604_800)))
+        return (c, 0) if not ends and self.rng.random() < 0.3 else (c, self.rng.choice((c + 1, 604_800, self.rng.randint(c + 1, 604_800))))
+
+    def term(self, variables):
+        constant = not variables or self.rng.random() < 0.3
+        return (1, self.rng.choice((0, 1, 3, 4, 4_294_967_295, self.rng.randrange(1 << 32)))) if constant else (0, self.rng.choice(sorted(variables)))
+
+    def atom(self, variables=None):
+        """An atom; if variables are given, of no others."""
+        r = self.rng.randrange(len(self.arities))
+        return 1, (), (r, [self.term(range(4) if variables is None else variables) for _ in range(self.arities[r])])
+
+    def tree(self, room):
+        """A tree of at most `room` nodes."""
+        if room == 1 or self.rng.random() < self.early:
+            return self.atom()
+        if room > 2 and self.rng.random() < 0.6:
+            first = self.rng.randint(1, room - 2)
+            a, b = self.tree(first), self.tree(room - 1 - first)
+            fa, fb = free(a), free(b)
+            kinds = [2] + [3] * (fb <= fa) * 2 + [5] * (fa == fb) * 3 + [9, 10, 11, 12] * (fa <= fb)
+            kind = self.rng.choice(kinds)
+            return kind, (a, b), self.window(kind > 10) if kind > 8 else ()
+        a = self.tree(room - 1)
+        kind = self.rng.choice((4, 6, 7, 8, 13, 14) if free(a) else (4, 7, 8, 13, 14))
+        if kind == 4:
+            return 4, (a,), (self.rng.randrange(4), [self.term(free(a)), self.term(free(a))])
+        return kind, (a,), (self.rng.choice(sorted(free(a))),) if kind == 6 else self.window(kind == 14)
+
+
+def free(tree):
+    kind, below, more = tree
+    if kind == 1:
+        return {v for constant, v in more[1] if not constant}
+    sets = [free(t) for t in below]
+    return sets[0] | sets[1] if kind == 2 else sets[0] - {more[0]} if kind == 6 else sets[1] if 9 <= kind <= 12 else sets[0]
+
+
+def listed(tree, out, later=None):
+    """Writes the tree's nodes to `out`, children first, and gives its number; with `later`, right before left where it says so."""
+    kind, below, more = tree
+    turned = len(below) == 2 and later is not None and later.random() < 0.5
+    numbers = [listed(t, out, later) for t in (below[::-1] if turned else below)]
+    left, right, terms, words = (numbers[::-1] if turned else numbers) + [0] * (2 - len(numbers)) + [[], ()]
+    if kind in (1, 4):
+        left, right, terms = (more[0], 0, more[1]) if kind == 1 else (left, more[0], more[1])
+        words = [w for _, w in terms]
+    else:
+        words = more
+    mask = sum(constant << k for k, (constant, _) in enumerate(terms))
+    out.append(bytes([kind, left, right, mask]) + struct.pack("<4I", *(list(words) + [0] * 4)[:4]))
+    return len(out) - 1
+
+
+def file_of(tree, arities, later=None):
+    nodes = []
+    listed(tree, nodes, later)
+    sizes = bytes([1, len(arities), len(nodes), 0] + arities + [0] * (8 - len(arities)))
+    return sizes + b"".join(n[:4] for n in nodes) + b"".join(n[4:] for n in nodes)
+
+
+def words_of(tree, names, used):
+    """The tree's text as a list of words, and on the way the relations and variables as they come."""
+    kind, below, more = tree
+
+    def term(t):
+        if not t[0]:
+            used["variables"].setdefault(t[1])
+        return str(t[1]) if t[0] else VARIABLES[t[1]]
+
+    def inner(t, *bare):
+        """The text of a child, in parentheses unless its kind is among `bare`."""
+        words = words_of(t, names, used)
+        return words if t[0] in bare else ["(", *words, ")"]
+
+    tight = (1, 6, 7, 8, 13, 14)
+    window = ["[", str(more[0]), ",", str(more[1]) if more[1] else "*", ")"] if kind >= 7 else []
+    if kind == 1:
+        used["relations"].setdefault(more[0])
+        parts = [[term(t)] for t in more[1]]
+        return [names[more[0]], "("] + sum(([","] * (k > 0) + p for k, p in enumerate(parts)), []) + [")"]
+    if kind == 6:
+        used["variables"].setdefault(more[0])
+        return ["exists", VARIABLES[more[0]], *inner(below[0], *tight)]
+    if kind in PREFIX:
+        return [PREFIX[kind], *window, *inner(below[0], *tight)]
+    if kind in INFIX:
+        return [*inner(below[0], *tight), *INFIX[kind].split(), *window, *inner(below[1], *tight)]
+    lasting = tight + (9, 10, 11, 12)
+    if kind == 5:
+        return [*inner(below[0], *lasting, 2, 3, 4, 5), "or", *inner(below[1], *lasting, 2, 3, 4)]
+    left = inner(below[0], *lasting, 2, 3, 4)
+    if kind == 4:
+        return [*left, "and", term(more[1][0]), ["=", "!=", "<", ">="][more[0]], term(more[1][1])]
+    return [*left, "and", *["not"] * (kind == 3), *inner(below[1], *lasting)]
+
+
+def spaced(words):
+    """Words with the spaces that the tool prints."""
+    out = ""
+    for k, w in enumerate(words):
+        glued = w in ",)" or k == 0 or words[k - 1] in "([" or w == "(" and is_name(words[k - 1])
+        out += w if glued else " " + w
+    return out
+
+
+def is_name(word):
+    return word[0].isalpha() and word not in "and or not exists since until previous next once eventually".split() and word not in VARIABLES
+
+
+def text_of(tree, arities, names):
+    """The lines before the formula, and the formula's words."""
+    used = {"relations": {}, "variables": {}}
+    words = words_of(tree, names, used)
+    lines = []
+    if list(used["relations"]) != list(range(len(arities))):
+        lines.append("relations " + ", ".join(f"{n}/{a}" for n, a in zip(names, arities)))
+    if list(used["variables"]) != list(range(len(used["variables"]))):
+        lines.append("variables " + ", ".join(VARIABLES[:max(used["variables"]) + 1]))
+    return lines, words
+
+
+def loosened(rng, words):
+    """The words with comments, line ends and parentheses that change nothing."""
+    wrapped, ends = [], []
+    for k, w in enumerate(words):
+        if is_name(w) and rng.random() < 0.3:
+            wrapped.append("(")
+            ends.append(words.index(")", k))
+        wrapped += [w] + [")"] * ends.count(k)
+    out = ""
+    for k, w in enumerate(wrapped):
+        out += rng.choice(("", " ", "\n", "\t", " # and not (\n")) if w in "(),[" or k and wrapped[k - 1] in "(),[" else rng.choice((" ", "\n", " # )\n"))
+        out += w
+    return f"({out} )"
+
+
+def size(tree):
+    return 1 + sum(map(size, tree[1]))
+
+
+def meet(tree, arities, met):
+    kind, below, more = tree
+    met["kind", kind] += 1
+    if kind == 1:
+        met["arity", arities[more[0]]] += 1
+    if kind == 4:
+        met["comparison", more[0]] += 1
+    if kind >= 7:
+        met["window", "with end" if more[1] else "without"] += 1
+    for t in below:
+        meet(t, arities, met)
+
+
+# ---- the comparison
+
+failures = 0
+
+
+def same(what, got, wanted, shown):
+    global failures
+    if got != wanted:
+        failures += 1
+        if failures <= 5:
+            print(f"{what}:\n  got    {got!r}\n  wanted {wanted!r}\n  from {shown!r}")
+
+
+def outcome(call, *args):
+    """What a call gives, or what it says on a fault."""
+    try:
+        return call(*args)
+    except (rules.Wrong, rules.Unreadable) as e:
+        return f"{type(e).__name__}: {e}"
+
+
+def read_rule(data, names):
+    return rules.rule_text(rules.rule_of(data, names))
+
+
+def events_for(rng, arities):
+    events = []
+    for _ in range(rng.randint(0, 4)):
+        rows = [rng.randrange(len(arities)) for _ in range(rng.choice((0, 1, 2, 32)))]
+        values = [[rng.choice((0, 7, 4_294_967_295)) for _ in range(arities[r])] for r in rows]
+        events.append((rng.choice((0, 100, 4_294_967_295)), rows, values))
+    return events
+
+
+def event_words(e):
+    return [e[0], len(e[1]), *e[1], *(w for v in e[2] for w in (v + [0] * 4)[:4])]
+
+
+def try_tree(rng, met):
+    maker = Maker(rng)
+    tree = maker.tree(rng.randint(1, 32))
+    names = [rng.choice(("leak", "close_", "B2", "x", "r")) + str(k) for k in range(len(maker.arities))]
+    file = file_of(tree, maker.arities)
+    lines, words = text_of(tree, maker.arities, names)
+    text = "\n".join(lines + [spaced(words)]) + "\n"
+    meet(tree, maker.arities, met)
+    met["nodes", "32"] += size(tree) == 32
+    same("accepted", isinstance(plain.check(file), plain.Rule), True, text)
+    same("text to file", outcome(rules.rule_file, text), file, text)
+    same("file to text", outcome(read_rule, file, names), text, file)
+    loose = "\n".join(lines + [loosened(rng, words)])
+    same("loose text to file", outcome(rules.rule_file, loose), file, loose)
+
+    # the same tree with its nodes in another order
+    other = file_of(tree, maker.arities, rng)
+    note = "" if other == file else "# in the file the nodes stand in another order\n"
+    met["order", "another" if note else "the text's"] += 1
+    same("file in another order to text", outcome(read_rule, other, names), note + text, other)
+
+    # events both ways
+    events = events_for(rng, maker.arities)
+    data = struct.pack("<I", len(file)) + file + b"".join(struct.pack(f"<{len(w)}I", *w) for w in map(event_words, events))
+    shown = text + "".join(f"@{t}" + "".join(f" {names[r]}({', '.join(map(str, v))})" for r, v in zip(rows, values)) + "\n" for t, rows, values in events)
+    met["events", "both ways"] += len(events)
+    same("text to input", outcome(rules.listing_input, shown), data, shown)
+    same("input to text", outcome(rules.input_text, data, names), shown, data)
+    return file
+
+
+def try_damaged(rng, file, met):
+    data = bytearray(file)
+    for _ in range(rng.randint(1, 2)):
+        data[rng.randrange(rng.choice((12, 12 + 4 * file[2], len(data), len(data))))] = rng.choice((0, 1, 2, 3, 4, 9, 15, rng.randrange(256)))
+    if rng.random() < 0.1:
+        data = data[:rng.randrange(len(data))]
+    checked = plain.check(bytes(data))
+    wanted = checked if isinstance(checked, tuple) else None
+    met["refusal", wanted[0] if wanted else "none"] += 1
+    same("refusal", rules.refusal(bytes(data)), wanted, bytes(data))
+
+
+def try_wrong():
+    for marked, said in WRONG:
+        at, text = marked.index("|"), marked.replace("|", "")
+        try:
+            rules.read_text(text)
+        except rules.Wrong as e:
+            same("place and words", (e.at, str(e)), (at, said), text)
+            continue
+        same("refused", False, True, text)
+
+
+def try_commands():
+    def run(*words, stdin=b""):
+        done = subprocess.run([sys.executable, TOOL, *words], input=stdin, capture_output=True)
+        return done.returncode, done.stdout, done.stderr.decode()
+
+    rule = "leak(x) and not eventually [0, 61) close(x)\n"
+    events = "@100 leak(7) leak(9)\n@130 close(9)\n@161 close(7)\n@191 leak(9)\n"
+    shipped = (TOP / "examples" / "leak.rule").read_bytes()
+    same("write-rule", run("write-rule", stdin=rule.encode()), (0, shipped, ""), rule)
+    same("read-rule", run("read-rule", "--names", "leak,close", str(TOP / "examples" / "leak.rule")), (0, rule.encode(), ""), "leak.rule")
+    status, data, _ = run("write-input", str(TOP / "examples" / "leak.text"))
+    same("write-input", (status, plain.listing(data)), (0, (TOP / "examples" / "leak.out").read_text()), "leak.text")
+    same("read-input", run("read-input", "--names", "leak,close", stdin=data), (0, (rule + events).encode(), ""), data)
+    fault = "text:2:4: `b` is not free in what stands before `or`\n\tb(b)\n\t  ^\n"
+    same("a fault", run("write-rule", stdin=b"a(x) or\n\tb(b)\n"), (1, b"", fault), "")
+    same("no text", run("write-rule", stdin=b"a(\xff)"), (1, b"", "byte 2 is not of a text in UTF-8\n"), "")
+    same("a refused file", run("read-rule", stdin=shipped[:-1]), (1, b"", "the rule: refused 1 place 0\n"), "")
+    same("a cut event", run("read-input", stdin=data[:-1]), (1, b"", "event 3 is cut short\n"), "")
+    same("too few names", run("read-rule", "--names", "leak", stdin=shipped), (1, b"", "the rule has 2 relations, and 1 names are given\n"), "")
+    same("no such command", run("print")[0], 2, "")
+    same("help", "grammar" in run("--help")[1].decode(), True, "")
+
+
+def try_examples():
+    """Each text of examples/ gives the rule file beside it, and that file's own text gives it again."""
+    texts = sorted((TOP / "examples").glob("*.text"))
+    for path in texts:
+        file = path.with_suffix(".rule").read_bytes()
+        same("example", outcome(rules.rule_file, path.read_text()), file, path.name)
+        same("example again", outcome(rules.rule_file, read_rule(file, None)), file, path.name)
+    return len(texts)
+
+
+def try_inputs(files):
+    """Inputs to text and back, where a text can say them: the same bytes, or the same text if the nodes stood in another order."""
+    done = collections.Counter()
+    for f in files:
+        data = open(f, "rb").read()
+        text = outcome(rules.input_text, data)
+        if text.startswith("Unreadable"):
+            done["not in form"] += 1
+            continue
+        back = outcome(rules.listing_input, text)
+        if text.startswith("#"):
+            done["in another order"] += 1
+            same("text", outcome(rules.input_text, back), text.split("\n", 1)[1], f)
+        else:
+            done["the same bytes"] += 1
+            same("bytes", back, data, f)
+    print(*(f"{k}: {n};" for k, n in sorted(done.items())), f"{failures} differ")
+
+
+def main():
+    if any(a.endswith(".in") for a in sys.argv[1:]):
+        try_inputs(sys.argv[1:])
+        sys.exit(failures > 0)
+    count, seed = (int(a) for a in (sys.argv[1:] + ["3000", "1"][len(sys.argv) - 1:]))
+    rng, met = random.Random(seed), collections.Counter()
+    for _ in range(count):
+        file = try_tree(rng, met)
+        try_damaged(rng, file, met)
+    try_wrong()
+    try_commands()
+    examples = try_examples()
+    for key in sorted(met, key=str):
+        print(f"{key[0]} {key[1]}: {met[key]}", end="; ")
+    wanted = [("kind", k) for k in range(1, 15)] + [("comparison", k) for k in range(4)] + [("arity", k) for k in range(5)] \
+        + [("refusal", k) for k in range(1, 8)] + [("window", "without"), ("order", "another"), ("nodes", "32")]
+    rare = [key for key in wanted if count >= 3000 and met[key] < LEAST]
+    print(f"\n{count} rules as text and file, {len(WRONG)} wrong texts, {examples} examples, {failures} differ", *(f"rare: {k}" for k in rare))
+    sys.exit(failures > 0 or bool(rare))
+
+
+main()
