@@ -1,7 +1,11 @@
-// "Check a rule" and "Read rows" for programs in other languages. A slice is passed as its address and then its length.
+// The operations for programs in other languages. A slice is passed as its address and then its length.
+use monitor::Answer;
+use monitor::State;
 use report::Counted;
 use rulefile::Checked;
 use rulefile::check;
+use taking::Open;
+use weighing::Refusal;
 ghost use mathlib.Core.Path.{_≡_};
 ghost use Rattle.meaning.specs.RuleFile.{checking};
 ghost use Rattle.rulefile.specs.Checked.{answerOf};
@@ -9,7 +13,12 @@ ghost use Rattle.boundary.specs.Parts.{partsOf};
 ghost use lib.ListN.{length};
 ghost use Rattle.meaning.specs.Report.{readCount, readRows};
 ghost use Rattle.report.specs.Answer.{partOf};
+ghost use Rattle.method.specs.Step.{keptStored};
+ghost use Rattle.weighing.specs.Weighs.{refusalOf};
+ghost use Rattle.monitor.specs.State.{stored};
+ghost use Rattle.monitor.specs.Contracts.{answerOf as answered};
 ghost use Rattle.boundary.specs.Exported.{countOrNone, wordOrNone};
+ghost use Rattle.boundary.specs.Told.{toldOf, StartsAs, TakesAs, openOf};
 
 pub struct Parts {
     pub number: u32,
@@ -120,5 +129,117 @@ pub extern "C" fn yokemango_rows_word(report: &[u32], k: usize, i: usize) -> u64
         rows[i] as u64
     } else {
         4294967296
+    }
+}
+
+// What starting gives: 0, or the refusal's number and place; the reach and free variables; and the state, zeros where the rule is refused.
+#[repr(C)]
+pub struct StartParts {
+    pub number: u32,
+    pub place: u32,
+    pub reach: u32,
+    pub free: u32,
+    pub state: State,
+}
+
+// What a taking gives: 0 and the words written, or the refusal's number and place; and the state, as it was on a refusal.
+#[repr(C)]
+pub struct TakeParts {
+    pub number: u32,
+    pub place: u32,
+    pub words: u32,
+    pub state: State,
+}
+
+// 0 and the figure `open`, or 8.
+#[repr(C)]
+pub struct OpenParts {
+    pub number: u32,
+    pub points: u32,
+}
+
+// The answer of a taking in numbers.
+pub struct Told {
+    pub number: u32,
+    pub place: u32,
+    pub words: u32,
+}
+
+fn told_refusal(r: Refusal) -> Told
+    ensures { λ t. ⌜ t ≡ toldOf (refusalOf r) ⌝ }
+{
+    match r {
+        Refusal::NotWellFormed => Told { number: 8, place: 0, words: 0 },
+        Refusal::NotAnEvent => Told { number: 9, place: 0, words: 0 },
+        Refusal::RowOut(k) => Told { number: 10, place: k, words: 0 },
+        Refusal::TimeFalls => Told { number: 11, place: 0, words: 0 },
+        Refusal::LogFull => Told { number: 12, place: 0, words: 0 },
+        Refusal::Crowded(x) => Told { number: 13, place: x as u32, words: 0 },
+        Refusal::Backlog => Told { number: 14, place: 0, words: 0 },
+        Refusal::KeptOver => Told { number: 15, place: 0, words: 0 },
+        Refusal::BufferShort(n) => Told { number: 16, place: n, words: 0 },
+    }
+}
+
+fn told_answer(a: Answer) -> Told
+    ensures { λ t. ⌜ t ≡ toldOf (answered a) ⌝ }
+{
+    match a {
+        Answer::Written(words) => Told { number: 0, place: 0, words },
+        Answer::Refused(r) => told_refusal(r),
+    }
+}
+
+// Starts a state: any bytes.
+#[no_mangle]
+pub extern "C" fn yokemango_start(rule: &[u8]) -> StartParts
+    ensures { λ r. ⌜ StartsAs (now (rule .entry)) r ⌝ }
+{
+    let started = monitor::start(rule);
+    let checked = started.checked;
+    let state = started.state;
+    let parts = parts_of(checked);
+    StartParts {
+        number: parts.number,
+        place: parts.place,
+        reach: parts.reach,
+        free: parts.free,
+        state,
+    }
+}
+
+// Takes an event: any state, any event words, any report buffer.
+#[no_mangle]
+pub extern "C" fn yokemango_take(state: State, event: &[u32], report: &mut [u32]) -> TakeParts
+    ensures { λ r. ⌜ TakesAs state (now (event .entry)) (now (report .entry)) r (now (report .exit)) ⌝ }
+{
+    let step = monitor::take(state, event, report);
+    let answer = step.answer;
+    let next = step.state;
+    let told = told_answer(answer);
+    TakeParts {
+        number: told.number,
+        place: told.place,
+        words: told.words,
+        state: next,
+    }
+}
+
+// How many entries a state keeps.
+#[no_mangle]
+pub extern "C" fn yokemango_kept(state: State) -> u32
+    ensures { λ r. ⌜ r ≡ keptStored (stored state) ⌝ }
+{
+    monitor::kept(state)
+}
+
+// The figure `open` of a state.
+#[no_mangle]
+pub extern "C" fn yokemango_open_points(state: State) -> OpenParts
+    ensures { λ r. ⌜ r ≡ openOf (stored state) ⌝ }
+{
+    match monitor::open_points(state) {
+        Open::Points(n) => OpenParts { number: 0, points: n },
+        Open::NotWellFormed => OpenParts { number: 8, points: 0 },
     }
 }

@@ -1,0 +1,18 @@
+-- What a state stores: the first bytes of the rule, the first times and the first entries, as many as its figures say.
+use Prim.Native.Nat.{ℕ}
+use mathlib.Core.List.{List, []}
+use lib.ListN.{replicate}
+use Rattle.method.specs.Stored.{Stored}
+use Rattle.taking.specs.Answers.{storedFront}
+use Rattle.monitor.specs.declared.State.{State}
+
+abbrev pub stored : State → Stored
+stored s = storedFront (s .rule) (s .bytes) (s .points) (s .times) (s .retained) (s .owners) (s .numbers) (s .values) (s .count)
+
+-- a rule with no points, times or entries
+abbrev pub nothing : List ℕ → Stored
+nothing b = record { rule = b; points = 0; times = []; entries = [] }
+
+-- the state of zeros
+unfoldable pub blank : State
+blank = record { rule = replicate 652 0; bytes = 0; points = 0; times = replicate 65 0; retained = 0; owners = replicate 512 0; numbers = replicate 512 0; values = replicate 2048 0; count = 0 }

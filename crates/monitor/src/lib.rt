@@ -1,0 +1,177 @@
+// The monitor: its state, starting it, taking events, and the figures to be read off it.
+use rulefile::Checked;
+use taking::Open;
+use taking::Taken;
+use weighing::Refusal;
+ghost use mathlib.Core.Path.{_≡_};
+ghost use Prim.Native.Nat.{_≤_};
+ghost use lib.ListN.{length, take};
+ghost use Rattle.method.specs.Step.{keptStored};
+ghost use Rattle.taking.specs.Answers.{Opens};
+ghost use Rattle.monitor.specs.State.{stored, nothing, blank};
+ghost use Rattle.monitor.specs.Contracts.{Starts, Takes};
+
+// What is kept between calls, by value: the rule's bytes and how many they are; the points accepted; the retained times and how many they are; the kept entries, each with its owner (a node twice, and 1 more for a pair), the number of its point or its age, and its four values; and their count.
+#[repr(C)]
+pub struct State {
+    pub rule: [u8; 652],
+    pub bytes: u32,
+    pub points: u32,
+    pub times: [u32; 65],
+    pub retained: u32,
+    pub owners: [u32; 512],
+    pub numbers: [u32; 512],
+    pub values: [u32; 2048],
+    pub count: u32,
+}
+
+// What starting gives: the answer of checking the rule, and where it is accepted the state of an empty log.
+pub struct Started {
+    pub checked: Checked,
+    pub state: State,
+}
+
+// The answer of a taking: the words written, or the refusal.
+pub enum Answer {
+    Written(u32),
+    Refused(Refusal),
+}
+
+// What a taking gives back: the state, which a refusal leaves as it was, and the answer.
+pub struct Step {
+    pub state: State,
+    pub answer: Answer,
+}
+
+// Copies bytes to the front of others.
+fn copy_bytes(from: &[u8], to: &mut [u8])
+    requires { ⌜ length (now from) ≤ length (now to) ⌝ }
+    ensures { λ _. ⌜ take (length (now (from .entry))) (now (to .exit)) ≡ now (from .entry) ⌝ }
+{
+    let n = from.len();
+    let mut k = 0;
+    while k < n {
+        to[k] = from[k];
+        k += 1;
+    }
+}
+
+// A state of zeros.
+fn zeros() -> State
+    ensures { λ r. ⌜ r ≡ blank ⌝ }
+{
+    State {
+        rule: [0; 652],
+        bytes: 0,
+        points: 0,
+        times: [0; 65],
+        retained: 0,
+        owners: [0; 512],
+        numbers: [0; 512],
+        values: [0; 2048],
+        count: 0,
+    }
+}
+
+// A state with no points, under a rule.
+fn empty(rule: &[u8]) -> State
+    requires { ⌜ length (now rule) ≤ 652 ⌝ }
+    ensures { λ r. ⌜ stored r ≡ nothing (now (rule .entry)) ⌝ }
+{
+    let mut bytes = [0u8; 652];
+    copy_bytes(rule, &mut bytes);
+    let n = rule.len();
+    let mut state = zeros();
+    state.rule = bytes;
+    state.bytes = n as u32;
+    state
+}
+
+// Starts a state: any bytes. Where the rule is refused the state is one of zeros.
+pub fn start(rule: &[u8]) -> Started
+    ensures { λ r. ⌜ Starts (now (rule .entry)) r ⌝ }
+{
+    let checked = rulefile::check(rule);
+    let Checked::Accepted(_, _) = checked else {
+        let state = zeros();
+        return Started { checked, state };
+    };
+    let state = empty(rule);
+    Started { checked, state }
+}
+
+// Takes an event: any state, any event words, any report buffer.
+pub fn take(state: State, event: &[u32], report: &mut [u32]) -> Step
+    ensures { λ r. ⌜ Takes state (now (event .entry)) (now (report .entry)) r (now (report .exit)) ⌝ }
+{
+    let mut times = [0u32; 65];
+    let mut owners = [0u32; 512];
+    let mut numbers = [0u32; 512];
+    let mut values = [0u32; 2048];
+    let taken = taking::take(
+        &state.rule,
+        state.bytes,
+        state.points,
+        &state.times,
+        state.retained,
+        &state.owners,
+        &state.numbers,
+        &state.values,
+        state.count,
+        event,
+        report,
+        &mut times,
+        &mut owners,
+        &mut numbers,
+        &mut values,
+    );
+    match taken {
+        Taken::Refused(refusal) => Step {
+            state,
+            answer: Answer::Refused(refusal),
+        },
+        Taken::Done(words, retained, count) => {
+            let rule = state.rule;
+            let points = state.points + 1;
+            let next = State {
+                rule,
+                bytes: state.bytes,
+                points,
+                times,
+                retained,
+                owners,
+                numbers,
+                values,
+                count,
+            };
+            Step {
+                state: next,
+                answer: Answer::Written(words),
+            }
+        }
+    }
+}
+
+// How many entries a state keeps.
+pub fn kept(s: State) -> u32
+    ensures { λ r. ⌜ r ≡ keptStored (stored s) ⌝ }
+{
+    s.count
+}
+
+// How many points a state has accepted that aren't settled, where it is well formed.
+pub fn open_points(state: State) -> Open
+    ensures { λ r. ⌜ Opens (stored state) r ⌝ }
+{
+    taking::open_points(
+        &state.rule,
+        state.bytes,
+        state.points,
+        &state.times,
+        state.retained,
+        &state.owners,
+        &state.numbers,
+        &state.values,
+        state.count,
+    )
+}

@@ -1,0 +1,474 @@
+// Taking an event, over slices: the checks in the order of their refusals, the counts, all nodes' turns, and the report.
+use events::Admitted;
+use meaning::Point;
+use meaning::Stamp;
+use weighing::Refusal;
+use weighing::Weighed;
+ghost use mathlib.Core.Path.{_≡_};
+ghost use mathlib.Core.List.{[], _∷_, _++_};
+ghost use Prim.Native.Nat.{ℕ, _+_, _-_, _≤_, _<_, max};
+ghost use lib.ListN.{length, getD, take, drop};
+ghost use Rattle.meaning.specs.Outcome.{Outcome, mostKept};
+ghost use Rattle.meaning.specs.RuleFile.{nodeCount};
+ghost use Rattle.method.specs.Stored.{firstRetained};
+ghost use Rattle.method.proofs.Formed.{Formed};
+ghost use Rattle.kinds.specs.Kinds.{EventThere};
+ghost use Rattle.shelf.specs.Entries.{Stands};
+ghost use Rattle.formed.specs.Known.{storedIn, Known};
+ghost use Rattle.events.specs.Answers.{outcomeOf};
+ghost use Rattle.events.specs.declared.Admitted.the-variants.{Fine};
+ghost use Rattle.weighing.specs.Weighs.{refusalOf};
+ghost use Rattle.taking.specs.Answers.{takeAnswer, weighedNow, Finishes, TakesIn, storedFront, Opens};
+ghost use Rattle.taking.specs.Figures.{bare, Counting, Figured, MostNew};
+
+// What a taking gives: a refusal, or the words written, the times retained and the entries kept.
+pub enum Taken {
+    Refused(Refusal),
+    Done(u32, u32, u32),
+}
+
+// The figure `open`, or that the state isn't well formed.
+pub enum Open {
+    Points(u32),
+    NotWellFormed,
+}
+
+// How many nodes the rule has.
+fn node_total(rule: &[u8]) -> usize
+    requires { ⌜ 2 < length (now rule) ⌝ }
+    ensures { λ r. ⌜ r ≡ nodeCount (now (rule .entry)) ⌝ }
+{
+    rule[2] as usize
+}
+
+// The times with one more behind them, put to the front.
+fn put_times(times: &[u32], time: u32, out: &mut [u32])
+    requires { ⌜ length (now times) + 1 ≤ length (now out) ⌝ }
+    ensures { λ _. ⌜ take (length (now (times .entry)) + 1) (now (out .exit)) ≡ now (times .entry) ++ time ∷ [] ⌝ }
+{
+    let n = times.len();
+    let mut k = 0;
+    while k < n {
+        out[k] = times[k];
+        k += 1;
+    }
+    out[n] = time;
+}
+
+// The figures of a call with the event, from how many points each node has settled before it.
+fn figures(
+    rule: &[u8],
+    points: u32,
+    times: &[u32],
+    before: &[u32],
+    event: &[u32],
+    stamps: &mut [u32],
+    after: &mut [u32],
+    wants: &mut [u32],
+)
+    requires { ⌜ Counting (bare (now rule) points (now times)) (now before) ⌝ }
+    requires { ⌜ (0 < length (now event)) × (65 ≤ length (now stamps)) × (32 ≤ length (now after)) × (32 ≤ length (now wants)) ⌝ }
+    ensures { λ _. ⌜ Figured (bare (now (rule .entry)) points (now (times .entry))) (now (event .entry)) (now (stamps .exit)) (now (after .exit)) (now (wants .exit)) ⌝ }
+{
+    let k = times.len();
+    put_times(times, event[0], stamps);
+    let base = Point(progress::less(points, k as u32));
+    progress::counts(rule, &stamps[0..k + 1], base, points + 1, before, after);
+    let n = node_total(rule);
+    wanted::wanted(rule, &after[0..n], wants);
+}
+
+fn greater(a: u32, b: u32) -> u32
+    ensures { λ r. ⌜ r ≡ max a b ⌝ }
+{
+    if a < b { b } else { a }
+}
+
+// By how many points at most a node's count has grown.
+fn most_new(before: &[u32], after: &[u32]) -> u32
+    requires { ⌜ length (now after) ≡ length (now before) ⌝ }
+    ensures { λ r. ⌜ MostNew (now (before .entry)) (now (after .entry)) (length (now (before .entry))) r ⌝ }
+{
+    let n = before.len();
+    let mut most = 0;
+    let mut x = 0;
+    while x < n {
+        most = greater(most, progress::less(after[x], before[x]));
+        x += 1;
+    }
+    most
+}
+
+// Moves the words from..to to the front.
+fn move_front(words: &mut [u32], from: usize, to: usize)
+    requires { ⌜ (from ≤ to) × (to ≤ length (now words)) ⌝ }
+    ensures { λ _. ⌜ take (to - from) (now (words .exit)) ≡ drop from (take to (now (words .entry))) ⌝ }
+{
+    let mut k = 0;
+    let mut i = from;
+    while i < to {
+        words[k] = words[i];
+        k += 1;
+        i += 1;
+    }
+}
+
+// Moves the times that are retained to the front of the k ones, of which the first is point base's; how many they are.
+fn retain(after: &[u32], points: u32, base: u32, stamps: &mut [u32], k: usize) -> u32
+    requires { ⌜ (points ≤ base + k) × (k ≤ length (now stamps)) × (k < 4294967296) ⌝ }
+    ensures { λ r. ⌜ (take r (now (stamps .exit)) ≡ drop (firstRetained points (now (after .entry)) - base) (take k (now (stamps .entry)))) × (r ≤ k) ⌝ }
+{
+    let first = progress::less(formed::least(points, after), 1);
+    let from = progress::less(first, base) as usize;
+    move_front(stamps, from, k);
+    (k - from) as u32
+}
+
+// What follows once 13 to 16 are weighed: the retained times.
+fn finish(
+    weighed: Weighed,
+    after: &[u32],
+    points: u32,
+    base: u32,
+    stamps: &mut [u32],
+    k: usize,
+) -> Taken
+    requires { ⌜ (points ≤ base + k) × (k ≤ length (now stamps)) × (k < 4294967296) ⌝ }
+    ensures { λ r. ⌜ Finishes points base k (now (after .entry)) (now (stamps .entry)) (now (stamps .exit)) weighed r ⌝ }
+{
+    match weighed {
+        Weighed::Refused(refusal) => Taken::Refused(refusal),
+        Weighed::Written(words, kept) => {
+            let retained = retain(after, points, base, stamps, k);
+            Taken::Done(words, retained, kept)
+        }
+    }
+}
+
+// An event that passes 9 to 12, once the figures of the call are known: `before` and the first of `after` are how many points each node had settled and has settled now, and the first stamps are the retained times with the event's.
+fn take_figured(
+    rule: &[u8],
+    points: u32,
+    times: &[u32],
+    owners: &[u32],
+    numbers: &[u32],
+    values: &[u32],
+    count: usize,
+    masks: &[u8],
+    before: &[u32],
+    lows: &[u32],
+    event: &[u32],
+    report: &mut [u32],
+    stamps: &mut [u32],
+    after: &[u32],
+    wants: &[u32],
+    out_owners: &mut [u32],
+    out_numbers: &mut [u32],
+    out_values: &mut [u32],
+) -> Taken
+    requires { ⌜ Stands (now owners) (now numbers) (now values) count ⌝ }
+    requires { ⌜ Formed (storedIn (now rule) points (now times) (now owners) (now numbers) (now values) count) ⌝ }
+    requires { ⌜ Known (storedIn (now rule) points (now times) (now owners) (now numbers) (now values) count) (now masks) (now before) (now lows) ⌝ }
+    requires { ⌜ Figured (storedIn (now rule) points (now times) (now owners) (now numbers) (now values) count) (now event) (now stamps) (now after) (now wants) ⌝ }
+    requires { ⌜ EventThere (now event) × (points < 10000000) × (length (now before) ≡ nodeCount (now rule)) ⌝ }
+    requires { ⌜ (32 ≤ length (now masks)) × (32 ≤ length (now lows)) × (32 ≤ length (now after)) × (32 ≤ length (now wants)) × (65 ≤ length (now stamps)) ⌝ }
+    requires { ⌜ Stands (now «out_owners») (now «out_numbers») (now «out_values») mostKept ⌝ }
+    ensures { λ r. ⌜ TakesIn (storedIn (now (rule .entry)) points (now (times .entry)) (now (owners .entry)) (now (numbers .entry)) (now (values .entry)) count) (now (event .entry)) (now (report .entry)) (now (report .exit)) (now (stamps .exit)) (now («out_owners» .exit)) (now («out_numbers» .exit)) (now («out_values» .exit)) (weighedNow (storedIn (now (rule .entry)) points (now (times .entry)) (now (owners .entry)) (now (numbers .entry)) (now (values .entry)) count) (now (event .entry)) (length (now (report .entry)))) r ⌝ }
+{
+    let n = node_total(rule);
+    let k = times.len();
+    let base = progress::less(points, k as u32);
+    let most = most_new(before, &after[0..n]);
+    let weighed = weighing::settle_in_room(
+        rule,
+        owners,
+        numbers,
+        values,
+        count,
+        lows,
+        wants,
+        masks,
+        before,
+        &after[0..n],
+        &stamps[0..k + 1],
+        Point(base),
+        points + 1,
+        event,
+        most,
+        out_owners,
+        out_numbers,
+        out_values,
+        report,
+    );
+    finish(weighed, &after[0..n], points + 1, base, stamps, k + 1)
+}
+
+// An event that passes 9 to 12, taken in a state that is well formed. The masks, counts and lows are those of the state.
+fn take_admitted(
+    rule: &[u8],
+    points: u32,
+    times: &[u32],
+    owners: &[u32],
+    numbers: &[u32],
+    values: &[u32],
+    count: usize,
+    masks: &[u8],
+    counts: &[u32],
+    lows: &[u32],
+    event: &[u32],
+    report: &mut [u32],
+    stamps: &mut [u32],
+    out_owners: &mut [u32],
+    out_numbers: &mut [u32],
+    out_values: &mut [u32],
+) -> Taken
+    requires { ⌜ Stands (now owners) (now numbers) (now values) count ⌝ }
+    requires { ⌜ Formed (storedIn (now rule) points (now times) (now owners) (now numbers) (now values) count) ⌝ }
+    requires { ⌜ Known (storedIn (now rule) points (now times) (now owners) (now numbers) (now values) count) (now masks) (now counts) (now lows) ⌝ }
+    requires { ⌜ EventThere (now event) × (points < 10000000) ⌝ }
+    requires { ⌜ (32 ≤ length (now masks)) × (32 ≤ length (now counts)) × (32 ≤ length (now lows)) × (65 ≤ length (now stamps)) ⌝ }
+    requires { ⌜ Stands (now «out_owners») (now «out_numbers») (now «out_values») mostKept ⌝ }
+    ensures { λ r. ⌜ TakesIn (storedIn (now (rule .entry)) points (now (times .entry)) (now (owners .entry)) (now (numbers .entry)) (now (values .entry)) count) (now (event .entry)) (now (report .entry)) (now (report .exit)) (now (stamps .exit)) (now («out_owners» .exit)) (now («out_numbers» .exit)) (now («out_values» .exit)) (weighedNow (storedIn (now (rule .entry)) points (now (times .entry)) (now (owners .entry)) (now (numbers .entry)) (now (values .entry)) count) (now (event .entry)) (length (now (report .entry)))) r ⌝ }
+{
+    let n = node_total(rule);
+    let mut after = [0u32; 32];
+    let mut wants = [0u32; 32];
+    figures(
+        rule,
+        points,
+        times,
+        &counts[0..n],
+        event,
+        stamps,
+        &mut after,
+        &mut wants,
+    );
+    take_figured(
+        rule,
+        points,
+        times,
+        owners,
+        numbers,
+        values,
+        count,
+        masks,
+        &counts[0..n],
+        lows,
+        event,
+        report,
+        stamps,
+        &after,
+        &wants,
+        out_owners,
+        out_numbers,
+        out_values,
+    )
+}
+
+// The last of the times, 0 where there is none.
+fn latest(times: &[u32]) -> Stamp
+    ensures { λ r. ⌜ r .0 ≡ getD (now (times .entry)) (length (now (times .entry)) - 1) 0 ⌝ }
+{
+    let n = times.len();
+    if 0 < n {
+        return Stamp(times[n - 1]);
+    }
+    Stamp(0)
+}
+
+// The refusal that the first checks of an event give.
+fn refusal_of(admitted: Admitted) -> Refusal
+    requires { ⌜ (admitted ≡ Fine → ⊥) ⌝ }
+    ensures { λ r. ⌜ ((rest : Outcome ℕ) → refusalOf r ≡ outcomeOf admitted rest) ⌝ }
+{
+    match admitted {
+        Admitted::Fine => Refusal::NotAnEvent,
+        Admitted::NotAnEvent => Refusal::NotAnEvent,
+        Admitted::RowOut(k) => Refusal::RowOut(k),
+        Admitted::TimeFalls => Refusal::TimeFalls,
+        Admitted::LogFull => Refusal::LogFull,
+    }
+}
+
+// An event in any state that stands in the slices: 8, then 9 to 12, then what follows.
+fn take_stored(
+    rule: &[u8],
+    points: u32,
+    times: &[u32],
+    owners: &[u32],
+    numbers: &[u32],
+    values: &[u32],
+    count: usize,
+    event: &[u32],
+    report: &mut [u32],
+    stamps: &mut [u32],
+    out_owners: &mut [u32],
+    out_numbers: &mut [u32],
+    out_values: &mut [u32],
+) -> Taken
+    requires { ⌜ Stands (now owners) (now numbers) (now values) count ⌝ }
+    requires { ⌜ 65 ≤ length (now stamps) ⌝ }
+    requires { ⌜ Stands (now «out_owners») (now «out_numbers») (now «out_values») mostKept ⌝ }
+    ensures { λ r. ⌜ TakesIn (storedIn (now (rule .entry)) points (now (times .entry)) (now (owners .entry)) (now (numbers .entry)) (now (values .entry)) count) (now (event .entry)) (now (report .entry)) (now (report .exit)) (now (stamps .exit)) (now («out_owners» .exit)) (now («out_numbers» .exit)) (now («out_values» .exit)) (takeAnswer (storedIn (now (rule .entry)) points (now (times .entry)) (now (owners .entry)) (now (numbers .entry)) (now (values .entry)) count) (now (event .entry)) (length (now (report .entry)))) r ⌝ }
+{
+    let mut masks = [0u8; 32];
+    let mut counts = [0u32; 32];
+    let mut lows = [0u32; 32];
+    if !formed::well_formed(
+        rule,
+        points,
+        times,
+        owners,
+        numbers,
+        values,
+        count,
+        &mut masks,
+        &mut counts,
+        &mut lows,
+    ) {
+        return Taken::Refused(Refusal::NotWellFormed);
+    }
+    let admitted = events::admit(rule, event, latest(times), points);
+    let Admitted::Fine = admitted else {
+        return Taken::Refused(refusal_of(admitted));
+    };
+    take_admitted(
+        rule,
+        points,
+        times,
+        owners,
+        numbers,
+        values,
+        count,
+        &masks,
+        &counts,
+        &lows,
+        event,
+        report,
+        stamps,
+        out_owners,
+        out_numbers,
+        out_values,
+    )
+}
+
+// An event in any state whatever: the rule, the times and the entries are at the front of their slices, as many as `bytes`, `retained` and `count` say.
+pub fn take<'a>(
+    rule: &'a [u8],
+    bytes: u32,
+    points: u32,
+    times: &'a [u32],
+    retained: u32,
+    owners: &'a [u32],
+    numbers: &'a [u32],
+    values: &'a [u32],
+    count: u32,
+    event: &[u32],
+    report: &mut [u32],
+    stamps: &mut [u32],
+    out_owners: &mut [u32],
+    out_numbers: &mut [u32],
+    out_values: &mut [u32],
+) -> Taken
+    requires { ⌜ (length (now rule) ≡ 652) × (64 ≤ length (now times)) × Stands (now owners) (now numbers) (now values) mostKept × (65 ≤ length (now stamps)) ⌝ }
+    requires { ⌜ Stands (now «out_owners») (now «out_numbers») (now «out_values») mostKept ⌝ }
+    ensures { λ r. ⌜ TakesIn (storedFront (now (rule .entry)) bytes points (now (times .entry)) retained (now (owners .entry)) (now (numbers .entry)) (now (values .entry)) count) (now (event .entry)) (now (report .entry)) (now (report .exit)) (now (stamps .exit)) (now («out_owners» .exit)) (now («out_numbers» .exit)) (now («out_values» .exit)) (takeAnswer (storedFront (now (rule .entry)) bytes points (now (times .entry)) retained (now (owners .entry)) (now (numbers .entry)) (now (values .entry)) count) (now (event .entry)) (length (now (report .entry)))) r ⌝ }
+{
+    if 652 < bytes {
+        return Taken::Refused(Refusal::NotWellFormed);
+    }
+    if 64 < retained {
+        return Taken::Refused(Refusal::NotWellFormed);
+    }
+    if 512 < count {
+        return Taken::Refused(Refusal::NotWellFormed);
+    }
+    let n = bytes as usize;
+    let k = retained as usize;
+    take_stored(
+        &rule[0..n],
+        points,
+        &times[0..k],
+        owners,
+        numbers,
+        values,
+        count as usize,
+        event,
+        report,
+        stamps,
+        out_owners,
+        out_numbers,
+        out_values,
+    )
+}
+
+// The figure `open` of what is stored in the slices.
+fn open_stored(
+    rule: &[u8],
+    points: u32,
+    times: &[u32],
+    owners: &[u32],
+    numbers: &[u32],
+    values: &[u32],
+    count: usize,
+) -> Open
+    requires { ⌜ Stands (now owners) (now numbers) (now values) count ⌝ }
+    ensures { λ r. ⌜ Opens (storedIn (now (rule .entry)) points (now (times .entry)) (now (owners .entry)) (now (numbers .entry)) (now (values .entry)) count) r ⌝ }
+{
+    let mut masks = [0u8; 32];
+    let mut counts = [0u32; 32];
+    let mut lows = [0u32; 32];
+    if !formed::well_formed(
+        rule,
+        points,
+        times,
+        owners,
+        numbers,
+        values,
+        count,
+        &mut masks,
+        &mut counts,
+        &mut lows,
+    ) {
+        return Open::NotWellFormed;
+    }
+    let last = (rule[2] - 1) as usize;
+    Open::Points(points - counts[last])
+}
+
+// The figure `open` of any state whatever, which stands in the slices as for `take`.
+pub fn open_points<'a>(
+    rule: &'a [u8],
+    bytes: u32,
+    points: u32,
+    times: &'a [u32],
+    retained: u32,
+    owners: &'a [u32],
+    numbers: &'a [u32],
+    values: &'a [u32],
+    count: u32,
+) -> Open
+    requires { ⌜ (length (now rule) ≡ 652) × (64 ≤ length (now times)) × Stands (now owners) (now numbers) (now values) mostKept ⌝ }
+    ensures { λ r. ⌜ Opens (storedFront (now (rule .entry)) bytes points (now (times .entry)) retained (now (owners .entry)) (now (numbers .entry)) (now (values .entry)) count) r ⌝ }
+{
+    if 652 < bytes {
+        return Open::NotWellFormed;
+    }
+    if 64 < retained {
+        return Open::NotWellFormed;
+    }
+    if 512 < count {
+        return Open::NotWellFormed;
+    }
+    let n = bytes as usize;
+    let k = retained as usize;
+    open_stored(
+        &rule[0..n],
+        points,
+        &times[0..k],
+        owners,
+        numbers,
+        values,
+        count as usize,
+    )
+}
