@@ -1,2 +1,2 @@
 -- What the exported functions give.
-pub mod Told
+pub mod Numbers

@@ -1,4 +1,4 @@
 -- What the exported functions give, in plain numbers.
 pub mod Parts
 pub mod Exported
-pub mod Told
+pub mod Numbers

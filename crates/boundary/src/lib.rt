@@ -18,7 +18,7 @@ ghost use Rattle.weighing.specs.Weighs.{refusalOf};
 ghost use Rattle.monitor.specs.State.{stored};
 ghost use Rattle.monitor.specs.Contracts.{answerOf as answered};
 ghost use Rattle.boundary.specs.Exported.{countOrNone, wordOrNone};
-ghost use Rattle.boundary.specs.Told.{toldOf, StartsAs, TakesAs, openOf};
+ghost use Rattle.boundary.specs.Numbers.{toldOf, StartsAs, TakesAs, openOf};
 
 pub struct Parts {
     pub number: u32,
@@ -169,15 +169,51 @@ fn told_refusal(r: Refusal) -> Told
     ensures { λ t. ⌜ t ≡ toldOf (refusalOf r) ⌝ }
 {
     match r {
-        Refusal::NotWellFormed => Told { number: 8, place: 0, words: 0 },
-        Refusal::NotAnEvent => Told { number: 9, place: 0, words: 0 },
-        Refusal::RowOut(k) => Told { number: 10, place: k, words: 0 },
-        Refusal::TimeFalls => Told { number: 11, place: 0, words: 0 },
-        Refusal::LogFull => Told { number: 12, place: 0, words: 0 },
-        Refusal::Crowded(x) => Told { number: 13, place: x as u32, words: 0 },
-        Refusal::Backlog => Told { number: 14, place: 0, words: 0 },
-        Refusal::KeptOver => Told { number: 15, place: 0, words: 0 },
-        Refusal::BufferShort(n) => Told { number: 16, place: n, words: 0 },
+        Refusal::NotWellFormed => Told {
+            number: 8,
+            place: 0,
+            words: 0,
+        },
+        Refusal::NotAnEvent => Told {
+            number: 9,
+            place: 0,
+            words: 0,
+        },
+        Refusal::RowOut(k) => Told {
+            number: 10,
+            place: k,
+            words: 0,
+        },
+        Refusal::TimeFalls => Told {
+            number: 11,
+            place: 0,
+            words: 0,
+        },
+        Refusal::LogFull => Told {
+            number: 12,
+            place: 0,
+            words: 0,
+        },
+        Refusal::Crowded(x) => Told {
+            number: 13,
+            place: x as u32,
+            words: 0,
+        },
+        Refusal::Backlog => Told {
+            number: 14,
+            place: 0,
+            words: 0,
+        },
+        Refusal::KeptOver => Told {
+            number: 15,
+            place: 0,
+            words: 0,
+        },
+        Refusal::BufferShort(n) => Told {
+            number: 16,
+            place: n,
+            words: 0,
+        },
     }
 }
 
@@ -185,7 +221,11 @@ fn told_answer(a: Answer) -> Told
     ensures { λ t. ⌜ t ≡ toldOf (answered a) ⌝ }
 {
     match a {
-        Answer::Written(words) => Told { number: 0, place: 0, words },
+        Answer::Written(words) => Told {
+            number: 0,
+            place: 0,
+            words,
+        },
         Answer::Refused(r) => told_refusal(r),
     }
 }
@@ -239,7 +279,13 @@ pub extern "C" fn yokemango_open_points(state: State) -> OpenParts
     ensures { λ r. ⌜ r ≡ openOf (stored state) ⌝ }
 {
     match monitor::open_points(state) {
-        Open::Points(n) => OpenParts { number: 0, points: n },
-        Open::NotWellFormed => OpenParts { number: 8, points: 0 },
+        Open::Points(n) => OpenParts {
+            number: 0,
+            points: n,
+        },
+        Open::NotWellFormed => OpenParts {
+            number: 8,
+            points: 0,
+        },
     }
 }

@@ -25,7 +25,7 @@ use Rattle.monitor.specs.declared.Answer.{Answer}
 use Rattle.monitor.specs.declared.Answer.the-variants as answer
 use Rattle.monitor.specs.declared.Step.{Step}
 use Rattle.boundary.specs.Parts.{partsOf}
-use Rattle.boundary.specs.Told.{toldOf, StateFor, StartsAs, StateAfter, TakesAs, openOf}
+use Rattle.boundary.specs.Numbers.{toldOf, StateFor, StartsAs, StateAfter, TakesAs, openOf}
 use Rattle.boundary.specs.declared.Parts.{Parts}
 use Rattle.boundary.specs.declared.OpenParts.{OpenParts}
 use Rattle.boundary.specs.declared.Told.{Told}
@@ -68,10 +68,10 @@ takes-told {s} {w} {buffer} {buffer'} {r} {told} h e =
       state-is = subst (StateAfter s w (r .state)) (h .answered) (moved-after s w (r .state) (r .answer) (h .moved));
     }
 
-pub open-told : {s : Stored} {n : ℕ} → Opens s (Points n) → _≡_ {A = OpenParts} (record { number = 0; points = n }) (openOf s)
+pub open-told : (s : Stored) {n : ℕ} → Opens s (Points n) → _≡_ {A = OpenParts} (record { number = 0; points = n }) (openOf s)
 unfolding openOf
-open-told h = rw (h .0) (ap (λ k. record { number = 0; points = k }) (h .1))
+open-told s h = rw (h .0) (ap (λ k. record { number = 0; points = k }) (h .1))
 
-pub not-open-told : {s : Stored} → Opens s NotFormed → _≡_ {A = OpenParts} (record { number = 8; points = 0 }) (openOf s)
+pub not-open-told : (s : Stored) → Opens s NotFormed → _≡_ {A = OpenParts} (record { number = 8; points = 0 }) (openOf s)
 unfolding openOf
-not-open-told h = rw h
+not-open-told s h = rw h
