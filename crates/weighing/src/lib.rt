@@ -254,8 +254,9 @@ fn settle_usual(
     )
 }
 
-// The same with room for the most points that a node can newly settle.
+// The same with room for the most points that a node can newly settle. It calls itself `again` times first, which is never: a function that does isn't merged into its caller, so that the usual event has no part in this room.
 fn settle_burst(
+    again: u32,
     rule: &[u8],
     owners: &[u32],
     numbers: &[u32],
@@ -279,6 +280,29 @@ fn settle_burst(
     requires { ⌜ Stands (now «out_owners») (now «out_numbers») (now «out_values») mostKept ⌝ }
     ensures { λ r. ⌜ SettledAll (now (rule .entry)) (now (owners .entry)) (now (numbers .entry)) (now (values .entry)) count (now (before .entry)) (now (after .entry)) (now (times .entry)) (base .0) (now (event .entry)) points (now (report .entry)) (now (report .exit)) (now («out_owners» .exit)) (now («out_numbers» .exit)) (now («out_values» .exit)) r ⌝ }
 {
+    if 0 < again {
+        return settle_burst(
+            again - 1,
+            rule,
+            owners,
+            numbers,
+            values,
+            count,
+            lows,
+            wants,
+            masks,
+            before,
+            after,
+            times,
+            base,
+            points,
+            event,
+            out_owners,
+            out_numbers,
+            out_values,
+            report,
+        );
+    }
     let mut rows = [0u32; 268288];
     let mut at = [0u32; 2081];
     let mut firsts = [0u32; 32];
@@ -366,6 +390,7 @@ pub fn settle_in_room(
         );
     }
     settle_burst(
+        points / 4_000_000_000,
         rule,
         owners,
         numbers,
