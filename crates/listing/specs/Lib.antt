@@ -1,0 +1,3 @@
+-- What the program's contracts cite.
+pub mod Told
+pub mod Next
