@@ -1,15 +1,13 @@
 -- What the operations give, told in numbers.
 use Prim.Native.Nat.{ℕ}
-use mathlib.Core.Path.{_≡_, refl, sym, _∙_, ap, subst}
-use mathlib.Core.Bool.{true, false}
-use mathlib.Core.List.{List, []}
+use mathlib.Core.Path.{_≡_, refl, _∙_, ap, subst}
+use mathlib.Core.List.{List}
 use lib.ListN.{length}
 use Rattle.meaning.specs.Outcome.{Outcome, refused, given}
 use Rattle.meaning.specs.RuleFile.{Accepted, checking}
 use Rattle.meaning.specs.Keeper.{bufferAfter}
-use Rattle.method.specs.Stored.{Stored, storedOf}
+use Rattle.method.specs.Stored.{Stored}
 use Rattle.method.specs.Step.{reportNow}
-use Rattle.method.specs.WellFormed.{wellFormed}
 use Rattle.rulefile.specs.Checked.{answerOf as checkedOf}
 use Rattle.weighing.specs.Weighs.{refusalOf}
 use Rattle.weighing.specs.declared.Refusal.{Refusal}
@@ -17,7 +15,7 @@ use Rattle.weighing.specs.declared.Refusal.the-variants.{NotWellFormed, NotAnEv
 use Rattle.taking.specs.Answers.{takeAnswer, Opens}
 use Rattle.taking.specs.declared.Open.{Open}
 use Rattle.taking.specs.declared.Open.the-variants.{Points, NotWellFormed as NotFormed}
-use Rattle.monitor.specs.State.{stored, blank}
+use Rattle.monitor.specs.State.{stored}
 use Rattle.monitor.specs.Contracts.{Starts, Takes, Moves, answerOf}
 use Rattle.monitor.specs.declared.State.{State}
 use Rattle.monitor.specs.declared.Started.{Started}

@@ -14,10 +14,10 @@ use borrow.Author.Tests.{eqb-true, eqb-false}
 use Rattle.meaning.specs.Log.{point, pointsFrom}
 use Rattle.meaning.specs.Lists.{all, range}
 use Rattle.meaning.specs.RuleFile.{nodeAt}
-use Rattle.meaning.specs.Kept.{Entry, entryOf}
+use Rattle.meaning.specs.Kept.{Entry}
 use Rattle.meaning.specs.declared.Point.{Point}
 use Rattle.meaning.proofs.Lists.{range-length}
-use Rattle.meaning.proofs.Points.{Tested, passed, failed, tested, both}
+use Rattle.meaning.proofs.Points.{Tested, passed, failed, tested}
 use Rattle.meaning.proofs.Rows.{all-points}
 use Rattle.method.specs.WellFormed.{setFits, pairsFit}
 use Rattle.rowset.specs.Rows.{rowsFrom}

@@ -4,20 +4,20 @@ use Prim.Native.Nat.{ℕ, zero, suc, _+_, _-_, _≤_, _<_}
 use native.Mathlib.Numerals.{add-one}
 use native.Mathlib.Omega.{arith}
 use mathlib.Core.Path.{_≡_, refl, sym, ap, ap₂, _∙_}
-use mathlib.Core.Bool.{Bool, true, false, _&&_}
+use mathlib.Core.Bool.{true, false, _&&_}
 use mathlib.Core.List.{List, [], _∷_, _++_, map, append-assoc, append-nil, List·Memᴰ, Memᴰ·of-map}
 use lib.ListN.{getD, drop}
 use lib.Dec.{eqb}
 use borrow.Author.Tests.{eqb-true, eq-eqb, ne-eqb}
 use Rattle.meaning.specs.Lists.{all, range, gather}
-use Rattle.meaning.specs.Log.{point, pointsFrom}
+use Rattle.meaning.specs.Log.{point}
 use Rattle.meaning.specs.RuleFile.{nodeAt}
 use Rattle.meaning.specs.Kept.{Entry, entryOf}
 use Rattle.meaning.specs.declared.Point.{Point}
 use Rattle.meaning.proofs.Points.{first, second, both, all-same}
 use Rattle.meaning.proofs.Rows.{all-at, all-of, gather-at, range-at, range-of}
 use Rattle.method.specs.Stored.{held, heldPairs}
-use Rattle.method.specs.WellFormed.{sameEntries, setFits, pairsFit}
+use Rattle.method.specs.WellFormed.{setFits, pairsFit}
 use Rattle.method.proofs.Lists.{map-id, map-map, gather-each}
 use Rattle.method.proofs.Turns.{gather-over}
 use Rattle.method.proofs.Held.{nodeOf, of-node, held-is, heldPairs-is}

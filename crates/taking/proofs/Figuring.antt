@@ -2,20 +2,19 @@
 use Prim.Native.Nat.{ℕ, _+_, _-_, _≤_, _<_}
 use native.Mathlib.Omega.{arith}
 use mathlib.Core.Path.{_≡_, refl, sym, _∙_, ap, ap₂}
-use mathlib.Core.Bool.{Bool}
 use mathlib.Core.List.{List, [], _∷_, _++_}
 use lib.ListN.{length, getD, take, drop, length-map}
 use lib.Seq.{length-take-le, take-all, take-take}
 use Rattle.meaning.specs.Lists.{range, gather}
-use Rattle.meaning.specs.Outcome.{Outcome, given, mostKept, mostPoints}
-use Rattle.meaning.specs.RuleFile.{Accepted, checking, nodeCount, lastNode}
+use Rattle.meaning.specs.Outcome.{mostPoints}
+use Rattle.meaning.specs.RuleFile.{nodeCount, lastNode}
 use Rattle.meaning.specs.Kept.{Entry}
 use Rattle.meaning.specs.Keeper.{weighed, bufferAfter}
 use Rattle.meaning.proofs.Lists.{range-length}
 use Rattle.meaning.proofs.Accepted.{nodes-most}
 use Rattle.method.specs.Stored.{Stored, baseOf, firstRetained}
-use Rattle.method.specs.Step.{wantedFrom, countsStored, countBefore, stampsNow, countsAfter, countAfter, turn, entriesNow, storedNow, crowdedNow, reportNow}
-use Rattle.method.specs.WellFormed.{ownEntries, mostTimes}
+use Rattle.method.specs.Step.{countsStored, countBefore, stampsNow, countsAfter, countAfter, turn, entriesNow, storedNow, crowdedNow, reportNow}
+use Rattle.method.specs.WellFormed.{ownEntries}
 use Rattle.method.proofs.Counted.{counts-length}
 use Rattle.method.proofs.Formed.{Formed}
 use Rattle.method.proofs.Bounds.{new-few, before-after, after-most, after-step, wanted-before, wanted-after, wanted-grows, span}
@@ -23,13 +22,13 @@ use Rattle.kinds.specs.Kinds.{EventThere}
 use Rattle.shelf.specs.Entries.{entryAt, entriesFrom, Stands}
 use Rattle.formed.specs.Known.{storedIn, Known}
 use Rattle.turns.specs.Turns.{figure, turnIn, crowdedIn, entriesOut, entriesIn, Begun}
-use Rattle.weighing.specs.Weighs.{weighedOf, reportIn, SettledAll}
+use Rattle.weighing.specs.Weighs.{reportIn, SettledAll}
 use Rattle.weighing.specs.declared.Weighed.{Weighed}
-use Rattle.weighing.specs.declared.Weighed.the-variants.{Refused, Written}
+use Rattle.weighing.specs.declared.Weighed.the-variants.{Refused}
 use Rattle.weighing.specs.declared.Refusal.{Refusal}
 use Rattle.taking.specs.declared.Taken.{Taken}
 use Rattle.taking.specs.declared.Taken.the-variants as taken
-use Rattle.taking.specs.Answers.{takenOf, weighedNow, Finishes, TakesIn}
+use Rattle.taking.specs.Answers.{weighedNow, Finishes, TakesIn}
 use Rattle.taking.specs.Figures.{bare, Counting, Figured, MostNew}
 
 -- a refusal has nothing done

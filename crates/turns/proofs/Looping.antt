@@ -29,9 +29,9 @@ pub record AsLong (rows₀ at₀ firsts₀ ages₀ paired₀ spareAges₀ spareP
   pub spareAgesLong : length spareAges ≡ length spareAges₀
   pub sparePairedLong : length sparePaired ≡ length sparePaired₀
 
-pub roomy-as : {rows₀ at₀ firsts₀ ages₀ paired₀ spareAges₀ sparePaired₀ rows at firsts ages paired spareAges sparePaired : List ℕ} {count most : ℕ}
-    → AsLong rows₀ at₀ firsts₀ ages₀ paired₀ spareAges₀ sparePaired₀ rows at firsts ages paired spareAges sparePaired → Roomy rows₀ at₀ firsts₀ ages₀ paired₀ spareAges₀ sparePaired₀ count most
-    → Roomy rows at firsts ages paired spareAges sparePaired count most
+pub roomy-as : {rows₀ at₀ firsts₀ ages₀ paired₀ spareAges₀ sparePaired₀ rows at firsts ages paired spareAges sparePaired : List ℕ} {count most n : ℕ}
+    → AsLong rows₀ at₀ firsts₀ ages₀ paired₀ spareAges₀ sparePaired₀ rows at firsts ages paired spareAges sparePaired → Roomy rows₀ at₀ firsts₀ ages₀ paired₀ spareAges₀ sparePaired₀ count most n
+    → Roomy rows at firsts ages paired spareAges sparePaired count most n
 roomy-as a r =
     record {
       words = omega (arith, r .words, a .rowsLong);
@@ -43,8 +43,8 @@ roomy-as a r =
     }
 
 -- the mark of the first set is set
-pub roomy-marked : {rows at firsts ages paired spareAges sparePaired : List ℕ} {count most : ℕ} → Roomy rows at firsts ages paired spareAges sparePaired count most
-    → Roomy rows (set at 0 0) firsts ages paired spareAges sparePaired count most
+pub roomy-marked : {rows at firsts ages paired spareAges sparePaired : List ℕ} {count most n : ℕ} → Roomy rows at firsts ages paired spareAges sparePaired count most n
+    → Roomy rows (set at 0 0) firsts ages paired spareAges sparePaired count most n
 roomy-marked {at = at} r =
     roomy-as (record { rowsLong = refl; atLong = length-set at 0 0; firstsLong = refl; agesLong = refl; pairedLong = refl; spareAgesLong = refl; sparePairedLong = refl }) r
 
@@ -59,14 +59,14 @@ module _ (b os ns vs : List ℕ) (count : ℕ) (before after times : List ℕ) (
 
 module _ {b os ns vs : List ℕ} {count : ℕ} {before after times : List ℕ} {base : ℕ} {w lows wants masks : List ℕ} {points most : ℕ}
     (g : Begun b os ns vs count before after times base w lows wants masks points most) where
-  no-sets : {rows at firsts ages paired spareAges sparePaired : List ℕ} → Roomy rows at firsts ages paired spareAges sparePaired count most → Sets rows (set at 0 0) 0
+  no-sets : {rows at firsts ages paired spareAges sparePaired : List ℕ} → Roomy rows at firsts ages paired spareAges sparePaired count most (nodeCount b) → Sets rows (set at 0 0) 0
   no-sets {at = at} r =
       record {
         laid = record { marks = omega (arith, length-set at 0 0, r .marks); steps = λ q l. absurd (omega arith); words = omega (arith, getD-set-same at 0 0 0 (omega (arith, r .marks))) };
         few = λ q l. absurd (omega arith);
       }
 
-  pub turned-none : {rows at firsts ages paired spareAges sparePaired : List ℕ} → Roomy rows at firsts ages paired spareAges sparePaired count most
+  pub turned-none : {rows at firsts ages paired spareAges sparePaired : List ℕ} → Roomy rows at firsts ages paired spareAges sparePaired count most (nodeCount b)
       → TurnedTo b os ns vs count before after times base w lows most firsts rows (set at 0 0) 0 0 0 0
   turned-none {at = at} r =
       let e : count - 0 ≡ count = omega arith in

@@ -49,9 +49,10 @@ no-point p a zero h = refl
 no-point p a (suc n) h = rw (h (point a) (omega arith) (omega arith)) (no-point p (suc a) n (λ j u o. h j (omega arith) (omega arith)))
 
 -- a node's figures: the points from which on it has and keeps its sets, and those that it newly settles
-pub record Figures (x most low want start end : ℕ) : Type 0 where
+pub record Figures (x most n low want start end : ℕ) : Type 0 where
   pub node : x < 32
-  pub room : most * x + most ≤ 32 * most
+  pub inside : x < n
+  pub room : most * x + most ≤ most * n
   pub begun : low ≤ start
   pub ordered : start ≤ end
   pub kept-on : low ≤ want
@@ -62,15 +63,16 @@ pub record Figures (x most low want start end : ℕ) : Type 0 where
 
 module _ {b os ns vs : List ℕ} {count : ℕ} {before after times : List ℕ} {base : ℕ} {w lows wants masks : List ℕ} {points most : ℕ}
     (g : Begun b os ns vs count before after times base w lows wants masks points most) where
-  pub figures : (x : ℕ) → x < nodeCount b → Figures x most (getD lows x 0) (getD wants x 0) (figure before x) (figure after x)
+  pub figures : (x : ℕ) → x < nodeCount b → Figures x most (nodeCount b) (getD lows x 0) (getD wants x 0) (figure before x) (figure after x)
   figures x o =
       let (a, ok) = g .accepted in
-      let few : x + 1 ≤ 32 = omega (arith, nodes-most b a ok) in
+      let within : x + 1 ≤ nodeCount b = omega arith in
       let low = g .low x o in
       let want = g .want x o in
       record {
-        node = omega arith;
-        room = omega (arith, mul-le-mul-left most few);
+        node = omega (arith, nodes-most b a ok);
+        inside = o;
+        room = omega (arith, mul-le-mul-left most within);
         begun = omega (arith, g .low-before x o);
         ordered = g .before-after x o;
         kept-on = omega (arith, g .low-want x o);
@@ -94,7 +96,7 @@ module _ {b os ns vs : List ℕ} {count : ℕ} {before after times : List ℕ} {
     later = gather (entriesIn b os ns vs count before after times base w) (range (x + 1) (nodeCount b - (x + 1)))
 
     -- there is room for the kept sets
-    pub load-spaces : {ages paired spareAges sparePaired : List ℕ} → Roomy rows at firsts ages paired spareAges sparePaired count most → Spaces rows at sets own (count - cursor)
+    pub load-spaces : {ages paired spareAges sparePaired : List ℕ} → Roomy rows at firsts ages paired spareAges sparePaired count most (nodeCount b) → Spaces rows at sets own (count - cursor)
     load-spaces r =
         let f = figures x o in
         record {
@@ -165,7 +167,7 @@ module _ {b os ns vs : List ℕ} {count : ℕ} {before after times : List ℕ} {
       held-here = part-pairs among ∙ read-pairs .0
 
       module _ {node : Node} (is : node ≡ nodeAt b x) where
-        pub finishable : {ages paired spareAges sparePaired : List ℕ} → Roomy rows at firsts ages paired spareAges sparePaired count most
+        pub finishable : {ages paired spareAges sparePaired : List ℕ} → Roomy rows at firsts ages paired spareAges sparePaired count most (nodeCount b)
             → Finishable b w rows' at' (set firsts x sets) lows masks after times base points (sets + own) sets (getD lows x 0) (figure before x) (figure after x) (getD wants x 0) node ages₀ values₀ (r - p) ages paired spareAges sparePaired
         finishable m =
             let f = figures x o in

@@ -99,11 +99,11 @@ module _ (b os ns vs : List ℕ) (count : ℕ) (before after times : List ℕ) (
   TurnsGive lows firsts rows at os₀ ns₀ vs₀ os' ns' vs' (Crowded x) = FirstCrowded x
   TurnsGive lows firsts rows at os₀ ns₀ vs₀ os' ns' vs' (Kept k) = AllTurned lows firsts rows at os₀ ns₀ vs₀ os' ns' vs' k
 
--- room for the sets and pairs of a call in which no node settles more points than `most`, with `count` entries kept before it
-pub record Roomy (rows at firsts ages paired spareAges sparePaired : List ℕ) (count most : ℕ) : Type 0 where
-  pub words : (count + 1024 * most) * 4 ≤ length rows
-  pub small : count + 1024 * most < 4294967296
-  pub marks : 2081 ≤ length at
+-- room for the sets and pairs of a call of n nodes in which none settles more points than `most`, with `count` entries kept before it
+pub record Roomy (rows at firsts ages paired spareAges sparePaired : List ℕ) (count most n : ℕ) : Type 0 where
+  pub words : (count + 32 * (most * n)) * 4 ≤ length rows
+  pub small : count + 32 * (most * n) < 4294967296
+  pub marks : 65 * n + 1 ≤ length at
   pub nodes : 32 ≤ length firsts
   pub pairs : PairsThere ages paired (count + 32 * most)
   pub spare : 1 < most → PairsThere spareAges sparePaired (count + 32 * most)

@@ -210,7 +210,7 @@ fn node_turn(
     place: Place,
 ) -> Moved
     requires { ⌜ Begun (now rule) (now owners) (now numbers) (now values) count (now before) (now after) (now times) (base .0) (now event) (now lows) (now wants) (now masks) points most ⌝ }
-    requires { ⌜ Roomy (now rows) (now at) (now firsts) (now ages) (now paired) (now «spare_ages») (now «spare_paired») count most × Stands (now «out_owners») (now «out_numbers») (now «out_values») mostKept ⌝ }
+    requires { ⌜ Roomy (now rows) (now at) (now firsts) (now ages) (now paired) (now «spare_ages») (now «spare_paired») count most (nodeCount (now rule)) × Stands (now «out_owners») (now «out_numbers») (now «out_values») mostKept ⌝ }
     requires { ⌜ TurnedTo (now rule) (now owners) (now numbers) (now values) count (now before) (now after) (now times) (base .0) (now event) (now lows) most (now firsts) (now rows) (now at) x (place .cursor) (place .sets) (place .kept) × (x < nodeCount (now rule)) ⌝ }
     ensures { λ r. ⌜ TurnGives (now (rule .entry)) (now (owners .entry)) (now (numbers .entry)) (now (values .entry)) count (now (before .entry)) (now (after .entry)) (now (times .entry)) (base .0) (now (event .entry)) (now (lows .entry)) most (now (firsts .exit)) (now (rows .exit)) (now (at .exit)) x (place .kept) (now («out_owners» .entry)) (now («out_numbers» .entry)) (now («out_values» .entry)) (now («out_owners» .exit)) (now («out_numbers» .exit)) (now («out_values» .exit)) r ⌝ }
 {
@@ -311,7 +311,7 @@ pub fn all_turns(
     out_values: &mut [u32],
 ) -> Turns
     requires { ⌜ Begun (now rule) (now owners) (now numbers) (now values) count (now before) (now after) (now times) (base .0) (now event) (now lows) (now wants) (now masks) points most ⌝ }
-    requires { ⌜ Roomy (now rows) (now at) (now firsts) (now ages) (now paired) (now «spare_ages») (now «spare_paired») count most ⌝ }
+    requires { ⌜ Roomy (now rows) (now at) (now firsts) (now ages) (now paired) (now «spare_ages») (now «spare_paired») count most (nodeCount (now rule)) ⌝ }
     requires { ⌜ Stands (now «out_owners») (now «out_numbers») (now «out_values») mostKept ⌝ }
     ensures { λ r. ⌜ TurnsGive (now (rule .entry)) (now (owners .entry)) (now (numbers .entry)) (now (values .entry)) count (now (before .entry)) (now (after .entry)) (now (times .entry)) (base .0) (now (event .entry)) (now (lows .entry)) (now (firsts .exit)) (now (rows .exit)) (now (at .exit)) (now («out_owners» .entry)) (now («out_numbers» .entry)) (now («out_values» .entry)) (now («out_owners» .exit)) (now («out_numbers» .exit)) (now («out_values» .exit)) r ⌝ }
 {

@@ -3,33 +3,33 @@ use Prim.Native.Nat.{ℕ, zero, suc, _+_, _-_, _≤_, _<_}
 use native.Mathlib.Nat.{eq-or-lt-of-le}
 use native.Mathlib.Omega.{arith}
 use mathlib.Core.Path.{_≡_, refl, sym, _∙_, ap, ap₂}
-use mathlib.Core.Bool.{Bool, true, false, cond}
+use mathlib.Core.Bool.{Bool, true, false}
 use mathlib.Core.Logic.{_⊎_, inl, inr}
-use mathlib.Core.List.{List, [], _∷_, _++_, map}
+use mathlib.Core.List.{List, [], _∷_, map}
 use lib.ListN.{length, getD}
-use Rattle.meaning.specs.Lists.{range, select, gather}
-use Rattle.meaning.specs.Outcome.{Outcome, refused, given, when, crowded, mostRows, mostKept}
-use Rattle.meaning.specs.Log.{point, pointsFrom}
+use Rattle.meaning.specs.Lists.{range, select}
+use Rattle.meaning.specs.Outcome.{Outcome, refused, when, crowded, mostKept}
+use Rattle.meaning.specs.Log.{point}
 use Rattle.meaning.specs.Formula.{free, variables}
-use Rattle.meaning.specs.RuleFile.{Accepted, checking, nodeCount, lastNode, pattern, formulaAt}
+use Rattle.meaning.specs.RuleFile.{nodeCount, lastNode, pattern}
 use Rattle.meaning.specs.Report.{Reported, reportWords}
-use Rattle.meaning.specs.Keeper.{reportRow, weighCrowds, weighed, bufferAfter}
+use Rattle.meaning.specs.Keeper.{reportRow, weighCrowds, weighed}
 use Rattle.meaning.specs.declared.Point.{Point}
 use Rattle.meaning.proofs.Accepted.{accepted, nodes-most, last-is-node}
 use Rattle.method.specs.Stored.{stampIn}
 use Rattle.method.specs.Settle.{Turn, rowsOfTurn}
-use Rattle.method.specs.Step.{wantedFrom, turnOf, sightOf, turnsTo, noTurn}
+use Rattle.method.specs.Step.{wantedFrom, turnOf}
 use Rattle.method.proofs.Turns.{map-points, turns-at}
 use Rattle.kinds.specs.Kinds.{inMask}
 use Rattle.room.specs.Room.{setAt}
 use Rattle.shelf.specs.Entries.{entriesFrom}
-use Rattle.writer.specs.Words.{freeCount, setOf, reportedFrom, words}
+use Rattle.writer.specs.Words.{setOf, reportedFrom, words}
 use Rattle.writer.proofs.Reports.{reportable}
-use Rattle.turns.specs.Turns.{figure, turnIn, crowdedIn, entriesOut, Begun, AllTurned, FirstCrowded}
+use Rattle.turns.specs.Turns.{figure, turnIn, crowdedIn, Begun, AllTurned, FirstCrowded}
 use Rattle.weighing.specs.declared.Refusal.the-variants.{Crowded}
 use Rattle.weighing.specs.declared.Weighed.{Weighed}
-use Rattle.weighing.specs.declared.Weighed.the-variants.{Refused, Written}
-use Rattle.weighing.specs.Weighs.{Weighs, weighedOf, SettledAll, reportIn, Last, lastWords}
+use Rattle.weighing.specs.declared.Weighed.the-variants.{Refused}
+use Rattle.weighing.specs.Weighs.{Weighs, SettledAll, reportIn, Last, lastWords}
 use Rattle.weighing.proofs.Weighing.{not-written}
 
 -- a higher bound on the newly settled points

@@ -2,7 +2,7 @@
 use Prim.Native.Nat.{ℕ, zero, suc, _+_, _-_, _*_, _≤_, _<_}
 use native.Mathlib.Nat.{mul-le-mul-right}
 use native.Mathlib.Omega.{arith}
-use mathlib.Core.Path.{_≡_, refl, sym, _∙_, ap, ap₂}
+use mathlib.Core.Path.{_≡_, refl}
 use mathlib.Core.Bool.{Bool, true, false, cond}
 use mathlib.Core.List.{List, [], _∷_, _++_}
 use lib.ListN.{length, getD, drop}
@@ -12,7 +12,7 @@ use Rattle.meaning.specs.Lists.{select}
 use Rattle.meaning.specs.Outcome.{mostRows, mostOpen, mostKept}
 use Rattle.meaning.specs.Formula.{variables}
 use Rattle.kinds.specs.Kinds.{inMask}
-use Rattle.writer.specs.Words.{freeCount, setOf, words, Reportable}
+use Rattle.writer.specs.Words.{freeCount, setOf, words}
 use Rattle.writer.proofs.Reports.{words-length, marked}
 use Rattle.meaning.specs.RuleFile.{lastNode}
 use Rattle.turns.specs.Turns.{figure}

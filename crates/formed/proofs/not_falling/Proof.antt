@@ -1,7 +1,5 @@
 -- `not_falling` meets its contract. The loop keeps `Rising`: the times up to i don't fall.
 use Prim.Native.Nat.{_-_}
-use mathlib.Core.Path.{_≡_}
-use lib.ListN.{length}
 use borrow.Author.Needs.{needs}
 use Rattle.formed.proofs.Times.{Rising, rising-none, rising-more, rising-falls, rising-all}
 use Rattle.formed.proofs.not_falling.Statement.{statement}

@@ -1,6 +1,5 @@
 -- `pairs_fit` meets its contract, kind by kind.
 use Prim.Native.Nat.{_-_}
-use native.Mathlib.Omega.{arith}
 use mathlib.Core.Path.{_≡_, sym, _∙_}
 use mathlib.Core.Bool.{_&&_}
 use lib.ListN.{length}

@@ -1,6 +1,5 @@
 -- `rows_fit` meets its contract. The loop keeps `Climbing`: the rows before i passed.
 use Prim.Native.Nat.{_-_}
-use native.Mathlib.Omega.{arith}
 use mathlib.Core.Path.{sym, _∙_}
 use borrow.Author.Tests.{not-true, not-false}
 use borrow.Author.Needs.{needs}

@@ -1,6 +1,7 @@
 -- `settle_burst` meets its contract: `again` falls at each call of itself, and the room is enough for 65 points a node.
 use Prim.Native.Nat.{ℕ, _<_}
 use native.Mathlib.Omega.{arith}
+use Rattle.meaning.proofs.Accepted.{nodes-most}
 use borrow.Author.Needs.{needs}
 use borrow.Fn.Kinds.{In}
 use borrow.Fn.PlainCycle.{Measures, is, falls, and}
@@ -159,7 +160,7 @@ settle-burst-settle-requires : (t : ℕ) → settle-burst-lts.Need-settle-requir
   settle-reads.Asked,
   settle-reads.Learnt,
 ) (settle-burst-at t) settle-burst.Post
-settle-burst-settle-requires t c κs = let s = c .before .before .before .before .before .before .before .before .before .before .before .before .before .before .before .before .before .before .before .before .before .before .before .before .before .before .before in (s .pre .1 .0, (record { words = omega (arith, s .pre .1 .0 .few-kept); small = omega (arith, s .pre .1 .0 .few-kept); marks = omega arith; nodes = omega arith; pairs = record { agesThere = omega (arith, s .pre .1 .0 .few-kept); valuesThere = omega (arith, s .pre .1 .0 .few-kept) }; spare = λ o. record { agesThere = omega (arith, s .pre .1 .0 .few-kept); valuesThere = omega (arith, s .pre .1 .0 .few-kept) } }, s .pre .1 .1))
+settle-burst-settle-requires t c κs = let s = c .before .before .before .before .before .before .before .before .before .before .before .before .before .before .before .before .before .before .before .before .before .before .before .before .before .before .before in (s .pre .1 .0, (record { words = omega (arith, s .pre .1 .0 .few-kept, nodes-most _ (s .pre .1 .0 .accepted .0) (s .pre .1 .0 .accepted .1)); small = omega (arith, s .pre .1 .0 .few-kept, nodes-most _ (s .pre .1 .0 .accepted .0) (s .pre .1 .0 .accepted .1)); marks = omega (arith, nodes-most _ (s .pre .1 .0 .accepted .0) (s .pre .1 .0 .accepted .1)); nodes = omega arith; pairs = record { agesThere = omega (arith, s .pre .1 .0 .few-kept, nodes-most _ (s .pre .1 .0 .accepted .0) (s .pre .1 .0 .accepted .1)); valuesThere = omega (arith, s .pre .1 .0 .few-kept, nodes-most _ (s .pre .1 .0 .accepted .0) (s .pre .1 .0 .accepted .1)) }; spare = λ o. record { agesThere = omega (arith, s .pre .1 .0 .few-kept, nodes-most _ (s .pre .1 .0 .accepted .0) (s .pre .1 .0 .accepted .1)); valuesThere = omega (arith, s .pre .1 .0 .few-kept, nodes-most _ (s .pre .1 .0 .accepted .0) (s .pre .1 .0 .accepted .1)) } }, s .pre .1 .1))
 
 -- src/lib.rt:258:1
 settle-burst-same-length-5 : (t : ℕ) → settle-burst-lts.Need-same-length-5 (
