@@ -116,7 +116,9 @@ uint32_t yokemango_check_reach(const uint8_t *rule, size_t rule_len);
 /* The pattern's free variables, bit k for variable k; 0 on a refusal. */
 uint32_t yokemango_check_free(const uint8_t *rule, size_t rule_len);
 
-/* ---- start a state and take events: the state goes in and comes back by value */
+/* ---- start a state and take events: the state goes in and comes back by value
+   A call of yokemango_take needs about 100 KB of stack, its copy of the state included, and about 1.3 MB where an event
+   settles two or more points of some node at once: measured, docs/TESTING.md. */
 
 /* A state with no points, or a refusal 1 to 7. The rule is copied into the state. */
 struct yokemango_started yokemango_start(const uint8_t *rule, size_t rule_len);
