@@ -25,7 +25,7 @@ use Rattle.taking.specs.Answers.{storedFront}
 use Rattle.monitor.specs.State.{stored, nothing, blank}
 use Rattle.monitor.specs.Contracts.{Starts}
 use Rattle.monitor.specs.declared.State.{State}
-use Rattle.monitor.proofs.Front.{front-take}
+use Rattle.taking.proofs.Stored.{front-take}
 
 -- a state of zeros with a rule put in
 pub rule-in : (z : State) (b bytes : List ℕ) → z ≡ blank → length b ≤ length bytes → take (length b) bytes ≡ b

@@ -15,7 +15,7 @@ use Rattle.monitor.specs.Contracts.{answerOf, Moves, Takes}
 use Rattle.monitor.specs.declared.State.{State}
 use Rattle.monitor.specs.declared.Answer.{Answer}
 use Rattle.monitor.specs.declared.Answer.the-variants as answer
-use Rattle.monitor.proofs.Front.{front-take}
+use Rattle.taking.proofs.Stored.{front-take}
 
 module _ (s : State) (w buffer : List ℕ) {buffer' times' os' ns' vs' : List ℕ} {r : Taken} (t : TakesIn (stored s) w buffer buffer' times' os' ns' vs' (takeAnswer (stored s) w (length buffer)) r) where
   handed : (next : State) (k : Answer) → takenOf r ≡ answerOf k → Moves s w next k → Takes s w buffer (record { state = next; answer = k }) buffer'
