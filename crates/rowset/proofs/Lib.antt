@@ -1,5 +1,6 @@
 -- Facts about sets of rows.
 pub mod Order
+pub mod Words
 pub mod Saturation
 pub mod Ascending
 pub mod Places

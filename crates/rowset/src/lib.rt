@@ -42,46 +42,35 @@ pub fn put_row(ws: &mut [u32], k: usize, r: Row)
     ws[k * 4 + 3] = r.v3;
 }
 
-// The first word is less, or the words are equal and the rest stands before.
-fn word_before(a: u32, b: u32, rest: bool) -> bool
-    ensures { λ t. ⌜ t ≡ (ltb a b || (eqb a b && rest)) ⌝ }
-{
-    if a < b {
-        return true;
-    }
-    if a == b {
-        return rest;
-    }
-    false
-}
-
-// The order of rows.
+// The order of rows: by the first word in which they differ.
 pub fn is_before(x: Row, y: Row) -> bool
     ensures { λ t. ⌜ t ≡ before (wordsOf x) (wordsOf y) ⌝ }
 {
-    let last = word_before(x.v3, y.v3, false);
-    let third = word_before(x.v2, y.v2, last);
-    let second = word_before(x.v1, y.v1, third);
-    word_before(x.v0, y.v0, second)
-}
-
-// The words are equal, and the rest is the same.
-fn word_same(a: u32, b: u32, rest: bool) -> bool
-    ensures { λ t. ⌜ t ≡ (eqb a b && rest) ⌝ }
-{
-    if a == b {
-        return rest;
+    if x.v0 != y.v0 {
+        return x.v0 < y.v0;
     }
-    false
+    if x.v1 != y.v1 {
+        return x.v1 < y.v1;
+    }
+    if x.v2 != y.v2 {
+        return x.v2 < y.v2;
+    }
+    x.v3 < y.v3
 }
 
 pub fn same_row(x: Row, y: Row) -> bool
     ensures { λ t. ⌜ t ≡ sameRow (wordsOf x) (wordsOf y) ⌝ }
 {
-    let last = word_same(x.v3, y.v3, true);
-    let third = word_same(x.v2, y.v2, last);
-    let second = word_same(x.v1, y.v1, third);
-    word_same(x.v0, y.v0, second)
+    if x.v0 != y.v0 {
+        return false;
+    }
+    if x.v1 != y.v1 {
+        return false;
+    }
+    if x.v2 != y.v2 {
+        return false;
+    }
+    x.v3 == y.v3
 }
 
 // The number of the first row of the run that isn't before r, or the run's end.
