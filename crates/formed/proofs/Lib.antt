@@ -1,5 +1,6 @@
 -- Facts about the test of what is stored.
 pub mod Ascents
+pub mod NoPairs
 pub mod Fronts
 pub mod Masks
 pub mod Walks

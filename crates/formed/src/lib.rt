@@ -125,7 +125,7 @@ fn aged_fit(numbers: &[u32], values: &[u32], from: usize, to: usize, mask: u8, w
 }
 
 // Pairs from..to are node x's: only kinds 9, 10 and 13 have any.
-fn pairs_fit(
+fn kind_fits(
     rule: &[u8],
     x: u8,
     numbers: &[u32],
@@ -155,6 +155,26 @@ fn pairs_fit(
         Node::NotUntil(_, _, _) => from == to,
         Node::Eventually(_, _) => from == to,
     }
+}
+
+// The same, where mostly there are none.
+fn pairs_fit(
+    rule: &[u8],
+    x: u8,
+    numbers: &[u32],
+    values: &[u32],
+    from: usize,
+    to: usize,
+    mask: u8,
+) -> bool
+    requires { ⌜ (length (now rule) ≡ 12 + 20 * nodeCount (now rule)) × (x < nodeCount (now rule)) × MaskOf (now rule) x mask ⌝ }
+    requires { ⌜ (from ≤ to) × (to ≤ length (now numbers)) × (to * 4 ≤ length (now values)) ⌝ }
+    ensures { λ t. ⌜ t ≡ pairsFit (now (rule .entry)) x (nodeAt (now (rule .entry)) x) (pairsFrom (now (numbers .entry)) (now (values .entry)) from (to - from)) ⌝ }
+{
+    if from == to {
+        return true;
+    }
+    kind_fits(rule, x, numbers, values, from, to, mask)
 }
 
 // Walks through node x's rows at each point from low on and before end.

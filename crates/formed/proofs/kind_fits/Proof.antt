@@ -1,4 +1,4 @@
--- `pairs_fit` meets its contract, kind by kind.
+-- `kind_fits` meets its contract, kind by kind.
 use Prim.Native.Nat.{_-_}
 use mathlib.Core.Path.{_≡_, sym, _∙_}
 use mathlib.Core.Bool.{_&&_}
@@ -13,8 +13,8 @@ use Rattle.kinds.specs.Kinds.{pairsFrom}
 use Rattle.formed.specs.Tests.{agedFit}
 use Rattle.formed.proofs.Ascents.{no-pairs}
 use Rattle.formed.proofs.Masks.{aged-same}
-use Rattle.formed.proofs.pairs_fit.Statement.{statement}
-use Rattle.formed.proofs.pairs_fit.Tie as tie
+use Rattle.formed.proofs.kind_fits.Statement.{statement}
+use Rattle.formed.proofs.kind_fits.Tie as tie
 
 -- there are none
 none : (c : tie.After-node-at) → let a = c .before .before .before .before .args in eqb (a .from) (a .to) ≡ eqb (length (pairsFrom (a .numbers .now) (a .values .now) (a .from) (a .to - a .from))) 0
@@ -29,8 +29,8 @@ aged c w =
     let s = c .before .before .before .before in
     aged-same (s .pre .0 .2) w (pairsFrom (s .args .numbers .now) (s .args .values .now) (s .args .from) (s .args .to - s .args .from))
 
-pub pairs-fit-spec : {M : Type 1} → statement M
-pairs-fit-spec =
+pub kind-fits-spec : {M : Type 1} → statement M
+kind-fits-spec =
     tie.close
     (tie.spec
     (λ c κs. search needs)
