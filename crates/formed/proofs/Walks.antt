@@ -9,7 +9,7 @@ use mathlib.Core.List.{List, [], _∷_, _++_, map, append-assoc, append-nil, Lis
 use lib.ListN.{getD, drop}
 use lib.Dec.{eqb}
 use borrow.Author.Tests.{eqb-true, eq-eqb, ne-eqb}
-use Rattle.meaning.specs.Lists.{all, range, gather}
+use Rattle.meaning.specs.Lists.{range, gather}
 use Rattle.meaning.specs.Log.{point}
 use Rattle.meaning.specs.RuleFile.{nodeAt}
 use Rattle.meaning.specs.Kept.{Entry, entryOf}

@@ -60,18 +60,19 @@ pub record Reached (b : List ℕ) (l : Log) : Type 0 where
 none-pass : {A : Type 0} (p : A → Bool) {x : A} {xs : List A} → any p xs ≡ false → List·Memᴰ x xs → p x ≡ false
 none-pass p {x} {xs} e m = elim (tested (p x)) [ passed t ↦ absurd (true≢false (sym (any-of p m t) ∙ e)) | failed t ↦ t ]
 
-module _ (b : List ℕ) (a : Accepted) (ok : checking b ≡ given a) where
-  empty-entries : (x : ℕ) → entriesOf b [] x ≡ []
-  unfolding entriesOf pointEntries ageEntries lastPairs
-  empty-entries x = go (eqb x (lastNode b))
-    where
-      go : (t : Bool) → _++_ {A = Entry} (cond t [] []) [] ≡ []
-      go true = refl
-      go false = refl
+-- an empty log has no entries
+pub empty-entries : (b : List ℕ) (x : ℕ) → entriesOf b [] x ≡ []
+unfolding entriesOf pointEntries ageEntries lastPairs
+empty-entries b x = go (eqb x (lastNode b))
+  where
+    go : (t : Bool) → _++_ {A = Entry} (cond t [] []) [] ≡ []
+    go true = refl
+    go false = refl
 
+module _ (b : List ℕ) (a : Accepted) (ok : checking b ≡ given a) where
   empty-kept : kept b [] ≤ mostKept
   unfolding kept entries
-  empty-kept = rw (gather-none (entriesOf b []) 0 (nodeCount b) (λ x u o. empty-entries x)) (omega arith)
+  empty-kept = rw (gather-none (entriesOf b []) 0 (nodeCount b) (λ x u o. empty-entries b x)) (omega arith)
 
   empty-open : openPoints b [] ≤ mostOpen
   unfolding openPoints

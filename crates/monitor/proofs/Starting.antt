@@ -3,19 +3,19 @@ use Prim.Native.Nat.{ℕ, _≤_}
 use native.Mathlib.Nat.{zero-sub}
 use native.Mathlib.Omega.{arith}
 use mathlib.Core.Path.{_≡_, refl, sym, _∙_, ap}
-use mathlib.Core.Bool.{Bool, true, false, cond, true≢false}
-use mathlib.Core.List.{List, [], _∷_, _++_}
+use mathlib.Core.Bool.{false, true≢false}
+use mathlib.Core.List.{List, [], _∷_}
 use lib.ListN.{length, take}
-use lib.Dec.{eqb}
 use types.Run.{OneOf, miss}
 use denote.Enum.Declared.{tagOf}
 use Rattle.meaning.specs.Outcome.{given}
-use Rattle.meaning.specs.RuleFile.{Accepted as Answer, checking, nodeCount, lastNode}
-use Rattle.meaning.specs.Kept.{Entry, pointEntries, ageEntries, lastPairs, entriesOf, entries}
+use Rattle.meaning.specs.RuleFile.{Accepted as Answer, checking, nodeCount}
+use Rattle.meaning.specs.Kept.{entriesOf, entries}
 use Rattle.meaning.proofs.Accepted.{accepted, nodes-most}
 use Rattle.method.specs.Stored.{storedOf}
 use Rattle.method.specs.WellFormed.{isAccepted}
 use Rattle.method.proofs.Lists.{gather-none}
+use Rattle.method.proofs.Reached.{empty-entries}
 use Rattle.shelf.specs.Entries.{entriesFrom}
 use Rattle.rulefile.specs.Checked.{answerOf}
 use Rattle.rulefile.specs.declared.Checked.{Checked}
@@ -32,15 +32,6 @@ pub rule-in : (z : State) (b bytes : List ℕ) → z ≡ blank → length b ≤ 
     → storedFront bytes (length b) (z .points) (z .times) (z .retained) (z .owners) (z .numbers) (z .values) (z .count) ≡ nothing b
 unfolding blank entriesFrom
 rule-in z b bytes e l t = rw e (ap nothing (front-take (length b) bytes l ∙ t))
-
--- the entries of an empty log; this repeats `empty-entries` of method's proofs/Reached.antt, which isn't public
-empty-entries : (b : List ℕ) (x : ℕ) → entriesOf b [] x ≡ []
-unfolding entriesOf pointEntries ageEntries lastPairs
-empty-entries b x = go (eqb x (lastNode b))
-  where
-    go : (t : Bool) → _++_ {A = Entry} (cond t [] []) [] ≡ []
-    go true = refl
-    go false = refl
 
 -- what an empty log stores
 nothing-stored : (b : List ℕ) → nothing b ≡ storedOf b []

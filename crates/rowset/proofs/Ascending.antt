@@ -8,7 +8,7 @@ use lib.Dec.{ltb, eqb}
 use Rattle.meaning.specs.Lists.{all}
 use Rattle.meaning.specs.Order.{before, ascending}
 use Rattle.meaning.specs.Evaluator.{insert}
-use Rattle.meaning.proofs.Points.{Tested, passed, failed, tested, both, first, second}
+use Rattle.meaning.proofs.Points.{both, first, second}
 use Rattle.meaning.proofs.Rows.{insert-ascends}
 use Rattle.rowset.specs.Rows.{mostHeld, addCapped, addAllCapped}
 

@@ -1,5 +1,5 @@
 -- A node that passes 4 and 5 has lower children, variables below 4 and a window that adds at most the longest to the reach.
-use Prim.Native.Nat.{ℕ, _<_, _≤_, zero-le}
+use Prim.Native.Nat.{ℕ, _≤_, zero-le}
 use native.Mathlib.Omega.{arith}
 use mathlib.Core.Path.{_≡_, refl}
 use mathlib.Core.Bool.{Bool, true, false, cond, _&&_, _||_}

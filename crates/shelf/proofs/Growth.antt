@@ -1,5 +1,5 @@
 -- Sets appended to those of a call: one pushed behind the others, none, and more after more.
-use Prim.Native.Nat.{ℕ, zero, suc, _+_, _-_, _*_, _≤_, _<_}
+use Prim.Native.Nat.{ℕ, _+_, _-_, _*_, _≤_, _<_}
 use mathlib.Core.Path.{_≡_, refl, sym, ap, ap₂, _∙_}
 use mathlib.Core.List.{List, _∷_, []}
 use native.Mathlib.Omega.{arith}

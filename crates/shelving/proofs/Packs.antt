@@ -8,7 +8,7 @@ use Rattle.meaning.specs.Kept.{Entry, entryOf}
 use Rattle.rowset.specs.Sets.{Run}
 use Rattle.rowset.proofs.Runs.{rows-length}
 use Rattle.kinds.specs.Kinds.{pairsFrom}
-use Rattle.room.specs.Room.{setIn, setAt, Laid}
+use Rattle.room.specs.Room.{setIn, setAt}
 use Rattle.shelf.specs.Entries.{ownedBy, pairEntries, Stands, Packed}
 use Rattle.room.proofs.Laid.{mark-before, laid-fewer}
 use Rattle.shelf.proofs.Packing.{packed-none, packed-then, packed-as, owned-rows, owned-pairs}

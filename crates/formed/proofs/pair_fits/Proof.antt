@@ -1,7 +1,6 @@
 -- `pair_fits` meets its contract: the pair alone, and against the next.
 use mathlib.Core.Path.{_≡_, sym, ap, ap₂, _∙_}
 use Prim.Native.Nat.{_+_}
-use mathlib.Core.Bool.{true}
 use mathlib.Core.List.{_∷_}
 use lib.ListN.{getD}
 use borrow.Author.Tests.{not-true, not-false}

@@ -1,11 +1,20 @@
--- `same_row` meets its contract: word by word, from the last.
-use borrow.Author.Needs.{needs}
+-- `same_row` meets its contract: each way out has decided the test.
+use mathlib.Core.Bool.{and-true}
+use borrow.Author.Tests.{eq-eqb, ne-eqb}
 use Rattle.rowset.proofs.same_row.Statement.{statement}
 use Rattle.rowset.proofs.same_row.Tie as tie
 
 returns : tie.Need-returns
-returns c =
-    rw (c .word-same4 .ensures, c .before .word-same3 .ensures, c .before .before .word-same2 .ensures, c .before .before .before .word-same .ensures)
+returns c = rw (ne-eqb _ _ (c .if1 .taken))
+
+returns-2 : tie.Need-returns-2
+returns-2 c = rw (eq-eqb _ _ (c .before .before .before .if1 .left), ne-eqb _ _ (c .if2 .taken))
+
+returns-3 : tie.Need-returns-3
+returns-3 c = rw (eq-eqb _ _ (c .before .before .before .before .before .before .if1 .left), eq-eqb _ _ (c .before .before .before .if2 .left), ne-eqb _ _ (c .if3 .taken))
+
+returns-4 : tie.Need-returns-4
+returns-4 c = rw (eq-eqb _ _ (c .before .before .before .before .before .before .before .before .if1 .left), eq-eqb _ _ (c .before .before .before .before .before .if2 .left), eq-eqb _ _ (c .before .before .if3 .left), and-true)
 
 pub same-row-spec : {M : Type 1} → statement M
-same-row-spec = tie.close (tie.spec (λ c κs. search needs) (λ c κs. search needs) (λ c κs. search needs) (λ c κs. search needs) returns)
+same-row-spec = tie.close (tie.spec returns returns-2 returns-3 returns-4)

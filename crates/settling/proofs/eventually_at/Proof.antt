@@ -2,7 +2,6 @@
 use mathlib.Core.Path.{ap}
 use mathlib.Core.Bool.{true}
 use lib.ListN.{getD}
-use borrow.Author.Needs.{needs}
 use Rattle.meaning.specs.Evaluator.{untilRows}
 use Rattle.method.specs.Stored.{stampIn}
 use Rattle.rowset.proofs.Growing.{added-as}

@@ -4,7 +4,7 @@ use native.Mathlib.Omega.{arith}
 use mathlib.Core.Path.{_≡_}
 use mathlib.Core.List.{List, _++_}
 use borrow.Author.Needs.{needs}
-use Rattle.writer.specs.Words.{firstRow, endRow, words, Marked}
+use Rattle.writer.specs.Words.{firstRow, endRow, words}
 use Rattle.writer.proofs.Putting.{Putting, putting-room, putting-more, putting-last}
 use Rattle.writer.proofs.Reports.{triplesOf, rowsOf, words-length, run-ordered, sizes-put, marked}
 use Rattle.writer.proofs.write_at.Statement.{statement}
