@@ -22,10 +22,10 @@ use Rattle.kinds.specs.Kinds.{EventThere}
 use Rattle.shelf.specs.Entries.{entryAt, entriesFrom, Stands}
 use Rattle.formed.specs.Known.{storedIn, Known}
 use Rattle.turns.specs.Turns.{figure, turnIn, crowdedIn, entriesOut, entriesIn, Begun}
-use Rattle.weighing.specs.Weighs.{reportIn, SettledAll}
 use Rattle.weighing.specs.declared.Weighed.{Weighed}
 use Rattle.weighing.specs.declared.Weighed.the-variants.{Refused}
 use Rattle.weighing.specs.declared.Refusal.{Refusal}
+use Rattle.rooms.specs.Settles.{reportIn, SettledAll}
 use Rattle.taking.specs.declared.Taken.{Taken}
 use Rattle.taking.specs.declared.Taken.the-variants as taken
 use Rattle.taking.specs.Answers.{weighedNow, Finishes, TakesIn}

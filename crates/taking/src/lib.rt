@@ -179,7 +179,7 @@ fn take_figured(
     let k = times.len();
     let base = progress::less(points, k as u32);
     let most = most_new(before, &after[0..n]);
-    let weighed = weighing::settle_in_room(
+    let weighed = rooms::settle_in_room(
         rule,
         owners,
         numbers,

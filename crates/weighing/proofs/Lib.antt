@@ -1,3 +1,2 @@
--- Facts about weighing 13 to 16.
+-- Facts about weighing 14 to 16.
 pub mod Weighing
-pub mod Settled

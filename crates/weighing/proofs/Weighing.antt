@@ -1,4 +1,4 @@
--- Refusals 13 to 16 weighed: the last node's report has few words, and what each branch of the weighing gives.
+-- Refusals 14 to 16 weighed: the last node's report has few words, and what each branch of the weighing gives.
 use Prim.Native.Nat.{ℕ, zero, suc, _+_, _-_, _*_, _≤_, _<_}
 use native.Mathlib.Nat.{mul-le-mul-right}
 use native.Mathlib.Omega.{arith}

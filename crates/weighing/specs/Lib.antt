@@ -1,2 +1,2 @@
--- What the contracts of this crate cite beside the definitions of `meaning`, `method`, `writer` and `turns`.
+-- What the contracts of this crate cite beside the definitions of `meaning`, `writer` and `turns`.
 pub mod Weighs

@@ -1,21 +1,14 @@
--- What weighing 13 to 16 answers, the outcome of 01 that each answer stands for, and what it leaves.
+-- What weighing 13 to 16 answers, the outcome of 01 that each answer stands for, and what weighing 14 to 16 leaves.
 use Prim.Native.Nat.{ℕ, _+_, _-_, _≤_, _<_}
 use mathlib.Core.Path.{_≡_}
-use mathlib.Core.List.{List, map}
+use mathlib.Core.List.{List}
 use lib.ListN.{length, getD}
 use lib.Dec.{ltb}
-use Rattle.meaning.specs.Lists.{select, range, gather}
 use Rattle.meaning.specs.Outcome.{Outcome, refused, given, when, notWellFormed, notAnEvent, rowOut, timeFalls, logFull, crowded, backlog, keptOver, bufferShort, mostRows, mostOpen, mostKept}
-use Rattle.meaning.specs.Log.{pointsFrom}
-use Rattle.meaning.specs.Formula.{free, variables}
-use Rattle.meaning.specs.RuleFile.{nodeCount, lastNode, pattern}
-use Rattle.meaning.specs.Report.{reportWords}
-use Rattle.meaning.specs.Keeper.{reportRow, weighed, bufferAfter}
-use Rattle.method.specs.Stored.{stampIn}
-use Rattle.method.specs.Settle.{rowsOfTurn}
-use Rattle.shelf.specs.Entries.{entriesFrom}
+use Rattle.meaning.specs.RuleFile.{nodeCount, lastNode}
+use Rattle.meaning.specs.Keeper.{bufferAfter}
 use Rattle.writer.specs.Words.{setOf, words, Reportable}
-use Rattle.turns.specs.Turns.{figure, turnIn, crowdedIn, entriesOut}
+use Rattle.turns.specs.Turns.{figure}
 use Rattle.weighing.specs.declared.Refusal.{Refusal}
 use Rattle.weighing.specs.declared.Refusal.the-variants.{NotWellFormed, NotAnEvent, RowOut, TimeFalls, LogFull, Crowded, Backlog, KeptOver, BufferShort}
 use Rattle.weighing.specs.declared.Weighed.{Weighed}
@@ -67,17 +60,3 @@ pub record Last (b rows at firsts lows masks before after : List ℕ) (points : 
 abbrev pub lastWords : List ℕ → List ℕ → List ℕ → List ℕ → List ℕ → List ℕ → List ℕ → List ℕ → ℕ → List ℕ → List ℕ
 lastWords b rows at firsts lows masks before after base times =
     words rows at (figure firsts (lastNode b)) (figure lows (lastNode b)) base times (figure masks (lastNode b)) (figure before (lastNode b)) (figure after (lastNode b) - figure before (lastNode b))
-
--- the report of the turns of a call
-module _ (b os ns vs : List ℕ) (count : ℕ) (before after times : List ℕ) (base : ℕ) (w : List ℕ) where
-  unfoldable pub reportIn : List ℕ
-  reportIn =
-      reportWords (length (select (free (pattern b)) variables))
-      (map (λ i. record { at = i; time = stampIn base times i; rows = map (reportRow (free (pattern b))) (rowsOfTurn (turnIn b os ns vs count before after times base w (lastNode b)) i) })
-      (pointsFrom (figure before (lastNode b)) (figure after (lastNode b) - figure before (lastNode b))))
-
-  -- 13 to 16 weighed after the turns of a call in a log of so many points; where nothing is refused, the entries that are kept stand in os', ns' and vs'
-  pub record SettledAll (points : ℕ) (buffer buffer' os' ns' vs' : List ℕ) (r : Weighed) : Type 0 where
-    pub outcome : weighedOf r ≡ weighed (crowdedIn b os ns vs count before after times base w) (nodeCount b) (points - figure after (lastNode b)) (length (gather (entriesOut b os ns vs count before after times base w) (range 0 (nodeCount b)))) (length reportIn) (length buffer)
-    pub written : buffer' ≡ bufferAfter (weighedOf r) reportIn buffer
-    pub kept : (words kept : ℕ) → r ≡ Written words kept → (entriesFrom os' ns' vs' 0 kept ≡ gather (entriesOut b os ns vs count before after times base w) (range 0 (nodeCount b))) × (kept ≤ mostKept)

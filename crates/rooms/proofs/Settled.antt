@@ -26,11 +26,12 @@ use Rattle.shelf.specs.Entries.{entriesFrom}
 use Rattle.writer.specs.Words.{setOf, reportedFrom, words}
 use Rattle.writer.proofs.Reports.{reportable}
 use Rattle.turns.specs.Turns.{figure, turnIn, crowdedIn, Begun, AllTurned, FirstCrowded}
 use Rattle.weighing.specs.declared.Refusal.the-variants.{Crowded}
 use Rattle.weighing.specs.declared.Weighed.{Weighed}
 use Rattle.weighing.specs.declared.Weighed.the-variants.{Refused}
-use Rattle.weighing.specs.Weighs.{Weighs, SettledAll, reportIn, Last, lastWords}
+use Rattle.weighing.specs.Weighs.{Weighs, Last, lastWords}
 use Rattle.weighing.proofs.Weighing.{not-written}
+use Rattle.rooms.specs.Settles.{SettledAll, reportIn}
 
 -- a higher bound on the newly settled points
 pub begun-most : {b os ns vs : List ℕ} {count : ℕ} {before after times : List ℕ} {base : ℕ} {w lows wants masks : List ℕ} {points most : ℕ} → Begun b os ns vs count before after times base w lows wants masks points most

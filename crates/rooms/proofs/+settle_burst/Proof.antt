@@ -1,16 +1,17 @@
 -- `settle_burst` meets its contract: `again` falls at each call of itself, and the room is enough for 65 points a node.
 use Prim.Native.Nat.{ℕ, _<_}
 use native.Mathlib.Omega.{arith}
+use mathlib.Core.Path.{refl}
 use Rattle.meaning.proofs.Accepted.{nodes-most}
 use borrow.Author.Needs.{needs}
 use borrow.Fn.Kinds.{In}
 use borrow.Fn.PlainCycle.{Measures, is, falls, and}
-use Rattle.weighing.proofs.settle_burst.Reads as settle-burst
-use Rattle.weighing.proofs.settle_burst.Kinds as settle-burst-kinds
-use Rattle.weighing.proofs.+settle_burst.Lts-settle_burst as settle-burst-lts
-use Rattle.weighing.proofs.settle.Reads as settle-reads
-use Rattle.weighing.proofs.+settle_burst.{statement}
-use Rattle.weighing.proofs.+settle_burst.Tie.{close}
+use Rattle.rooms.proofs.settle_burst.Reads as settle-burst
+use Rattle.rooms.proofs.settle_burst.Kinds as settle-burst-kinds
+use Rattle.rooms.proofs.+settle_burst.Lts-settle_burst as settle-burst-lts
+use Rattle.rooms.proofs.settle.Reads as settle-reads
+use Rattle.rooms.proofs.+settle_burst.{statement}
+use Rattle.rooms.proofs.+settle_burst.Tie.{close}
 
 abbrev μ-settle-burst : Measures 15 settle-burst-kinds.ps ℕ
 μ-settle-burst κs a = a .0
@@ -27,7 +28,6 @@ settle-burst-below t =
     (falls 15 settle-burst-kinds.ps _<_ μ-settle-burst t)
     settle-burst.Pre
 
--- src/lib.rt:285:13
 settle-burst-sub-settle-burst : (t : ℕ) → settle-burst-lts.Need-sub-settle-burst (
   settle-burst-below t,
   settle-burst.Post,
@@ -36,7 +36,6 @@ settle-burst-sub-settle-burst : (t : ℕ) → settle-burst-lts.Need-sub-settle-b
 ) (settle-burst-at t) settle-burst.Post
 settle-burst-sub-settle-burst t c = search needs
 
--- src/lib.rt:284:9
 settle-burst-settle-burst-requires : (t : ℕ) → settle-burst-lts.Need-settle-burst-requires (
   settle-burst-below t,
   settle-burst.Post,
@@ -45,43 +44,38 @@ settle-burst-settle-burst-requires : (t : ℕ) → settle-burst-lts.Need-settle-
 ) (settle-burst-at t) settle-burst.Post
 settle-burst-settle-burst-requires t c κs = let s = c .before .before .before .before .before .before .before .before .before .before .before .before .before .before .before .before .before .before .before .before in (omega (arith, s .pre .0), s .pre .1)
 
--- src/lib.rt:284:9
 settle-burst-same-length : (t : ℕ) → settle-burst-lts.Need-same-length (
   settle-burst-below t,
   settle-burst.Post,
   settle-reads.Asked,
   settle-reads.Learnt,
 ) (settle-burst-at t) settle-burst.Post
-settle-burst-same-length t c = search needs
+settle-burst-same-length t c = c .before .before .before .before .before .before .before .out-owners .given
 
--- src/lib.rt:284:9
 settle-burst-same-length-2 : (t : ℕ) → settle-burst-lts.Need-same-length-2 (
   settle-burst-below t,
   settle-burst.Post,
   settle-reads.Asked,
   settle-reads.Learnt,
 ) (settle-burst-at t) settle-burst.Post
-settle-burst-same-length-2 t c = search needs
+settle-burst-same-length-2 t c = c .before .before .before .before .before .out-numbers .given
 
--- src/lib.rt:284:9
 settle-burst-same-length-3 : (t : ℕ) → settle-burst-lts.Need-same-length-3 (
   settle-burst-below t,
   settle-burst.Post,
   settle-reads.Asked,
   settle-reads.Learnt,
 ) (settle-burst-at t) settle-burst.Post
-settle-burst-same-length-3 t c = search needs
+settle-burst-same-length-3 t c = c .before .before .before .out-values .given
 
--- src/lib.rt:284:9
 settle-burst-same-length-4 : (t : ℕ) → settle-burst-lts.Need-same-length-4 (
   settle-burst-below t,
   settle-burst.Post,
   settle-reads.Asked,
   settle-reads.Learnt,
 ) (settle-burst-at t) settle-burst.Post
-settle-burst-same-length-4 t c = search needs
+settle-burst-same-length-4 t c = c .before .report .given
 
--- src/lib.rt:284:9
 settle-burst-returns : (t : ℕ) → settle-burst-lts.Need-returns (
   settle-burst-below t,
   settle-burst.Post,
@@ -90,70 +84,62 @@ settle-burst-returns : (t : ℕ) → settle-burst-lts.Need-returns (
 ) (settle-burst-at t) settle-burst.Post
 settle-burst-returns t c = c .before .before .before .before .before .before .before .before .settle-burst .ensures
 
--- src/lib.rt:329:9
 settle-burst-slice-aggregate-settle : (t : ℕ) → settle-burst-lts.Need-slice-aggregate-settle (
   settle-burst-below t,
   settle-burst.Post,
   settle-reads.Asked,
   settle-reads.Learnt,
 ) (settle-burst-at t) settle-burst.Post
-settle-burst-slice-aggregate-settle t c = search needs
+settle-burst-slice-aggregate-settle t c = refl
 
--- src/lib.rt:330:9
 settle-burst-slice-aggregate-settle-2 : (t : ℕ) → settle-burst-lts.Need-slice-aggregate-settle-2 (
   settle-burst-below t,
   settle-burst.Post,
   settle-reads.Asked,
   settle-reads.Learnt,
 ) (settle-burst-at t) settle-burst.Post
-settle-burst-slice-aggregate-settle-2 t c = search needs
+settle-burst-slice-aggregate-settle-2 t c = refl
 
--- src/lib.rt:331:9
 settle-burst-slice-aggregate-settle-3 : (t : ℕ) → settle-burst-lts.Need-slice-aggregate-settle-3 (
   settle-burst-below t,
   settle-burst.Post,
   settle-reads.Asked,
   settle-reads.Learnt,
 ) (settle-burst-at t) settle-burst.Post
-settle-burst-slice-aggregate-settle-3 t c = search needs
+settle-burst-slice-aggregate-settle-3 t c = refl
 
--- src/lib.rt:332:9
 settle-burst-slice-aggregate-settle-4 : (t : ℕ) → settle-burst-lts.Need-slice-aggregate-settle-4 (
   settle-burst-below t,
   settle-burst.Post,
   settle-reads.Asked,
   settle-reads.Learnt,
 ) (settle-burst-at t) settle-burst.Post
-settle-burst-slice-aggregate-settle-4 t c = search needs
+settle-burst-slice-aggregate-settle-4 t c = refl
 
--- src/lib.rt:333:9
 settle-burst-slice-aggregate-settle-5 : (t : ℕ) → settle-burst-lts.Need-slice-aggregate-settle-5 (
   settle-burst-below t,
   settle-burst.Post,
   settle-reads.Asked,
   settle-reads.Learnt,
 ) (settle-burst-at t) settle-burst.Post
-settle-burst-slice-aggregate-settle-5 t c = search needs
+settle-burst-slice-aggregate-settle-5 t c = refl
 
--- src/lib.rt:334:9
 settle-burst-slice-aggregate-settle-6 : (t : ℕ) → settle-burst-lts.Need-slice-aggregate-settle-6 (
   settle-burst-below t,
   settle-burst.Post,
   settle-reads.Asked,
   settle-reads.Learnt,
 ) (settle-burst-at t) settle-burst.Post
-settle-burst-slice-aggregate-settle-6 t c = search needs
+settle-burst-slice-aggregate-settle-6 t c = refl
 
--- src/lib.rt:335:9
 settle-burst-slice-aggregate-settle-7 : (t : ℕ) → settle-burst-lts.Need-slice-aggregate-settle-7 (
   settle-burst-below t,
   settle-burst.Post,
   settle-reads.Asked,
   settle-reads.Learnt,
 ) (settle-burst-at t) settle-burst.Post
-settle-burst-slice-aggregate-settle-7 t c = search needs
+settle-burst-slice-aggregate-settle-7 t c = refl
 
--- src/lib.rt:313:5
 settle-burst-settle-requires : (t : ℕ) → settle-burst-lts.Need-settle-requires (
   settle-burst-below t,
   settle-burst.Post,
@@ -162,50 +148,45 @@ settle-burst-settle-requires : (t : ℕ) → settle-burst-lts.Need-settle-requir
 ) (settle-burst-at t) settle-burst.Post
 settle-burst-settle-requires t c κs = let s = c .before .before .before .before .before .before .before .before .before .before .before .before .before .before .before .before .before .before .before .before .before .before .before .before .before .before .before in (s .pre .1 .0, (record { words = omega (arith, s .pre .1 .0 .few-kept, nodes-most _ (s .pre .1 .0 .accepted .0) (s .pre .1 .0 .accepted .1)); small = omega (arith, s .pre .1 .0 .few-kept, nodes-most _ (s .pre .1 .0 .accepted .0) (s .pre .1 .0 .accepted .1)); marks = omega (arith, nodes-most _ (s .pre .1 .0 .accepted .0) (s .pre .1 .0 .accepted .1)); nodes = omega arith; pairs = record { agesThere = omega (arith, s .pre .1 .0 .few-kept, nodes-most _ (s .pre .1 .0 .accepted .0) (s .pre .1 .0 .accepted .1)); valuesThere = omega (arith, s .pre .1 .0 .few-kept, nodes-most _ (s .pre .1 .0 .accepted .0) (s .pre .1 .0 .accepted .1)) }; spare = λ o. record { agesThere = omega (arith, s .pre .1 .0 .few-kept, nodes-most _ (s .pre .1 .0 .accepted .0) (s .pre .1 .0 .accepted .1)); valuesThere = omega (arith, s .pre .1 .0 .few-kept, nodes-most _ (s .pre .1 .0 .accepted .0) (s .pre .1 .0 .accepted .1)) } }, s .pre .1 .1))
 
--- src/lib.rt:258:1
 settle-burst-same-length-5 : (t : ℕ) → settle-burst-lts.Need-same-length-5 (
   settle-burst-below t,
   settle-burst.Post,
   settle-reads.Asked,
   settle-reads.Learnt,
 ) (settle-burst-at t) settle-burst.Post
-settle-burst-same-length-5 t c = search needs
+settle-burst-same-length-5 t c = c .before .before .before .before .before .before .before .out-owners2 .given
 
--- src/lib.rt:258:1
 settle-burst-same-length-6 : (t : ℕ) → settle-burst-lts.Need-same-length-6 (
   settle-burst-below t,
   settle-burst.Post,
   settle-reads.Asked,
   settle-reads.Learnt,
 ) (settle-burst-at t) settle-burst.Post
-settle-burst-same-length-6 t c = search needs
+settle-burst-same-length-6 t c = c .before .before .before .before .before .out-numbers2 .given
 
--- src/lib.rt:258:1
 settle-burst-same-length-7 : (t : ℕ) → settle-burst-lts.Need-same-length-7 (
   settle-burst-below t,
   settle-burst.Post,
   settle-reads.Asked,
   settle-reads.Learnt,
 ) (settle-burst-at t) settle-burst.Post
-settle-burst-same-length-7 t c = search needs
+settle-burst-same-length-7 t c = c .before .before .before .out-values2 .given
 
--- src/lib.rt:258:1
 settle-burst-same-length-8 : (t : ℕ) → settle-burst-lts.Need-same-length-8 (
   settle-burst-below t,
   settle-burst.Post,
   settle-reads.Asked,
   settle-reads.Learnt,
 ) (settle-burst-at t) settle-burst.Post
-settle-burst-same-length-8 t c = search needs
+settle-burst-same-length-8 t c = c .before .report2 .given
 
--- src/lib.rt:258:1
 settle-burst-returns-2 : (t : ℕ) → settle-burst-lts.Need-returns-2 (
   settle-burst-below t,
   settle-burst.Post,
   settle-reads.Asked,
   settle-reads.Learnt,
 ) (settle-burst-at t) settle-burst.Post
-settle-burst-returns-2 t c = search needs
+settle-burst-returns-2 t c = c .before .before .before .before .before .before .before .before .before .before .before .before .before .before .before .settle .ensures
 
 pub +settle-burst-spec : {M : Type 1} → statement M
 +settle-burst-spec = close μ-settle-burst λ t. settle-burst-lts.spec (

@@ -1,0 +1,26 @@
+-- `settle_small` meets its contract: the room is enough for one newly settled point of each of 8 nodes.
+use native.Mathlib.Omega.{arith}
+use mathlib.Core.Path.{refl}
+use Rattle.rooms.proofs.settle_small.Statement.{statement}
+use Rattle.rooms.proofs.settle_small.Tie as tie
+
+settle-requires : tie.Need-settle-requires
+settle-requires c κs = let s = c .before .before .before .before .before .before .before .before .before .before .before .before .before .before .before .before .before .before .before .before .before .before .before .before .before .before in (s .pre .0, (record { words = omega (arith, s .pre .1 .0 .1, s .pre .1 .0 .0); small = omega (arith, s .pre .1 .0 .1, s .pre .1 .0 .0); marks = omega (arith, s .pre .1 .0 .0); nodes = omega arith; pairs = record { agesThere = omega (arith, s .pre .1 .0 .1); valuesThere = omega (arith, s .pre .1 .0 .1) }; spare = λ o. absurd (omega arith) }, s .pre .1 .1))
+
+pub settle-small-spec : {M : Type 1} → statement M
+settle-small-spec =
+    tie.close
+    (tie.spec
+    (λ c. refl)
+    (λ c. refl)
+    (λ c. refl)
+    (λ c. refl)
+    (λ c. refl)
+    (λ c. refl)
+    (λ c. refl)
+    settle-requires
+    (λ c. c .before .before .before .before .before .before .before .out-owners .given)
+    (λ c. c .before .before .before .before .before .out-numbers .given)
+    (λ c. c .before .before .before .out-values .given)
+    (λ c. c .before .report .given)
+    (λ c. c .before .before .before .before .before .before .before .before .before .before .before .before .before .before .before .settle .ensures))
