@@ -1,2 +1,3 @@
--- What the exported functions give.
+-- What the exported functions give, and the claim about a whole list of exported calls (ExportedList).
 pub mod Numbers
+pub mod ExportedList

@@ -1,29 +1,28 @@
 -- What the operations give, told in numbers.
 use Prim.Native.Nat.{ℕ}
-use mathlib.Core.Path.{_≡_, refl, _∙_, ap, subst}
+use mathlib.Core.Path.{_≡_, refl, sym, _∙_, ap}
+use mathlib.Core.Bool.{true, false, true≢false}
 use mathlib.Core.List.{List}
 use lib.ListN.{length}
+use borrow.Author.Tests.{eqb-true}
 use Rattle.meaning.specs.Outcome.{Outcome, refused, given}
 use Rattle.meaning.specs.RuleFile.{Accepted, checking}
-use Rattle.meaning.specs.Keeper.{bufferAfter}
+use Rattle.meaning.proofs.Points.{first, second}
 use Rattle.method.specs.Stored.{Stored}
-use Rattle.method.specs.Step.{reportNow}
 use Rattle.rulefile.specs.Checked.{answerOf as checkedOf}
 use Rattle.weighing.specs.Weighs.{refusalOf}
-use Rattle.weighing.specs.declared.Refusal.{Refusal}
-use Rattle.weighing.specs.declared.Refusal.the-variants.{NotWellFormed, NotAnEvent, RowOut, TimeFalls, LogFull, Crowded, Backlog, KeptOver, BufferShort}
-use Rattle.taking.specs.Answers.{takeAnswer, Opens}
-use Rattle.taking.specs.declared.Open.{Open}
+use Rattle.weighing.specs.declared.Refusal.the-variants.{NotWellFormed}
+use Rattle.taking.specs.Answers.{Opens}
 use Rattle.taking.specs.declared.Open.the-variants.{Points, NotWellFormed as NotFormed}
-use Rattle.monitor.specs.State.{stored}
-use Rattle.monitor.specs.Contracts.{Starts, Takes, Moves, answerOf}
+use Rattle.lent.specs.Lent.{Sized, answerOf, TakesLent}
+use Rattle.lent.specs.declared.Answer.{Answer}
+use Rattle.lent.specs.declared.Answer.the-variants.{Refused}
+use Rattle.monitor.specs.Contracts.{Starts}
 use Rattle.monitor.specs.declared.State.{State}
 use Rattle.monitor.specs.declared.Started.{Started}
-use Rattle.monitor.specs.declared.Answer.{Answer}
-use Rattle.monitor.specs.declared.Answer.the-variants as answer
-use Rattle.monitor.specs.declared.Step.{Step}
+use Rattle.monitor.proofs.Taken.{lentOf, handed-back}
 use Rattle.boundary.specs.Parts.{partsOf}
-use Rattle.boundary.specs.Numbers.{toldOf, StateFor, StartsAs, StateAfter, TakesAs, openOf}
+use Rattle.boundary.specs.Numbers.{toldOf, StateFor, StartsAs, lengthsFit, fitting, TakesAs, openOf}
 use Rattle.boundary.specs.declared.Parts.{Parts}
 use Rattle.boundary.specs.declared.OpenParts.{OpenParts}
 use Rattle.boundary.specs.declared.Told.{Told}
@@ -38,33 +37,30 @@ starts-told {b} {r} {parts} h e =
     go (refused n p) d = h .zeros n p d
     go (given a) d = h .started a d
 
--- the state after a refusal, whichever it is
-refused-after : (s : State) (w : List ℕ) (s' : State) (r : Refusal) → s' ≡ s → StateAfter s w s' (refusalOf r)
-refused-after s w s' NotWellFormed m = m
-refused-after s w s' NotAnEvent m = m
-refused-after s w s' (RowOut k) m = m
-refused-after s w s' TimeFalls m = m
-refused-after s w s' LogFull m = m
-refused-after s w s' (Crowded x) m = m
-refused-after s w s' Backlog m = m
-refused-after s w s' KeptOver m = m
-refused-after s w s' (BufferShort n) m = m
-
-moved-after : (s : State) (w : List ℕ) (s' : State) (a : Answer) → Moves s w s' a → StateAfter s w s' (answerOf a)
-moved-after s w s' (answer.Written words) m = m
-moved-after s w s' (answer.Refused r) m = refused-after s w s' r m
-
-pub takes-told : {s : State} {w buffer buffer' : List ℕ} {r : Step} {told : Told} → Takes s w buffer r buffer' → told ≡ toldOf (answerOf (r .answer))
-    → TakesAs s w buffer (record { number = told .number; place = told .place; words = told .words; state = r .state }) buffer'
-takes-told {s} {w} {buffer} {buffer'} {r} {told} h e =
-    let q : told ≡ toldOf (takeAnswer (stored s) w (length buffer)) = e ∙ ap toldOf (h .answered) in
+-- slices that have the lengths of a state's arrays
+pub fits-sized : (rule times os ns vs : List ℕ) → lengthsFit rule times os ns vs ≡ true → Sized rule times os ns vs
+unfolding lengthsFit
+fits-sized rule times os ns vs f =
     record {
-      number-is = ap (λ (t : Told). t .number) q;
-      place-is = ap (λ (t : Told). t .place) q;
-      words-are = ap (λ (t : Told). t .words) q;
-      written = h .written ∙ ap (λ o. bufferAfter o (reportNow (stored s) w) buffer) (h .answered);
-      state-is = subst (StateAfter s w (r .state)) (h .answered) (moved-after s w (r .state) (r .answer) (h .moved));
+      rule-long = eqb-true (length rule) 652 (search first);
+      times-long = eqb-true (length times) 65 (search (first, second));
+      owners-long = eqb-true (length os) 512 (search (first, second));
+      numbers-long = eqb-true (length ns) 512 (search (first, second));
+      values-long = eqb-true (length vs) 2048 (search (first, second));
     }
+
+module _ {s : State} {w buffer : List ℕ} {r : Told} where
+  -- lengths that aren't a state's
+  pub told-unfit : fitting s ≡ false → r ≡ toldOf (refusalOf NotWellFormed) → TakesAs s w buffer r s buffer
+  told-unfit unfit e = record { answer = Refused NotWellFormed; told = e; taken = λ fit. absurd (true≢false (sym fit ∙ unfit)); untaken = λ f. (e, refl, refl) }
+
+  -- what is lent keeps its lengths
+  pub told-taken : {a : Answer} {s' : State} {buffer' : List ℕ} → fitting s ≡ true → TakesLent (lentOf s) w buffer a (lentOf s') buffer' → r ≡ toldOf (answerOf a)
+      → length (s' .rule) ≡ length (s .rule) → length (s' .times) ≡ length (s .times) → length (s' .owners) ≡ length (s .owners) → length (s' .numbers) ≡ length (s .numbers) → length (s' .values) ≡ length (s .values)
+      → TakesAs s w buffer r s' buffer'
+  unfolding lengthsFit
+  told-taken fit t e l m n o p =
+      record { answer = _; told = e; taken = λ f. (handed-back _ _ _ _ _ _ t, rw (l, m, n, o, p) fit); untaken = λ unfit. absurd (true≢false (sym fit ∙ unfit)) }
 
 pub open-told : (s : Stored) {n : ℕ} → Opens s (Points n) → _≡_ {A = OpenParts} (record { number = 0; points = n }) (openOf s)
 unfolding openOf

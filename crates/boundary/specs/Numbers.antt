@@ -1,21 +1,22 @@
 -- What starting and taking give, in plain numbers.
 use Prim.Native.Nat.{ℕ}
 use mathlib.Core.Path.{_≡_}
-use mathlib.Core.Bool.{cond}
+use mathlib.Core.Bool.{Bool, true, false, cond, _&&_}
 use mathlib.Core.List.{List, []}
 use lib.ListN.{length}
+use lib.Dec.{eqb}
 use Rattle.meaning.specs.Outcome.{Outcome, refused, given, notWellFormed}
 use Rattle.meaning.specs.RuleFile.{Accepted, checking}
-use Rattle.meaning.specs.Keeper.{bufferAfter}
 use Rattle.method.specs.Stored.{Stored, storedOf}
-use Rattle.method.specs.Step.{openStored, storedNow, reportNow}
+use Rattle.method.specs.Step.{openStored}
 use Rattle.method.specs.WellFormed.{wellFormed}
-use Rattle.taking.specs.Answers.{takeAnswer}
+use Rattle.lent.specs.Lent.{answerOf}
+use Rattle.lent.specs.declared.Answer.{Answer}
 use Rattle.monitor.specs.State.{stored, blank}
+use Rattle.monitor.specs.Contracts.{Takes}
 use Rattle.monitor.specs.declared.State.{State}
 use Rattle.boundary.specs.Parts.{partsOf}
 use Rattle.boundary.specs.declared.StartParts.{StartParts}
-use Rattle.boundary.specs.declared.TakeParts.{TakeParts}
 use Rattle.boundary.specs.declared.OpenParts.{OpenParts}
 use Rattle.boundary.specs.declared.Told.{Told}
 
@@ -36,17 +37,23 @@ pub record StartsAs (b : List ℕ) (r : StartParts) : Type 0 where
   pub free-is : r .free ≡ partsOf (checking b) .free
   pub state-is : StateFor b (r .state) (checking b)
 
--- the state as it was, or the method's
-abbrev pub StateAfter : State → List ℕ → State → Outcome ℕ → Type 0
-StateAfter s w s' (refused n p) = s' ≡ s
-StateAfter s w s' (given words) = stored s' ≡ storedNow (stored s) w
+-- whether slices have the lengths of a state's arrays
+unfoldable pub lengthsFit : List ℕ → List ℕ → List ℕ → List ℕ → List ℕ → Bool
+lengthsFit rule times owners numbers values = eqb (length rule) 652 && (eqb (length times) 65 && (eqb (length owners) 512 && (eqb (length numbers) 512 && eqb (length values) 2048)))
 
-pub record TakesAs (s : State) (w buffer : List ℕ) (r : TakeParts) (buffer' : List ℕ) : Type 0 where
-  pub number-is : r .number ≡ toldOf (takeAnswer (stored s) w (length buffer)) .number
-  pub place-is : r .place ≡ toldOf (takeAnswer (stored s) w (length buffer)) .place
-  pub words-are : r .words ≡ toldOf (takeAnswer (stored s) w (length buffer)) .words
-  pub written : buffer' ≡ bufferAfter (takeAnswer (stored s) w (length buffer)) (reportNow (stored s) w) buffer
-  pub state-is : StateAfter s w (r .state) (takeAnswer (stored s) w (length buffer))
+abbrev pub fitting : State → Bool
+fitting s = lengthsFit (s .rule) (s .times) (s .owners) (s .numbers) (s .values)
+
+-- the state that lent slices and figures make
+abbrev pub memory : List ℕ → ℕ → ℕ → List ℕ → ℕ → List ℕ → List ℕ → List ℕ → ℕ → State
+memory rule bytes points times retained owners numbers values count = record { rule = rule; bytes = bytes; points = points; times = times; retained = retained; owners = owners; numbers = numbers; values = values; count = count }
+
+-- A taking in place, from s to s': what `take` promises, with its answer told in numbers. Where a length isn't a state's the answer is 8, and nothing is changed.
+pub record TakesAs (s : State) (w buffer : List ℕ) (r : Told) (s' : State) (buffer' : List ℕ) : Type 0 where
+  pub answer : Answer
+  pub told : r ≡ toldOf (answerOf answer)
+  pub taken : fitting s ≡ true → Takes s w buffer (record { state = s'; answer = answer }) buffer' × (fitting s' ≡ true)
+  pub untaken : fitting s ≡ false → (r ≡ record { number = notWellFormed; place = 0; words = 0 }) × (s' ≡ s) × (buffer' ≡ buffer)
 
 -- the figure `open`, or 8
 unfoldable pub openOf : Stored → OpenParts

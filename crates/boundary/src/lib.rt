@@ -1,5 +1,5 @@
 // The operations for programs in other languages. A slice is passed as its address and then its length.
-use monitor::Answer;
+use lent::Answer;
 use monitor::State;
 use report::Counted;
 use rulefile::Checked;
@@ -16,9 +16,9 @@ ghost use Rattle.report.specs.Answer.{partOf};
 ghost use Rattle.method.specs.Step.{keptStored};
 ghost use Rattle.weighing.specs.Weighs.{refusalOf};
 ghost use Rattle.monitor.specs.State.{stored};
-ghost use Rattle.monitor.specs.Contracts.{answerOf as answered};
+ghost use Rattle.lent.specs.Lent.{answerOf as answered};
 ghost use Rattle.boundary.specs.Exported.{countOrNone, wordOrNone};
-ghost use Rattle.boundary.specs.Numbers.{toldOf, StartsAs, TakesAs, openOf};
+ghost use Rattle.boundary.specs.Numbers.{toldOf, StartsAs, lengthsFit, memory, TakesAs, openOf};
 
 pub struct Parts {
     pub number: u32,
@@ -142,15 +142,6 @@ pub struct StartParts {
     pub state: State,
 }
 
-// What a taking gives: 0 and the words written, or the refusal's number and place; and the state, as it was on a refusal.
-#[repr(C)]
-pub struct TakeParts {
-    pub number: u32,
-    pub place: u32,
-    pub words: u32,
-    pub state: State,
-}
-
 // 0 and the figure `open`, or 8.
 #[repr(C)]
 pub struct OpenParts {
@@ -158,7 +149,8 @@ pub struct OpenParts {
     pub points: u32,
 }
 
-// The answer of a taking in numbers.
+// The answer of a taking in numbers: 0 and the words written, or the refusal's number and place.
+#[repr(C)]
 pub struct Told {
     pub number: u32,
     pub place: u32,
@@ -248,21 +240,63 @@ pub extern "C" fn yokemango_start(rule: &[u8]) -> StartParts
     }
 }
 
-// Takes an event: any state, any event words, any report buffer.
-#[no_mangle]
-pub extern "C" fn yokemango_take(state: State, event: &[u32], report: &mut [u32]) -> TakeParts
-    ensures { λ r. ⌜ TakesAs state (now (event .entry)) (now (report .entry)) r (now (report .exit)) ⌝ }
+// Whether lent slices have the lengths of a state's arrays.
+fn lengths_fit(rule: &[u8], times: &[u32], owners: &[u32], numbers: &[u32], values: &[u32]) -> bool
+    ensures { λ r. ⌜ r ≡ lengthsFit (now (rule .entry)) (now (times .entry)) (now (owners .entry)) (now (numbers .entry)) (now (values .entry)) ⌝ }
 {
-    let step = monitor::take(state, event, report);
-    let answer = step.answer;
-    let next = step.state;
-    let told = told_answer(answer);
-    TakeParts {
-        number: told.number,
-        place: told.place,
-        words: told.words,
-        state: next,
+    if rule.len() != 652 {
+        return false;
     }
+    if times.len() != 65 {
+        return false;
+    }
+    if owners.len() != 512 {
+        return false;
+    }
+    if numbers.len() != 512 {
+        return false;
+    }
+    values.len() == 2048
+}
+
+// Takes an event, in place: the parts of any state, any event words, any report buffer. Where a length isn't a state's the answer is 8.
+#[no_mangle]
+pub extern "C" fn yokemango_take(
+    rule: &[u8],
+    bytes: u32,
+    points: &mut u32,
+    times: &mut [u32],
+    retained: &mut u32,
+    owners: &mut [u32],
+    numbers: &mut [u32],
+    values: &mut [u32],
+    count: &mut u32,
+    event: &[u32],
+    report: &mut [u32],
+) -> Told
+    ensures { λ r. ⌜ TakesAs (memory (now (rule .entry)) bytes (now (points .entry)) (now (times .entry)) (now (retained .entry)) (now (owners .entry)) (now (numbers .entry)) (now (values .entry)) (now (count .entry))) (now (event .entry)) (now (report .entry)) r (memory (now (rule .entry)) bytes (now (points .exit)) (now (times .exit)) (now (retained .exit)) (now (owners .exit)) (now (numbers .exit)) (now (values .exit)) (now (count .exit))) (now (report .exit)) ⌝ }
+{
+    if !lengths_fit(rule, times, owners, numbers, values) {
+        return told_refusal(Refusal::NotWellFormed);
+    }
+    let left = lent::take(
+        rule,
+        bytes,
+        *points,
+        times,
+        *retained,
+        owners,
+        numbers,
+        values,
+        *count,
+        event,
+        report,
+    );
+    *points = left.points;
+    *retained = left.retained;
+    *count = left.count;
+    let answer = left.answer;
+    told_answer(answer)
 }
 
 // How many entries a state keeps.

@@ -3,7 +3,7 @@ use crate::answers::of_event;
 use crate::line::print_point;
 use crate::line::print_refused;
 use crate::line::print_row;
-use monitor::Answer;
+use lent::Answer;
 use weighing::Refusal;
 ghost use mathlib.Core.Path.{_≡_};
 ghost use Prim.Native.Nat.{_≤_, _<_, _^_};

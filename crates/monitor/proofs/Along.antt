@@ -17,12 +17,13 @@ use Rattle.weighing.specs.Weighs.{refusalOf}
 use Rattle.taking.specs.Answers.{takeAnswer}
 use Rattle.weighing.specs.declared.Refusal.{Refusal}
 use Rattle.weighing.specs.declared.Refusal.the-variants.{NotWellFormed, NotAnEvent, RowOut, TimeFalls, LogFull, Crowded, Backlog, KeptOver, BufferShort}
+use Rattle.lent.specs.Lent.{answerOf}
+use Rattle.lent.specs.declared.Answer.{Answer}
+use Rattle.lent.specs.declared.Answer.the-variants.{Written, Refused}
 use Rattle.monitor.specs.State.{stored}
-use Rattle.monitor.specs.Contracts.{Takes, Moves, answerOf}
+use Rattle.monitor.specs.Contracts.{Takes, Moves}
 use Rattle.monitor.specs.Calls.{Call, Calls, takingOf, givenOf}
 use Rattle.monitor.specs.declared.State.{State}
-use Rattle.monitor.specs.declared.Answer.{Answer}
-use Rattle.monitor.specs.declared.Answer.the-variants as answer
 use Rattle.monitor.proofs.Logs.{log-then}
 
 -- a refusal leaves what is stored
@@ -56,8 +57,8 @@ module _ (s : State) (c : Call) (formed : wellFormed (stored s) ≡ true) (t : T
   call-stored = go (c .back .answer) (t .moved) ∙ ap (storedAfter (stored s) (c .event)) answers
     where
       go : (a : Answer) → Moves s (c .event) (c .back .state) a → stored (c .back .state) ≡ storedAfter (stored s) (c .event) (answerOf a)
-      go (answer.Written words) m = m
-      go (answer.Refused r) m = ap stored m ∙ sym (stays (stored s) (c .event) r)
+      go (Written words) m = m
+      go (Refused r) m = ap stored m ∙ sym (stays (stored s) (c .event) r)
 
 module _ (b : List ℕ) (a : Accepted) (ok : checking b ≡ given a) where
   -- what the calls gave back, and what is then stored

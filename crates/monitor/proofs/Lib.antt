@@ -1,5 +1,4 @@
 -- From what the contracts of the operations say to the claim about a whole list of takings (WholeList), and what the functions' proofs share.
-pub mod Front
 pub mod Starting
 pub mod Taken
 pub mod Logs

@@ -4,9 +4,10 @@ use mathlib.Core.Path.{_≡_}
 use mathlib.Core.List.{List, [], _∷_, map}
 use Rattle.meaning.specs.Log.{Log}
 use Rattle.meaning.specs.Keeper.{Taking, Given, keeperLog}
+use Rattle.lent.specs.Lent.{answerOf}
 use Rattle.monitor.specs.declared.State.{State}
 use Rattle.monitor.specs.declared.Step.{Step}
-use Rattle.monitor.specs.Contracts.{Takes, answerOf}
+use Rattle.monitor.specs.Contracts.{Takes}
 
 -- a call of `take`: the event words and the buffer that it was handed, what it gave back, and how the buffer ended
 pub record Call : Type 0 where

@@ -1,8 +1,7 @@
 // The monitor: its state, starting it, taking events, and the figures to be read off it.
+use lent::Answer;
 use rulefile::Checked;
 use taking::Open;
-use taking::Taken;
-use weighing::Refusal;
 ghost use mathlib.Core.Path.{_≡_};
 ghost use Prim.Native.Nat.{_≤_};
 ghost use lib.ListN.{length, take};
@@ -29,12 +28,6 @@ pub struct State {
 pub struct Started {
     pub checked: Checked,
     pub state: State,
-}
-
-// The answer of a taking: the words written, or the refusal.
-pub enum Answer {
-    Written(u32),
-    Refused(Refusal),
 }
 
 // What a taking gives back: the state, which a refusal leaves as it was, and the answer.
@@ -104,51 +97,39 @@ pub fn start(rule: &[u8]) -> Started
 pub fn take(state: State, event: &[u32], report: &mut [u32]) -> Step
     ensures { λ r. ⌜ Takes state (now (event .entry)) (now (report .entry)) r (now (report .exit)) ⌝ }
 {
-    let mut times = [0u32; 65];
-    let mut owners = [0u32; 512];
-    let mut numbers = [0u32; 512];
-    let mut values = [0u32; 2048];
-    let taken = taking::take(
+    let mut times = state.times;
+    let mut owners = state.owners;
+    let mut numbers = state.numbers;
+    let mut values = state.values;
+    let left = lent::take(
         &state.rule,
         state.bytes,
         state.points,
-        &state.times,
-        state.retained,
-        &state.owners,
-        &state.numbers,
-        &state.values,
-        state.count,
-        event,
-        report,
         &mut times,
+        state.retained,
         &mut owners,
         &mut numbers,
         &mut values,
+        state.count,
+        event,
+        report,
     );
-    match taken {
-        Taken::Refused(refusal) => Step {
-            state,
-            answer: Answer::Refused(refusal),
-        },
-        Taken::Done(words, retained, count) => {
-            let rule = state.rule;
-            let points = state.points + 1;
-            let next = State {
-                rule,
-                bytes: state.bytes,
-                points,
-                times,
-                retained,
-                owners,
-                numbers,
-                values,
-                count,
-            };
-            Step {
-                state: next,
-                answer: Answer::Written(words),
-            }
-        }
+    let rule = state.rule;
+    let next = State {
+        rule,
+        bytes: state.bytes,
+        points: left.points,
+        times,
+        retained: left.retained,
+        owners,
+        numbers,
+        values,
+        count: left.count,
+    };
+    let answer = left.answer;
+    Step {
+        state: next,
+        answer,
     }
 }
 

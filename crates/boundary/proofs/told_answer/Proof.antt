@@ -1,5 +1,5 @@
 use mathlib.Core.Path.{sym, ap, _∙_}
-use Rattle.monitor.specs.Contracts.{answerOf}
+use Rattle.lent.specs.Lent.{answerOf}
 use Rattle.boundary.specs.Numbers.{toldOf}
 use borrow.Author.Needs.{needs}
 use Rattle.boundary.proofs.told_answer.Statement.{statement}

@@ -5,7 +5,7 @@ use mathlib.Core.Path.{_≡_, _∙_, ap}
 use lib.ListN.{length, take}
 use lib.Seq.{take-length}
 use borrow.Author.Needs.{needs}
-use Rattle.monitor.proofs.Front.{copied-more}
+use Rattle.lent.proofs.Front.{copied-more}
 use Rattle.monitor.proofs.copy_bytes.Statement.{statement}
 use Rattle.monitor.proofs.copy_bytes.Tie as tie
 

@@ -1,4 +1,4 @@
--- Bytes copied to the front of others, one by one.
+-- Words copied to the front of others, one by one.
 use Prim.Native.Nat.{ℕ, _+_, _<_}
 use native.Mathlib.Numerals.{add-one}
 use mathlib.Core.Path.{_≡_, sym}
