@@ -1,11 +1,11 @@
 /* The orchard rule monitor, for programs in C and C++.
 
-   A rule is started once; each event is then taken with the state that the last call handed back. The call that settles a
-   point reports it. All functions are pure: no memory between calls but the state, no heap, no system call, no global.
-   Two states may be used by two threads at once.
+   A rule is started once; each event is then taken with the state as the last call left it. The call that settles a point
+   reports it. No function has memory between calls but the state, and none uses the heap, a system call or a global. Two
+   states may be used by two threads at once.
 
-   Addresses are never null, also where the length beside them is 0, and are those of whole words; a report buffer lies
-   apart from the event. Nothing else is asked: bytes and words may be anything, and what is out of form is refused.
+   Addresses are never null, also where the length beside them is 0, and are those of whole words; state, event and report
+   buffer lie apart. Nothing else is asked: bytes and words may be anything, and what is out of form is refused.
 
    A refusal is a number with a place, which is 0 where none is named below. */
 #ifndef YOKEMANGO_H
@@ -88,7 +88,6 @@ struct yokemango_taken {
     uint32_t number;                          /* 0, or the refusal */
     uint32_t place;                           /* its place */
     uint32_t words;                           /* words written to the front of the report buffer; 0 on a refusal */
-    struct yokemango_state state;             /* the state from now on; as it was on a refusal */
 };
 
 struct yokemango_open {
@@ -99,7 +98,7 @@ struct yokemango_open {
 /* The layout that the library has. */
 typedef char yokemango_state_has_13216_bytes[sizeof(struct yokemango_state) == 13216 ? 1 : -1];
 typedef char yokemango_started_has_13232_bytes[sizeof(struct yokemango_started) == 13232 ? 1 : -1];
-typedef char yokemango_taken_has_13228_bytes[sizeof(struct yokemango_taken) == 13228 ? 1 : -1];
+typedef char yokemango_taken_has_12_bytes[sizeof(struct yokemango_taken) == 12 ? 1 : -1];
 typedef char yokemango_open_has_8_bytes[sizeof(struct yokemango_open) == 8 ? 1 : -1];
 
 /* ---- check a rule: four answers to one question, each by a check of its own, with no state and next to no stack */
@@ -116,17 +115,17 @@ uint32_t yokemango_check_reach(const uint8_t *rule, size_t rule_len);
 /* The pattern's free variables, bit k for variable k; 0 on a refusal. */
 uint32_t yokemango_check_free(const uint8_t *rule, size_t rule_len);
 
-/* ---- start a state and take events: the state goes in and comes back by value
-   A call of yokemango_take needs about 100 KB of stack, its copy of the state included, and about 1.3 MB where an event
-   settles two or more points of some node at once: measured, docs/TESTING.md. */
+/* ---- start a state and take events */
 
 /* A state with no points, or a refusal 1 to 7. The rule is copied into the state. */
 struct yokemango_started yokemango_start(const uint8_t *rule, size_t rule_len);
 
-/* Takes an event: time, row count m, m relation numbers, m rows of 4 words with unused columns 0. The report goes to the
-   front of `report`, words past it stay. Refusals are 8 to 16, the first that applies; then the state comes back as it was
-   and no word of `report` is changed. An event that settles nothing still writes 3 words. */
-struct yokemango_taken yokemango_take(struct yokemango_state state, const uint32_t *event, size_t event_len, uint32_t *report, size_t report_len);
+/* Takes an event in the memory of a state: `rule` to `count` are its fields, lent with their lengths. Another length than
+   the field's own is refused by 8. A program calls yokemango_take_in below, which passes them. */
+struct yokemango_taken yokemango_take(
+    const uint8_t *rule, size_t rule_len, uint32_t length, uint32_t *points, uint32_t *times, size_t times_len,
+    uint32_t *retained, uint32_t *owners, size_t owners_len, uint32_t *numbers, size_t numbers_len, uint32_t *values,
+    size_t values_len, uint32_t *count, const uint32_t *event, size_t event_len, uint32_t *report, size_t report_len);
 
 /* Kept entries: at most 512 of a state that these functions handed back. */
 uint32_t yokemango_kept(struct yokemango_state state);
@@ -163,14 +162,18 @@ static inline uint32_t yokemango_start_in(struct yokemango_state *state, const u
     return started.number;
 }
 
-/* Takes an event into `state`, which is left as it was on a refusal, as is `report`. The answer is 0 or the refusal; its
-   place goes to `place`. */
+/* Takes an event into `state`: time, row count m, m relation numbers, m rows of 4 words with unused columns 0. The report
+   goes to the front of `report`, words past it stay. An event that settles nothing still writes 3 words. The answer is 0, or
+   the first of the refusals 8 to 16 that applies; then no word of `state` or `report` is changed. The refusal's place goes to
+   `place`. A call needs about STACK_USUAL KB of stack, and about 1.25 MB where an event settles two or more points of some
+   node at once: measured, docs/TESTING.md. */
 static inline uint32_t yokemango_take_in(struct yokemango_state *state, const uint32_t *event, size_t event_len, uint32_t *report, size_t report_len, uint32_t *place)
 {
-    const struct yokemango_taken taken = yokemango_take(*state, event, event_len, report, report_len);
+    const struct yokemango_taken taken = yokemango_take(
+        state->rule, YOKEMANGO_RULE_BYTES, state->length, &state->points, state->times, YOKEMANGO_RETAINED,
+        &state->retained, state->owners, YOKEMANGO_KEPT, state->numbers, YOKEMANGO_KEPT, state->values,
+        4u * YOKEMANGO_KEPT, &state->count, event, event_len, report, report_len);
     *place = taken.place;
-    if (taken.number == 0)
-        *state = taken.state;
     return taken.number;
 }
 

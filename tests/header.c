@@ -60,6 +60,17 @@ static void refusals(const uint8_t *rule, size_t length)
     CHECK(take(no_relation, 12, report, 2, &place) == YOKEMANGO_ROW && place == 1 && same_state());
     CHECK(report[0] == 5 && report[1] == 6);
 
+    /* a field lent one too short */
+    for (size_t k = 0; k < 5; k++) {
+        uint32_t long_enough[3] = {5, 6, 7};
+        const struct yokemango_taken taken = yokemango_take(
+            state.rule, YOKEMANGO_RULE_BYTES - (k == 0), state.length, &state.points, state.times,
+            YOKEMANGO_RETAINED - (k == 1), &state.retained, state.owners, YOKEMANGO_KEPT - (k == 2), state.numbers,
+            YOKEMANGO_KEPT - (k == 3), state.values, 4u * YOKEMANGO_KEPT - (k == 4), &state.count, two_words, 2, long_enough, 3);
+        CHECK(taken.number == YOKEMANGO_STATE && taken.place == 0 && taken.words == 0 && same_state());
+        CHECK(long_enough[0] == 5 && long_enough[1] == 6 && long_enough[2] == 7);
+    }
+
     memset(&state, 0, sizeof state);
     before = state;
     CHECK(take(two_words, 2, report, 2, &place) == YOKEMANGO_STATE && place == 0 && same_state());

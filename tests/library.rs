@@ -1,5 +1,5 @@
 // The operations that crates/boundary exports, as a program in Rust calls them. A slice is passed as its address and then
-// its length; a state is passed and handed back by value. None of them asks anything of its words, so any may be passed.
+// its length; for a taking, a state's fields are passed so. None of them asks anything of its words, so any may be passed.
 #![allow(dead_code)]
 
 pub const RULE_BYTES: usize = 652;
@@ -43,8 +43,16 @@ pub struct Started {
     pub state: State,
 }
 
-// Number 0: taken, `words` written. Otherwise the refusal, and the state as it was.
+// Number 0: taken, `words` written. Otherwise the refusal.
 #[repr(C)]
+#[derive(Clone, Copy, PartialEq, Eq, Debug)]
+pub struct Told {
+    pub number: u32,
+    pub place: u32,
+    pub words: u32,
+}
+
+// The same, with the state afterwards.
 #[derive(Clone, Copy)]
 pub struct Taken {
     pub number: u32,
@@ -66,7 +74,26 @@ extern "C" {
     fn yokemango_check_number(rule: *const u8, len: usize) -> u32;
     fn yokemango_check_place(rule: *const u8, len: usize) -> u32;
     fn yokemango_start(rule: *const u8, len: usize) -> Started;
-    fn yokemango_take(state: State, event: *const u32, event_len: usize, report: *mut u32, report_len: usize) -> Taken;
+    fn yokemango_take(
+        rule: *const u8,
+        rule_len: usize,
+        length: u32,
+        points: *mut u32,
+        times: *mut u32,
+        times_len: usize,
+        retained: *mut u32,
+        owners: *mut u32,
+        owners_len: usize,
+        numbers: *mut u32,
+        numbers_len: usize,
+        values: *mut u32,
+        values_len: usize,
+        count: *mut u32,
+        event: *const u32,
+        event_len: usize,
+        report: *mut u32,
+        report_len: usize,
+    ) -> Told;
     fn yokemango_kept(state: State) -> u32;
     fn yokemango_open_points(state: State) -> Open;
 }
@@ -80,8 +107,47 @@ pub fn start(rule: &[u8]) -> Started {
     unsafe { yokemango_start(rule.as_ptr(), rule.len()) }
 }
 
+// The lengths that a taking is told of a state's rule, times, owners, numbers and values.
+pub const LENGTHS: [usize; 5] = [RULE_BYTES, RETAINED, ENTRIES, ENTRIES, 4 * ENTRIES];
+
+// Takes an event in the state's own memory, of which so much is lent, and no more than there is.
+pub fn take_of(state: &mut State, lengths: [usize; 5], event: &[u32], report: &mut [u32]) -> Told {
+    let [rule, times, owners, numbers, values] = lengths;
+    assert!(lengths.iter().zip(LENGTHS).all(|(lent, whole)| *lent <= whole));
+    unsafe {
+        yokemango_take(
+            state.rule.as_ptr(),
+            rule,
+            state.length,
+            &mut state.points,
+            state.times.as_mut_ptr(),
+            times,
+            &mut state.retained,
+            state.owners.as_mut_ptr(),
+            owners,
+            state.numbers.as_mut_ptr(),
+            numbers,
+            state.values.as_mut_ptr(),
+            values,
+            &mut state.count,
+            event.as_ptr(),
+            event.len(),
+            report.as_mut_ptr(),
+            report.len(),
+        )
+    }
+}
+
+// Takes an event in the state's own memory.
+pub fn take_in(state: &mut State, event: &[u32], report: &mut [u32]) -> Told {
+    take_of(state, LENGTHS, event, report)
+}
+
+// The same on a copy of the state.
 pub fn take(state: &State, event: &[u32], report: &mut [u32]) -> Taken {
-    unsafe { yokemango_take(*state, event.as_ptr(), event.len(), report.as_mut_ptr(), report.len()) }
+    let mut next = *state;
+    let Told { number, place, words } = take_in(&mut next, event, report);
+    Taken { number, place, words, state: next }
 }
 
 pub fn kept(state: &State) -> u32 {

@@ -7,7 +7,7 @@ mod input;
 mod library;
 
 use input::*;
-use library::{State, Taken};
+use library::{State, Told};
 use std::hint::black_box;
 use std::mem::{size_of, MaybeUninit};
 use std::time::Instant;
@@ -106,9 +106,8 @@ fn started(rule: &Rule) -> State {
 fn run(state: &mut State, events: &[Vec<u32>], buffer: &mut [u32]) -> u64 {
     let mut rows = 0;
     for e in events {
-        let taken = library::take(state, black_box(e), buffer);
-        assert_eq!(taken.number, 0, "refused at {}", taken.place);
-        *state = taken.state;
+        let told = library::take_in(state, black_box(e), buffer);
+        assert_eq!(told.number, 0, "refused at {}", told.place);
         rows += buffer[2] as u64;
     }
     rows
@@ -171,23 +170,25 @@ fn overwritten_from(low: usize) -> usize {
 }
 
 #[inline(never)]
-fn call(state: &State, event: &[u32], buffer: &mut [u32], out: &mut MaybeUninit<Taken>) {
-    out.write(library::take(state, event, buffer));
+fn call(state: &mut State, event: &[u32], buffer: &mut [u32]) -> Told {
+    library::take_in(state, event, buffer)
 }
 
-// Bytes of stack below the caller of one taking: what its frames overwrote, the copy of the state that is passed among them.
-fn stack_of(state: &State, event: &[u32]) -> (usize, Taken) {
-    let (state, event) = (*state, event.to_vec());
+// Bytes of stack below the caller of one taking: what its frames overwrote.
+fn stack_of(state: &mut State, event: &[u32]) -> usize {
+    let (mut own, event) = (Box::new(*state), event.to_vec());
     let measure = move || {
         let mut buffer = vec![0; LONGEST_REPORT];
-        let mut out = Box::new(MaybeUninit::uninit());
         let here = 0u64;
         let low = paint();
-        call(&state, &event, &mut buffer, &mut out);
+        let told = call(&mut own, &event, &mut buffer);
         let used = black_box(&here) as *const u64 as usize - overwritten_from(low);
-        (used, unsafe { *out.assume_init() })
+        assert_eq!(told.number, 0);
+        (used, own)
     };
-    std::thread::Builder::new().stack_size(4 * PAINTED).spawn(measure).unwrap().join().unwrap()
+    let (used, after) = std::thread::Builder::new().stack_size(4 * PAINTED).spawn(measure).unwrap().join().unwrap();
+    *state = *after;
+    used
 }
 
 fn stack_of_usual(case: &Case) {
@@ -197,10 +198,7 @@ fn stack_of_usual(case: &Case) {
     run(&mut state, &events, &mut buffer);
     let mut most = 0;
     for point in FEW..FEW + 24 {
-        let (used, taken) = stack_of(&state, &case.event(point));
-        assert_eq!(taken.number, 0);
-        most = most.max(used);
-        state = taken.state;
+        most = most.max(stack_of(&mut state, &case.event(point)));
     }
     println!("stack of a usual event, {}: {most} bytes", case.name);
 }
@@ -220,11 +218,11 @@ fn stack_of_burst(name: &str, nodes: Vec<Node>, waiting: usize, late: u32) {
     }
     let (kept, open) = (library::kept(&state), library::open(&state).points);
     let last = event(LONGEST_WINDOW + waiting as u32, &[]);
-    let (used, taken) = stack_of(&state, &last);
-    assert_eq!(taken.number, 0);
+    let used = stack_of(&mut state.clone(), &last);
     let times = (0..41).map(|_| {
+        let mut state = state;
         let began = Instant::now();
-        black_box(library::take(black_box(&state), &last, &mut buffer));
+        black_box(library::take_in(black_box(&mut state), &last, &mut buffer));
         began.elapsed().as_nanos() as f64
     });
     let micros = median(times.collect()) / 1_000.0;

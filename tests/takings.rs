@@ -17,7 +17,7 @@ mod library;
 use draw::*;
 use input::*;
 use keeper::*;
-use library::State;
+use library::{State, Told};
 use std::process::exit;
 use std::rc::Rc;
 
@@ -53,6 +53,7 @@ struct Tally {
     starts_refused: u64,
     states: u64,
     states_formed: u64,
+    lent_short: u64,
 }
 
 const LIMITS: [&str; 6] =
@@ -295,6 +296,17 @@ fn other_states(draw: &mut Draw, list: &mut List, time: u32) {
         list.tally.refusals[8] += (number == 8) as u64;
     }
 
+    // a field of the state lent short is refused by 8, and changes nothing
+    let field = g.below(library::LENGTHS.len());
+    let mut lengths = library::LENGTHS;
+    lengths[field] = g.below(lengths[field]);
+    let (mut state, mut buffer) = (list.state, vec![5; LONGEST_REPORT]);
+    let told = library::take_of(&mut state, lengths, &words, &mut buffer);
+    if told != (Told { number: 8, place: 0, words: 0 }) || state != list.state || buffer != [5; LONGEST_REPORT] {
+        list.differ(&format!("a state lent at lengths {lengths:?} is answered {told:?}, or is changed"));
+    }
+    list.tally.lent_short += 1;
+
     // with all points there may be, the next event is refused by 12
     let mut last = list.state;
     move_on(&mut last, MOST_POINTS as u32 - list.state.points);
@@ -348,7 +360,7 @@ fn main() {
     println!("{} reports with {} points and {} rows in {} words compared", t.reports, t.points, t.rows, t.words);
     println!("{} reports of {BURST} points and more; at most {} points and {} words in one", t.bursts, t.most_at_once, t.longest);
     println!("{} points taken at time {}; {} reported points worked out again on longer logs", t.latest_times, u32::MAX, t.again);
-    println!("{} starts refused; {} states that no log need have, {} of them well formed", t.starts_refused, t.states, t.states_formed);
+    println!("{} starts refused; {} states that no log need have, {} of them well formed; {} lent short", t.starts_refused, t.states, t.states_formed, t.lent_short);
     let mut rare = vec![];
     for (number, met) in t.refusals.iter().enumerate().skip(8) {
         println!("refusal {number}: {met}");

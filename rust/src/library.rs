@@ -3,6 +3,7 @@
 use crate::{KEPT, RULE_BYTES, STATE_WORDS};
 
 const ENTRIES: usize = KEPT as usize;
+const RETAINED: usize = 65;
 
 #[repr(C)]
 #[derive(Clone, Copy, PartialEq, Eq)]
@@ -10,7 +11,7 @@ pub(crate) struct State {
     rule: [u8; RULE_BYTES],
     length: u32,
     pub(crate) points: u32,
-    times: [u32; 65],
+    times: [u32; RETAINED],
     retained: u32,
     owners: [u32; ENTRIES],
     numbers: [u32; ENTRIES],
@@ -32,7 +33,6 @@ pub(crate) struct Taken {
     pub(crate) number: u32,
     pub(crate) place: u32,
     pub(crate) words: u32,
-    pub(crate) state: State,
 }
 
 #[repr(C)]
@@ -44,7 +44,7 @@ pub(crate) struct Open {
 // The layout that the library has.
 const _: () = {
     assert!(size_of::<State>() == 4 * STATE_WORDS && align_of::<State>() == 4);
-    assert!(size_of::<Started>() == 13_232 && size_of::<Taken>() == 13_228 && size_of::<Open>() == 8);
+    assert!(size_of::<Started>() == 13_232 && size_of::<Taken>() == 12 && size_of::<Open>() == 8);
 };
 
 extern "C" {
@@ -53,7 +53,26 @@ extern "C" {
     fn yokemango_check_reach(rule: *const u8, rule_len: usize) -> u32;
     fn yokemango_check_free(rule: *const u8, rule_len: usize) -> u32;
     fn yokemango_start(rule: *const u8, rule_len: usize) -> Started;
-    fn yokemango_take(state: State, event: *const u32, event_len: usize, report: *mut u32, report_len: usize) -> Taken;
+    fn yokemango_take(
+        rule: *const u8,
+        rule_len: usize,
+        length: u32,
+        points: *mut u32,
+        times: *mut u32,
+        times_len: usize,
+        retained: *mut u32,
+        owners: *mut u32,
+        owners_len: usize,
+        numbers: *mut u32,
+        numbers_len: usize,
+        values: *mut u32,
+        values_len: usize,
+        count: *mut u32,
+        event: *const u32,
+        event_len: usize,
+        report: *mut u32,
+        report_len: usize,
+    ) -> Taken;
     fn yokemango_kept(state: State) -> u32;
     fn yokemango_open_points(state: State) -> Open;
     fn yokemango_row_count(report: *const u32, report_len: usize, k: usize) -> u64;
@@ -74,8 +93,29 @@ pub(crate) fn start(rule: &[u8]) -> Started {
     unsafe { yokemango_start(rule.as_ptr(), rule.len()) }
 }
 
-pub(crate) fn take(state: &State, event: &[u32], report: &mut [u32]) -> Taken {
-    unsafe { yokemango_take(*state, event.as_ptr(), event.len(), report.as_mut_ptr(), report.len()) }
+pub(crate) fn take(state: &mut State, event: &[u32], report: &mut [u32]) -> Taken {
+    unsafe {
+        yokemango_take(
+            state.rule.as_ptr(),
+            RULE_BYTES,
+            state.length,
+            &mut state.points,
+            state.times.as_mut_ptr(),
+            RETAINED,
+            &mut state.retained,
+            state.owners.as_mut_ptr(),
+            ENTRIES,
+            state.numbers.as_mut_ptr(),
+            ENTRIES,
+            state.values.as_mut_ptr(),
+            4 * ENTRIES,
+            &mut state.count,
+            event.as_ptr(),
+            event.len(),
+            report.as_mut_ptr(),
+            report.len(),
+        )
+    }
 }
 
 pub(crate) fn kept(state: &State) -> u32 {

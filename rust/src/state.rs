@@ -23,12 +23,9 @@ impl State {
 
     /// Takes an event that is given as its words: time, row count m, m relations, m rows of 4 words with unused columns 0.
     pub fn take_words<'b>(&mut self, event: &[u32], buffer: &'b mut [u32]) -> Result<Report<'b>, Refusal> {
-        let taken = library::take(&self.0, event, buffer);
+        let taken = library::take(&mut self.0, event, buffer);
         match taken.number {
-            0 => {
-                self.0 = taken.state;
-                Ok(Report::written(&buffer[..taken.words as usize]))
-            }
+            0 => Ok(Report::written(&buffer[..taken.words as usize])),
             number => Err(Refusal::of(number, taken.place)),
         }
     }
