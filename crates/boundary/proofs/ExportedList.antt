@@ -18,7 +18,7 @@ use Rattle.boundary.specs.declared.StartParts.{StartParts}
 use Rattle.boundary.specs.declared.Told.{Told}
 
 -- a call of `yokemango_take`: the event words and the buffer that it was handed, what it told, and the state and the buffer that it left in memory
-pub record Exported : Type 0 where
+pub record ExportedCall : Type 0 where
   pub event : List ℕ
   pub buffer : List ℕ
   pub told : Told
@@ -26,12 +26,12 @@ pub record Exported : Type 0 where
   pub left : List ℕ
 
 -- from the state that memory holds first to the one that it holds last
-abbrev pub InPlace : State → List Exported → State → Type 0
-InPlace s [] s' = s' ≡ s
-InPlace s (x ∷ xs) s' = TakesAs s (x .event) (x .buffer) (x .told) (x .state) (x .left) × InPlace (x .state) xs s'
+abbrev pub ExportedCalls : State → List ExportedCall → State → Type 0
+ExportedCalls s [] s' = s' ≡ s
+ExportedCalls s (x ∷ xs) s' = TakesAs s (x .event) (x .buffer) (x .told) (x .state) (x .left) × ExportedCalls (x .state) xs s'
 
 -- what the keeper is fed of a call
-abbrev pub fedOf : Exported → Taking
+abbrev pub fedOf : ExportedCall → Taking
 fedOf x = record { event = x .event; buffer = x .buffer }
 
 -- an answer in numbers, and the buffer
@@ -39,14 +39,14 @@ pub record Back : Type 0 where
   pub told : Told
   pub buffer : List ℕ
 
-abbrev pub backOf : Exported → Back
+abbrev pub backOf : ExportedCall → Back
 backOf x = record { told = x .told; buffer = x .left }
 
 abbrev pub toldGiven : Given → Back
 toldGiven g = record { told = toldOf (g .answer); buffer = g .buffer }
 
 -- The claim, for a rule that checking accepted with answer a, the exported calls from the start's state on, and the state after them.
-pub record ExportedList (b : List ℕ) (a : Accepted) (xs : List Exported) (s : State) : Type 0 where
+pub record ExportedList (b : List ℕ) (a : Accepted) (xs : List ExportedCall) (s : State) : Type 0 where
   -- for every call the number, the place and the words written, and every word of the buffer, are the keeper's
   pub answers : map backOf xs ≡ map toldGiven (keeper b [] (map fedOf xs))
   -- the rest of the claim, of calls that were handed the same
@@ -55,13 +55,13 @@ pub record ExportedList (b : List ℕ) (a : Accepted) (xs : List Exported) (s : 
   pub whole : WholeList b a calls s
 
 -- exported calls as calls of `take`
-record AsCalls (s : State) (xs : List Exported) (s' : State) : Type 0 where
+record AsCalls (s : State) (xs : List ExportedCall) (s' : State) : Type 0 where
   pub calls : List Call
   pub runs : Calls s calls s'
   pub same : map takingOf calls ≡ map fedOf xs
   pub tells : map backOf xs ≡ map toldGiven (map givenOf calls)
 
-as-calls : (s : State) (xs : List Exported) (s' : State) → fitting s ≡ true → InPlace s xs s' → AsCalls s xs s'
+as-calls : (s : State) (xs : List ExportedCall) (s' : State) → fitting s ≡ true → ExportedCalls s xs s' → AsCalls s xs s'
 as-calls s [] s' fit e = record { calls = []; runs = e; same = refl; tells = refl }
 as-calls s (x ∷ xs) s' fit (t, r) =
     let (one, fit') = t .taken fit in
@@ -84,7 +84,7 @@ starts-as b r h a ok =
 
 -- that the state has the lengths of its arrays is no part of a contract: its type says so
 pub exported-list : (b : List ℕ) (r : StartParts) → StartsAs b r → (a : Accepted) → checking b ≡ given a → fitting (r .state) ≡ true
-    → (xs : List Exported) (s : State) → InPlace (r .state) xs s → ExportedList b a xs s
+    → (xs : List ExportedCall) (s : State) → ExportedCalls (r .state) xs s → ExportedList b a xs s
 exported-list b r h a ok fit xs s calls =
     let k : AsCalls (r .state) xs s = as-calls (r .state) xs s fit calls in
     let w : WholeList b a (k .calls) s = whole-list b _ (starts-as b r h a ok) a ok (k .calls) s (k .runs) in

@@ -17,10 +17,11 @@ use Rattle.taking.specs.declared.Open.the-variants.{Points, NotWellFormed as No
 use Rattle.lent.specs.Lent.{Sized, answerOf, TakesLent}
 use Rattle.lent.specs.declared.Answer.{Answer}
 use Rattle.lent.specs.declared.Answer.the-variants.{Refused}
+use Rattle.monitor.specs.State.{lentOf}
 use Rattle.monitor.specs.Contracts.{Starts}
 use Rattle.monitor.specs.declared.State.{State}
 use Rattle.monitor.specs.declared.Started.{Started}
-use Rattle.monitor.proofs.Taken.{lentOf, handed-back}
+use Rattle.monitor.proofs.Taken.{handed-back}
 use Rattle.boundary.specs.Parts.{partsOf}
 use Rattle.boundary.specs.Numbers.{toldOf, StateFor, StartsAs, lengthsFit, fitting, TakesAs, openOf}
 use Rattle.boundary.specs.declared.Parts.{Parts}

@@ -44,10 +44,6 @@ lengthsFit rule times owners numbers values = eqb (length rule) 652 && (eqb (len
 abbrev pub fitting : State → Bool
 fitting s = lengthsFit (s .rule) (s .times) (s .owners) (s .numbers) (s .values)
 
--- the state that lent slices and figures make
-abbrev pub memory : List ℕ → ℕ → ℕ → List ℕ → ℕ → List ℕ → List ℕ → List ℕ → ℕ → State
-memory rule bytes points times retained owners numbers values count = record { rule = rule; bytes = bytes; points = points; times = times; retained = retained; owners = owners; numbers = numbers; values = values; count = count }
-
 -- A taking in place, from s to s': what `take` promises, with its answer told in numbers. Where a length isn't a state's the answer is 8, and nothing is changed.
 pub record TakesAs (s : State) (w buffer : List ℕ) (r : Told) (s' : State) (buffer' : List ℕ) : Type 0 where
   pub answer : Answer

@@ -15,10 +15,10 @@ ghost use Rattle.meaning.specs.Report.{readCount, readRows};
 ghost use Rattle.report.specs.Answer.{partOf};
 ghost use Rattle.method.specs.Step.{keptStored};
 ghost use Rattle.weighing.specs.Weighs.{refusalOf};
-ghost use Rattle.monitor.specs.State.{stored};
-ghost use Rattle.lent.specs.Lent.{answerOf as answered};
+ghost use Rattle.monitor.specs.State.{stateOf, stored};
+ghost use Rattle.lent.specs.Lent.{lent, answerOf as answered};
 ghost use Rattle.boundary.specs.Exported.{countOrNone, wordOrNone};
-ghost use Rattle.boundary.specs.Numbers.{toldOf, StartsAs, lengthsFit, memory, TakesAs, openOf};
+ghost use Rattle.boundary.specs.Numbers.{toldOf, StartsAs, lengthsFit, TakesAs, openOf};
 
 pub struct Parts {
     pub number: u32,
@@ -274,7 +274,7 @@ pub extern "C" fn yokemango_take(
     event: &[u32],
     report: &mut [u32],
 ) -> Told
-    ensures { λ r. ⌜ TakesAs (memory (now (rule .entry)) bytes (now (points .entry)) (now (times .entry)) (now (retained .entry)) (now (owners .entry)) (now (numbers .entry)) (now (values .entry)) (now (count .entry))) (now (event .entry)) (now (report .entry)) r (memory (now (rule .entry)) bytes (now (points .exit)) (now (times .exit)) (now (retained .exit)) (now (owners .exit)) (now (numbers .exit)) (now (values .exit)) (now (count .exit))) (now (report .exit)) ⌝ }
+    ensures { λ r. ⌜ TakesAs (stateOf (lent (now (rule .entry)) bytes (now (points .entry)) (now (times .entry)) (now (retained .entry)) (now (owners .entry)) (now (numbers .entry)) (now (values .entry)) (now (count .entry)))) (now (event .entry)) (now (report .entry)) r (stateOf (lent (now (rule .entry)) bytes (now (points .exit)) (now (times .exit)) (now (retained .exit)) (now (owners .exit)) (now (numbers .exit)) (now (values .exit)) (now (count .exit)))) (now (report .exit)) ⌝ }
 {
     if !lengths_fit(rule, times, owners, numbers, values) {
         return told_refusal(Refusal::NotWellFormed);

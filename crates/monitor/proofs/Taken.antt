@@ -2,19 +2,14 @@
 use Prim.Native.Nat.{ℕ}
 use mathlib.Core.Path.{ap}
 use mathlib.Core.List.{List}
-use Rattle.lent.specs.Lent.{Lent, Moves as LentMoves, TakesLent}
+use Rattle.lent.specs.Lent.{Moves as LentMoves, TakesLent}
 use Rattle.lent.specs.declared.Answer.{Answer}
 use Rattle.lent.specs.declared.Answer.the-variants.{Written, Refused}
+use Rattle.monitor.specs.State.{lentOf, stateOf}
 use Rattle.monitor.specs.Contracts.{Moves, Takes}
 use Rattle.monitor.specs.declared.State.{State}
 
--- a state's parts are lent, and make a state
-abbrev pub lentOf : State → Lent
-lentOf s = record { rule = s .rule; bytes = s .bytes; points = s .points; times = s .times; retained = s .retained; owners = s .owners; numbers = s .numbers; values = s .values; count = s .count }
-
-abbrev stateOf : Lent → State
-stateOf m = record { rule = m .rule; bytes = m .bytes; points = m .points; times = m .times; retained = m .retained; owners = m .owners; numbers = m .numbers; values = m .values; count = m .count }
-
+-- on a refusal the state's parts are as they were, and so the state
 pub handed-back : (s : State) (w buffer : List ℕ) (a : Answer) (s' : State) (buffer' : List ℕ) → TakesLent (lentOf s) w buffer a (lentOf s') buffer' → Takes s w buffer (record { state = s'; answer = a }) buffer'
 handed-back s w buffer a s' buffer' t = record { answered = t .answered; written = t .written; moved = go a (t .moved) }
   where

@@ -4,10 +4,18 @@ use mathlib.Core.List.{List, []}
 use lib.ListN.{replicate}
 use Rattle.method.specs.Stored.{Stored}
 use Rattle.taking.specs.Answers.{storedFront}
+use Rattle.lent.specs.Lent.{Lent, lent}
 use Rattle.monitor.specs.declared.State.{State}
 
 abbrev pub stored : State → Stored
 stored s = storedFront (s .rule) (s .bytes) (s .points) (s .times) (s .retained) (s .owners) (s .numbers) (s .values) (s .count)
+
+-- a state's parts as they are lent, and the state that lent parts make
+abbrev pub lentOf : State → Lent
+lentOf s = lent (s .rule) (s .bytes) (s .points) (s .times) (s .retained) (s .owners) (s .numbers) (s .values) (s .count)
+
+abbrev pub stateOf : Lent → State
+stateOf m = record { rule = m .rule; bytes = m .bytes; points = m .points; times = m .times; retained = m .retained; owners = m .owners; numbers = m .numbers; values = m .values; count = m .count }
 
 -- a rule with no points, times or entries
 abbrev pub nothing : List ℕ → Stored
