@@ -149,7 +149,7 @@ size_t yokemango_rows_len(const uint32_t *report, size_t report_len, size_t k);
 /* Word i of them, or YOKEMANGO_NONE past their end and for 17. */
 uint64_t yokemango_rows_word(const uint32_t *report, size_t report_len, size_t k, size_t i);
 
-/* ---- the same, on a state that stays where it is */
+/* ---- what a program calls, on a state that stays where it is */
 
 /* Starts the rule in `state`, which is left as it was on a refusal. The answer is 0 or the refusal; its place goes to
    `place`. */
@@ -165,8 +165,8 @@ static inline uint32_t yokemango_start_in(struct yokemango_state *state, const u
 /* Takes an event into `state`: time, row count m, m relation numbers, m rows of 4 words with unused columns 0. The report
    goes to the front of `report`, words past it stay. An event that settles nothing still writes 3 words. The answer is 0, or
    the first of the refusals 8 to 16 that applies; then no word of `state` or `report` is changed. The refusal's place goes to
-   `place`. A call needs about STACK_USUAL KB of stack, and about 1.25 MB where an event settles two or more points of some
-   node at once: measured, docs/TESTING.md. */
+   `place`. A call needs about 60 KB of stack, and about 1.25 MB where an event settles two or more points of some node at
+   once: measured, docs/TESTING.md. */
 static inline uint32_t yokemango_take_in(struct yokemango_state *state, const uint32_t *event, size_t event_len, uint32_t *report, size_t report_len, uint32_t *place)
 {
     const struct yokemango_taken taken = yokemango_take(
