@@ -82,10 +82,9 @@ starts-as b r h a ok =
       zeros = λ number place e. let z : _≡_ {A = ℕ} 0 1 = cc in absurd (omega arith);
     }
 
--- that the state has the lengths of its arrays is no part of a contract: its type says so
-pub exported-list : (b : List ℕ) (r : StartParts) → StartsAs b r → (a : Accepted) → checking b ≡ given a → fitting (r .state) ≡ true
+pub exported-list : (b : List ℕ) (r : StartParts) → StartsAs b r → (a : Accepted) → checking b ≡ given a
     → (xs : List ExportedCall) (s : State) → ExportedCalls (r .state) xs s → ExportedList b a xs s
-exported-list b r h a ok fit xs s calls =
-    let k : AsCalls (r .state) xs s = as-calls (r .state) xs s fit calls in
+exported-list b r h a ok xs s calls =
+    let k : AsCalls (r .state) xs s = as-calls (r .state) xs s (h .state-fits) calls in
     let w : WholeList b a (k .calls) s = whole-list b _ (starts-as b r h a ok) a ok (k .calls) s (k .runs) in
     record { answers = k .tells ∙ ap (map toldGiven) (w .answers ∙ ap (keeper b []) (k .same)); calls = k .calls; same = k .same; whole = w }

@@ -30,19 +30,20 @@ abbrev pub StateFor : List ℕ → State → Outcome Accepted → Type 0
 StateFor b s (refused n p) = s ≡ blank
 StateFor b s (given a) = stored s ≡ storedOf b []
 
-pub record StartsAs (b : List ℕ) (r : StartParts) : Type 0 where
-  pub number-is : r .number ≡ partsOf (checking b) .number
-  pub place-is : r .place ≡ partsOf (checking b) .place
-  pub reach-is : r .reach ≡ partsOf (checking b) .reach
-  pub free-is : r .free ≡ partsOf (checking b) .free
-  pub state-is : StateFor b (r .state) (checking b)
-
 -- whether slices have the lengths of a state's arrays
 unfoldable pub lengthsFit : List ℕ → List ℕ → List ℕ → List ℕ → List ℕ → Bool
 lengthsFit rule times owners numbers values = eqb (length rule) 652 && (eqb (length times) 65 && (eqb (length owners) 512 && (eqb (length numbers) 512 && eqb (length values) 2048)))
 
 abbrev pub fitting : State → Bool
 fitting s = lengthsFit (s .rule) (s .times) (s .owners) (s .numbers) (s .values)
+
+pub record StartsAs (b : List ℕ) (r : StartParts) : Type 0 where
+  pub number-is : r .number ≡ partsOf (checking b) .number
+  pub place-is : r .place ≡ partsOf (checking b) .place
+  pub reach-is : r .reach ≡ partsOf (checking b) .reach
+  pub free-is : r .free ≡ partsOf (checking b) .free
+  pub state-is : StateFor b (r .state) (checking b)
+  pub state-fits : fitting (r .state) ≡ true
 
 -- A taking in place, from s to s': what `take` promises, with its answer told in numbers. Where a length isn't a state's the answer is 8, and nothing is changed.
 pub record TakesAs (s : State) (w buffer : List ℕ) (r : Told) (s' : State) (buffer' : List ℕ) : Type 0 where

@@ -1,6 +1,8 @@
 // The operations for programs in other languages. A slice is passed as its address and then its length.
 use lent::Answer;
 use monitor::State;
+use refusals::of_event;
+use refusals::of_rule;
 use report::Counted;
 use rulefile::Checked;
 use rulefile::check;
@@ -27,17 +29,6 @@ pub struct Parts {
     pub free: u32,
 }
 
-fn refusal(number: u32, place: u8) -> Parts
-    ensures { λ r. ⌜ r ≡ record { number = number; place = place; reach = 0; free = 0 } ⌝ }
-{
-    Parts {
-        number,
-        place: place as u32,
-        reach: 0,
-        free: 0,
-    }
-}
-
 fn parts_of(c: Checked) -> Parts
     ensures { λ r. ⌜ r ≡ partsOf (answerOf c) ⌝ }
 {
@@ -48,13 +39,15 @@ fn parts_of(c: Checked) -> Parts
             reach,
             free: mask as u32,
         },
-        Checked::Cut => refusal(1, 0),
-        Checked::OtherVersion => refusal(2, 0),
-        Checked::SizeOut => refusal(3, 0),
-        Checked::Misshapen(x) => refusal(4, x),
-        Checked::WindowOut(x) => refusal(5, x),
-        Checked::FreeBroken(x) => refusal(6, x),
-        Checked::NotOneParent(x) => refusal(7, x),
+        _ => {
+            let told = of_rule(c);
+            Parts {
+                number: told.0,
+                place: told.1,
+                reach: 0,
+                free: 0,
+            }
+        }
     }
 }
 
@@ -160,52 +153,11 @@ pub struct Told {
 fn told_refusal(r: Refusal) -> Told
     ensures { λ t. ⌜ t ≡ toldOf (refusalOf r) ⌝ }
 {
-    match r {
-        Refusal::NotWellFormed => Told {
-            number: 8,
-            place: 0,
-            words: 0,
-        },
-        Refusal::NotAnEvent => Told {
-            number: 9,
-            place: 0,
-            words: 0,
-        },
-        Refusal::RowOut(k) => Told {
-            number: 10,
-            place: k,
-            words: 0,
-        },
-        Refusal::TimeFalls => Told {
-            number: 11,
-            place: 0,
-            words: 0,
-        },
-        Refusal::LogFull => Told {
-            number: 12,
-            place: 0,
-            words: 0,
-        },
-        Refusal::Crowded(x) => Told {
-            number: 13,
-            place: x as u32,
-            words: 0,
-        },
-        Refusal::Backlog => Told {
-            number: 14,
-            place: 0,
-            words: 0,
-        },
-        Refusal::KeptOver => Told {
-            number: 15,
-            place: 0,
-            words: 0,
-        },
-        Refusal::BufferShort(n) => Told {
-            number: 16,
-            place: n,
-            words: 0,
-        },
+    let told = of_event(r);
+    Told {
+        number: told.0,
+        place: told.1,
+        words: 0,
     }
 }
 

@@ -1,3 +1,2 @@
 -- What the program's contracts cite.
-pub mod Told
 pub mod Next

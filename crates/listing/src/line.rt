@@ -1,6 +1,6 @@
 // The lines that are printed: each is put together in an array and written at once.
-use crate::answers::Told;
 use libc::STDOUT_FILENO;
+use refusals::Told;
 ghost use mathlib.Core.Path.{_≡_};
 ghost use Prim.Native.Nat.{_+_, _≤_, _<_};
 ghost use lib.ListN.{length};

@@ -1,9 +1,9 @@
 // What a taking answers, printed: the points of its report with their rows, or its refusal.
-use crate::answers::of_event;
 use crate::line::print_point;
 use crate::line::print_refused;
 use crate::line::print_row;
 use lent::Answer;
+use refusals::of_event;
 use weighing::Refusal;
 ghost use mathlib.Core.Path.{_≡_};
 ghost use Prim.Native.Nat.{_≤_, _<_, _^_};

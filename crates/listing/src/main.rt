@@ -1,10 +1,8 @@
 // The listing program: a rule and its events on standard input, the monitor's answers on standard output.
-mod answers;
 mod input;
 mod line;
 mod listed;
 
-use answers::of_rule;
 use input::Next;
 use input::read_event;
 use input::read_rule;
@@ -14,6 +12,7 @@ use line::print_refused;
 use listed::print_answer;
 use listed::print_refusal;
 use monitor::State;
+use refusals::of_rule;
 use rulefile::Checked;
 use taking::Open;
 use weighing::Refusal;

@@ -42,7 +42,7 @@ nothing-stored b = rw (zero-sub, gather-none (entriesOf b []) 0 (nodeCount b) (�
 abbrev refusals : List ℕ
 refusals = 1 ∷ 2 ∷ 3 ∷ 4 ∷ 5 ∷ 6 ∷ 7 ∷ []
 
-not-accepted : (k : Checked) → OneOf refusals (tagOf the-type k) → isAccepted (answerOf k) ≡ false
+pub not-accepted : (k : Checked) → OneOf refusals (tagOf the-type k) → isAccepted (answerOf k) ≡ false
 not-accepted (Accepted r f) o = absurd (miss refusals 0 tt o)
 not-accepted Cut o = refl
 not-accepted OtherVersion o = refl

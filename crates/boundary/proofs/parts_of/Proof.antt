@@ -1,8 +1,10 @@
--- `boundary::parts_of` meets its contract, answer by answer.
-use mathlib.Core.Path.{sym, ap, _∙_}
+-- `boundary::parts_of` meets its contract: an accepted rule's reach and free variables, or what `of_rule` tells.
+use mathlib.Core.Path.{sym, ap}
 use borrow.Author.Needs.{needs}
 use Rattle.rulefile.specs.Checked.{answerOf}
+use Rattle.monitor.proofs.Starting.{not-accepted}
 use Rattle.boundary.specs.Parts.{partsOf}
+use Rattle.boundary.proofs.Numbers.{rule-told}
 use Rattle.boundary.proofs.parts_of.Statement.{statement}
 use Rattle.boundary.proofs.parts_of.Tie as tie
 
@@ -12,25 +14,6 @@ parts-of-spec =
     (tie.spec
     (λ c. search needs)
     (λ c. search needs)
-    (λ c. search needs)
-    (λ c κs. search needs)
-    (λ c. search needs)
-    (λ c κs. search needs)
-    (λ c. search needs)
-    (λ c κs. search needs)
-    (λ c. search needs)
-    (λ c κs. search needs)
-    (λ c. search needs)
-    (λ c κs. search needs)
-    (λ c. search needs)
-    (λ c κs. search needs)
-    (λ c. search needs)
     (λ c κs. search needs)
     (λ c. sym (ap (λ k. partsOf (answerOf k)) (c .before .c .given .1)))
-    (λ c. c .refusal .ensures ∙ sym (ap (λ k. partsOf (answerOf k)) (c .before .enum-told .given .1)))
-    (λ c. c .refusal2 .ensures ∙ sym (ap (λ k. partsOf (answerOf k)) (c .before .enum-told2 .given .1)))
-    (λ c. c .refusal3 .ensures ∙ sym (ap (λ k. partsOf (answerOf k)) (c .before .enum-told3 .given .1)))
-    (λ c. c .refusal4 .ensures ∙ sym (ap (λ k. partsOf (answerOf k)) (c .before .before .c2 .given .1)))
-    (λ c. c .refusal5 .ensures ∙ sym (ap (λ k. partsOf (answerOf k)) (c .before .before .c3 .given .1)))
-    (λ c. c .refusal6 .ensures ∙ sym (ap (λ k. partsOf (answerOf k)) (c .before .before .c4 .given .1)))
-    (λ c. c .refusal7 .ensures ∙ sym (ap (λ k. partsOf (answerOf k)) (c .before .before .c5 .given .1))))
+    (λ c. let k = c .before .before .args .c in rule-told (answerOf k) (not-accepted k (c .before .match .keys2)) (c .of-rule .ensures)))

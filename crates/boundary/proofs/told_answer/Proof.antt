@@ -1,3 +1,4 @@
+-- `told_answer` meets its contract, answer by answer.
 use mathlib.Core.Path.{sym, ap, _∙_}
 use Rattle.lent.specs.Lent.{answerOf}
 use Rattle.boundary.specs.Numbers.{toldOf}
@@ -5,23 +6,18 @@ use borrow.Author.Needs.{needs}
 use Rattle.boundary.proofs.told_answer.Statement.{statement}
 use Rattle.boundary.proofs.told_answer.Tie as tie
 
--- src/lib.rt:188:25
 enum-known-a : tie.Need-enum-known-a
 enum-known-a c = search needs
 
--- src/lib.rt:189:25
 enum-known-a-2 : tie.Need-enum-known-a-2
 enum-known-a-2 c = search needs
 
--- src/lib.rt:189:31
 told-refusal-requires : tie.Need-told-refusal-requires
 told-refusal-requires c κs = search needs
 
--- src/lib.rt:184:1
 returns : tie.Need-returns
 returns c = sym (ap (λ a. toldOf (answerOf a)) (c .before .a .given .1))
 
--- src/lib.rt:184:1
 returns-2 : tie.Need-returns-2
 returns-2 c = c .told-refusal .ensures ∙ sym (ap (λ a. toldOf (answerOf a)) (c .before .before .a2 .given .1))
 

@@ -1,25 +1,21 @@
+-- `yokemango_open_points` meets its contract by that of `open_points`.
 use Rattle.boundary.proofs.Numbers.{open-told, not-open-told}
 use borrow.Author.Needs.{needs}
 use Rattle.boundary.proofs.yokemango_open_points.Statement.{statement}
 use Rattle.boundary.proofs.yokemango_open_points.Tie as tie
 
--- src/lib.rt:241:11
 open-points-requires : tie.Need-open-points-requires
 open-points-requires c κs = search needs
 
--- src/lib.rt:242:22
 enum-known-n : tie.Need-enum-known-n
 enum-known-n c = search needs
 
--- src/lib.rt:243:32
 enum-told : tie.Need-enum-told
 enum-told c = search needs
 
--- src/lib.rt:237:1
 returns : tie.Need-returns
 returns c = open-told _ (rw (c .before .n .given .1) at (c .before .before .before .open-points .ensures))
 
--- src/lib.rt:237:1
 returns-2 : tie.Need-returns-2
 returns-2 c = not-open-told _ (rw (c .enum-told .given .1) at (c .before .before .open-points .ensures))
 

@@ -1,7 +1,7 @@
 -- `of_rule` meets its contract, answer by answer.
 use borrow.Author.Needs.{needs}
-use Rattle.listing.proofs.answers.of_rule.Statement.{statement}
-use Rattle.listing.proofs.answers.of_rule.Tie as tie
+use Rattle.refusals.proofs.of_rule.Statement.{statement}
+use Rattle.refusals.proofs.of_rule.Tie as tie
 
 pub of-rule-spec : {M : Type 1} → statement M
 of-rule-spec =

@@ -1,7 +1,7 @@
 -- `of_event` meets its contract, refusal by refusal.
 use borrow.Author.Needs.{needs}
-use Rattle.listing.proofs.answers.of_event.Statement.{statement}
-use Rattle.listing.proofs.answers.of_event.Tie as tie
+use Rattle.refusals.proofs.of_event.Statement.{statement}
+use Rattle.refusals.proofs.of_event.Tie as tie
 
 pub of-event-spec : {M : Type 1} → statement M
 of-event-spec =

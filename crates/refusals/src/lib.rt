@@ -4,7 +4,7 @@ use weighing::Refusal;
 ghost use mathlib.Core.Path.{_≡_};
 ghost use Rattle.rulefile.specs.Checked.{answerOf};
 ghost use Rattle.weighing.specs.Weighs.{refusalOf};
-ghost use Rattle.listing.specs.Told.{toldOf};
+ghost use Rattle.refusals.specs.Told.{toldOf};
 
 // A refusal's number and place.
 pub struct Told(pub u32, pub u32);

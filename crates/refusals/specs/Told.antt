@@ -1,6 +1,6 @@
--- The number and place that are printed for a refusal.
+-- The number and place of a refusal.
 use Rattle.meaning.specs.Outcome.{Outcome, refused, given}
-use Rattle.listing.specs.declared.answers.Told.{Told}
+use Rattle.refusals.specs.declared.Told.{Told}
 
 -- both are 0 where nothing is refused
 abbrev pub toldOf : {A : Type 0} → Outcome A → Told
