@@ -3,14 +3,13 @@ use Prim.Native.Nat.{ℕ, _+_, _-_, _≤_, _<_}
 use native.Mathlib.Omega.{arith}
 use mathlib.Core.Path.{_≡_, refl, sym, _∙_, ap, ap₂}
 use mathlib.Core.List.{List, [], _∷_, _++_}
-use lib.ListN.{length, getD, take, drop, length-map}
+use lib.ListN.{length, getD, take, drop}
 use lib.Seq.{length-take-le, take-all, take-take}
 use Rattle.meaning.specs.Lists.{range, gather}
 use Rattle.meaning.specs.Outcome.{mostPoints}
 use Rattle.meaning.specs.RuleFile.{nodeCount, lastNode}
 use Rattle.meaning.specs.Kept.{Entry}
 use Rattle.meaning.specs.Keeper.{weighed, bufferAfter}
-use Rattle.meaning.proofs.Lists.{range-length}
 use Rattle.meaning.proofs.Accepted.{nodes-most}
 use Rattle.method.specs.Stored.{Stored, baseOf, firstRetained}
 use Rattle.method.specs.Step.{countsStored, countBefore, stampsNow, countsAfter, countAfter, turn, entriesNow, storedNow, crowdedNow, reportNow}
@@ -19,7 +18,7 @@ use Rattle.method.proofs.Counted.{counts-length}
 use Rattle.method.proofs.Formed.{Formed}
 use Rattle.method.proofs.Bounds.{new-few, before-after, after-most, after-step, wanted-before, wanted-after, wanted-grows, span}
 use Rattle.kinds.specs.Kinds.{EventThere}
-use Rattle.shelf.specs.Entries.{entryAt, entriesFrom, Stands}
+use Rattle.shelf.specs.Entries.{Stands}
 use Rattle.formed.specs.Known.{storedIn, Known}
 use Rattle.turns.specs.Turns.{figure, turnIn, crowdedIn, entriesOut, entriesIn, Begun}
 use Rattle.weighing.specs.declared.Weighed.{Weighed}
@@ -30,6 +29,7 @@ use Rattle.taking.specs.declared.Taken.{Taken}
 use Rattle.taking.specs.declared.Taken.the-variants as taken
 use Rattle.taking.specs.Answers.{weighedNow, Finishes, TakesIn}
 use Rattle.taking.specs.Figures.{bare, Counting, Figured, MostNew}
+use Rattle.taking.proofs.Stored.{entries-many}
 
 -- a refusal has nothing done
 pub not-done : {A : Type 0} {r : Refusal} {words retained kept : ℕ} → taken.Refused r ≡ taken.Done words retained kept → A
@@ -49,10 +49,6 @@ module _ (b : List ℕ) (points : ℕ) (times os ns vs : List ℕ) (count : ℕ)
   stored-many : length (countsStored s) ≡ nodeCount b
   unfolding countsStored
   stored-many = counts-length b _ points _ (nodeCount b)
-
-  entries-many : length (entriesFrom os ns vs 0 count) ≡ count
-  unfolding entriesFrom
-  entries-many = length-map (range 0 count) (entryAt os ns vs) ∙ range-length 0 count
 
   -- ---- what the counts start from
 
@@ -86,7 +82,7 @@ module _ (b : List ℕ) (points : ℕ) (times os ns vs : List ℕ) (count : ℕ)
         record {
           accepted = f .accepted;
           stand = t;
-          few-kept = omega (arith, f .few-kept, entries-many);
+          few-kept = omega (arith, f .few-kept, entries-many os ns vs count);
           entries = f .entries-own;
           few-rows = f .sets-few;
           many-before = stored-many;
