@@ -2,8 +2,6 @@
 pub mod Behind
 pub mod Parts
 pub mod Given
-pub mod Laying
-pub mod Finishing
 pub mod Arity
 pub mod Lower
 pub mod Taking

@@ -33,14 +33,15 @@ use Rattle.shelf.proofs.Packing.{packed-as}
 use Rattle.shelving.specs.Shelved.{setEntries, agedEntries, Spaces}
 use Rattle.turn.specs.Turning.{Sets, Same}
 use Rattle.turn.proofs.Going.{pairs-there}
-use Rattle.turns.specs.declared.Ended.{Ended}
-use Rattle.turns.specs.declared.Ended.the-variants.{Crowded, Kept}
+use Rattle.finishing.specs.declared.Ended.{Ended}
+use Rattle.finishing.specs.declared.Ended.the-variants.{Crowded, Kept}
+use Rattle.finishing.specs.Finish.{Finishable, keeps, Finished, Finishes, FinishesNew}
+use Rattle.finishing.proofs.Laying.{set-few, sets-more}
 use Rattle.turns.specs.Turns.{figure, turnIn, crowdedIn, entriesOut, entriesIn, Begun, Roomy}
-use Rattle.turns.specs.Nodes.{NodeRead, Finishable, keeps, Finished, Finishes, FinishesNew, SetsBelow, TurnedTo, Turned}
+use Rattle.turns.specs.Nodes.{NodeRead, SetsBelow, TurnedTo, Turned}
 use Rattle.turns.proofs.Behind.{gather-first, after-sets, after-node}
 use Rattle.turns.proofs.Parts.{Among, pairs-five, part-pairs, part-there}
 use Rattle.turns.proofs.Given.{sight, fresh, turn-pairs, rows-at, rows-held, rows-new}
-use Rattle.turns.proofs.Laying.{set-few, sets-more}
 use Rattle.turns.proofs.Lower.{below-later, below-noted, below-own, ready, same}
 
 -- no point of a run passes

@@ -1,24 +1,15 @@
--- One node's turn: its kept sets and pairs read, the points that it newly settles, and what it keeps; and where the turns stand between two nodes.
+-- One node's turn: its kept sets and pairs read, and what it keeps; and where the turns stand between two nodes.
 use Prim.Native.Nat.{ℕ, _+_, _-_, _*_, _≤_, _<_}
 use mathlib.Core.Path.{_≡_}
 use mathlib.Core.Bool.{true, false}
-use mathlib.Core.List.{List, [], _++_}
+use mathlib.Core.List.{List, []}
 use lib.ListN.{length, getD}
 use Rattle.meaning.specs.Lists.{range, gather}
-use Rattle.meaning.specs.Outcome.{mostRows}
 use Rattle.meaning.specs.RuleFile.{nodeCount}
-use Rattle.meaning.specs.Kept.{Entry}
-use Rattle.meaning.specs.declared.Node.{Node}
-use Rattle.method.specs.Settle.{Sight}
-use Rattle.method.specs.Step.{newRows, newPairs}
-use Rattle.kinds.specs.Kinds.{PairsThere}
-use Rattle.room.specs.Room.{setIn, setAt}
+use Rattle.room.specs.Room.{setIn}
 use Rattle.shelf.specs.Entries.{entriesFrom, Packed}
-use Rattle.shelf.specs.Appended.{Extended}
-use Rattle.shelving.specs.Shelved.{setEntries, agedEntries, Spaces, Loaded, PairsEnd}
-use Rattle.turn.specs.Turning.{Sets, Ready, Same}
-use Rattle.turns.specs.declared.Ended.{Ended}
-use Rattle.turns.specs.declared.Ended.the-variants.{Crowded, Kept}
+use Rattle.shelving.specs.Shelved.{Loaded, PairsEnd}
+use Rattle.turn.specs.Turning.{Sets}
 use Rattle.turns.specs.declared.Place.{Place}
 use Rattle.turns.specs.declared.Moved.{Moved}
 use Rattle.turns.specs.declared.Moved.the-variants.{Stopped, To}
@@ -28,43 +19,6 @@ use Rattle.turns.specs.Turns.{figure, turnIn, crowdedIn, entriesOut, ent
 pub record NodeRead (os ns vs : List ℕ) (cursor count x low n : ℕ) (rows at rows' at' : List ℕ) (sets p r : ℕ) : Type 0 where
   pub read : Loaded os ns vs cursor count x low n rows at rows' at' sets p
   pub pairs : PairsEnd os p count x r
-
--- what must stand for the rest of a node's turn: its sets from point low on begin at set `first`, those at the points before start are the last of n, and what it keeps begins at point from
-pub record Finishable (b w rows at firsts lows masks counts times : List ℕ) (base points n first low start end from : ℕ) (node : Node) (oldAges oldValues : List ℕ) (old : ℕ) (ages paired spareAges sparePaired : List ℕ) : Type 0 where
-  pub ready : Ready b w rows at firsts lows masks counts times base points n start end node
-  pub ordered : start ≤ end
-  pub spaces : Spaces rows at n (end - start) (32 * (end - start))
-  pub held : PairsThere oldAges oldValues old
-  pub pairs : PairsThere ages paired (old + 32 * (end - start))
-  pub spare : start + 1 < end → PairsThere spareAges sparePaired (old + 32 * (end - start))
-  pub own : n ≡ first + (start - low)
-  pub begun : low ≤ start
-  pub kept-on : low ≤ from
-  pub kept-end : from ≤ end
-  pub span : end - low ≤ 65
-  pub small : end < 4294967296
-
--- what a node keeps: its sets as they stand, from point `from` on before end, and its pairs
-abbrev pub keeps : ℕ → List ℕ → List ℕ → ℕ → ℕ → ℕ → ℕ → List (List ℕ) → List Entry
-keeps x rows at first low from end pairs = setEntries x (setAt rows at first low) from (end - from) ++ agedEntries x pairs
-
--- the rows at m points stand behind n other sets, at most 32 at each, and what the node keeps is packed
-pub record Finished (m : ℕ) (new : List (List (List ℕ))) (held pairs : List (List ℕ)) (x first low from end : ℕ) (rows at rows' at' : List ℕ) (n : ℕ) (os ns vs : List ℕ) (kept : ℕ) (os' ns' vs' : List ℕ) (k : ℕ) : Type 0 where
-  pub more : Extended rows at rows' at' n m (λ q. getD new q [])
-  pub sets : Sets rows' at' (n + m)
-  pub end-row : getD at' (n + m) 0 ≤ getD at n 0 + 32 * m
-  pub packed : Packed os ns vs kept os' ns' vs' k (keeps x rows' at' first low from end pairs)
-  pub counted : k ≡ kept + length (keeps x rows' at' first low from end pairs)
-  pub few : k ≤ kept + 2080 + (length held + 32 * m)
-
-abbrev pub Finishes : ℕ → List (List (List ℕ)) → List (List ℕ) → List (List ℕ) → ℕ → ℕ → ℕ → ℕ → ℕ → List ℕ → List ℕ → List ℕ → List ℕ → ℕ → List ℕ → List ℕ → List ℕ → ℕ → List ℕ → List ℕ → List ℕ → Ended → Type 0
-Finishes m new held pairs x first low from end rows at rows' at' n os ns vs kept os' ns' vs' Crowded = (q : ℕ) × (q < m) × (mostRows < length (getD new q []))
-Finishes m new held pairs x first low from end rows at rows' at' n os ns vs kept os' ns' vs' (Kept k) = Finished m new held pairs x first low from end rows at rows' at' n os ns vs kept os' ns' vs' k
-
--- the same for any Sight that says what stands in the words, with the node's pairs `held` before the points from start on
-pub record FinishesNew (b w rows at firsts lows masks counts times : List ℕ) (base x first low start end from : ℕ) (node : Node) (held : List (List ℕ)) (rows' at' : List ℕ) (n : ℕ) (os ns vs : List ℕ) (kept : ℕ) (os' ns' vs' : List ℕ) (r : Ended) : Type 0 where
-  pub gives : (v : Sight) → Same v b w rows at firsts lows masks counts times base node
-      → Finishes (end - start) (newRows v node start (end - start) held) held (newPairs v node start (end - start) held) x first low from end rows at rows' at' n os ns vs kept os' ns' vs' r
 
 module _ (b os ns vs : List ℕ) (count : ℕ) (before after times : List ℕ) (base : ℕ) (w : List ℕ) where
   -- n sets stand, among them those of the first x nodes: from its first set on, each node's rows from its low point on

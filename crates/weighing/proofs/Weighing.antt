@@ -15,7 +15,6 @@ use Rattle.kinds.specs.Kinds.{inMask}
 use Rattle.writer.specs.Words.{freeCount, setOf, words}
 use Rattle.writer.proofs.Reports.{words-length, marked}
 use Rattle.meaning.specs.RuleFile.{lastNode}
-use Rattle.turns.specs.Turns.{figure}
 use Rattle.weighing.specs.declared.Refusal.{Refusal}
 use Rattle.weighing.specs.declared.Refusal.the-variants.{Backlog, KeptOver, BufferShort}
 use Rattle.weighing.specs.declared.Weighed.the-variants.{Refused, Written}
@@ -39,11 +38,11 @@ run-few at a (suc n) h = let e : a + suc n ≡ a + n + 1 = omega arith in rw e (
 pub words-few : {b rows at firsts lows masks before after : List ℕ} {points : ℕ} → Last b rows at firsts lows masks before after points → (base : ℕ) (times : List ℕ) → length (lastWords b rows at firsts lows masks before after base times) < 4294967296
 words-few {b} {rows} {at} {firsts} {lows} {masks} {before} {after} h base times =
     let x = lastNode b in
-    let n = figure after x - figure before x in
-    let total = getD at (setOf (figure firsts x) (figure lows x) (figure before x) + n) 0 - getD at (setOf (figure firsts x) (figure lows x) (figure before x)) 0 in
-    let few : total ≤ 32 * n = run-few at (setOf (figure firsts x) (figure lows x) (figure before x)) n (h .few) in
-    let four : freeCount (figure masks x) ≤ 4 = selected-most (inMask (figure masks x)) variables in
-    omega (arith, words-length rows at (figure firsts x) (figure lows x) base times (figure masks x) (figure before x) n (marked (h .sets)), mul-le-mul-right total four, h .few-points)
+    let n = getD after x 0 - getD before x 0 in
+    let total = getD at (setOf (getD firsts x 0) (getD lows x 0) (getD before x 0) + n) 0 - getD at (setOf (getD firsts x 0) (getD lows x 0) (getD before x 0)) 0 in
+    let few : total ≤ 32 * n = run-few at (setOf (getD firsts x 0) (getD lows x 0) (getD before x 0)) n (h .few) in
+    let four : freeCount (getD masks x 0) ≤ 4 = selected-most (inMask (getD masks x 0)) variables in
+    omega (arith, words-length rows at (getD firsts x 0) (getD lows x 0) base times (getD masks x 0) (getD before x 0) n (marked (h .sets)), mul-le-mul-right total four, h .few-points)
 
 -- a refusal isn't a report
 pub not-written : {A : Type 0} {r : Refusal} {words kept : ℕ} → Refused r ≡ Written words kept → A

@@ -1,2 +1,2 @@
--- What the contracts of this crate cite beside the definitions of `meaning`, `writer` and `turns`.
+-- What the contracts of this crate cite beside the definitions of `meaning` and `writer`.
 pub mod Weighs

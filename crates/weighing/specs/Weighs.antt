@@ -8,7 +8,6 @@ use Rattle.meaning.specs.Outcome.{Outcome, refused, given, when, notWellFormed,
 use Rattle.meaning.specs.RuleFile.{nodeCount, lastNode}
 use Rattle.meaning.specs.Keeper.{bufferAfter}
 use Rattle.writer.specs.Words.{setOf, words, Reportable}
-use Rattle.turns.specs.Turns.{figure}
 use Rattle.weighing.specs.declared.Refusal.{Refusal}
 use Rattle.weighing.specs.declared.Refusal.the-variants.{NotWellFormed, NotAnEvent, RowOut, TimeFalls, LogFull, Crowded, Backlog, KeptOver, BufferShort}
 use Rattle.weighing.specs.declared.Weighed.{Weighed}
@@ -50,13 +49,13 @@ pub record Last (b rows at firsts lows masks before after : List ℕ) (points : 
   pub in-masks : lastNode b < length masks
   pub in-before : lastNode b < length before
   pub in-after : lastNode b < length after
-  pub grown : figure before (lastNode b) ≤ figure after (lastNode b)
-  pub settled : figure after (lastNode b) ≤ points
-  pub sets : Reportable rows at (figure firsts (lastNode b)) (figure lows (lastNode b)) (figure before (lastNode b)) (figure after (lastNode b) - figure before (lastNode b))
-  pub few : (q : ℕ) → q < figure after (lastNode b) - figure before (lastNode b) → getD at (setOf (figure firsts (lastNode b)) (figure lows (lastNode b)) (figure before (lastNode b)) + q + 1) 0 - getD at (setOf (figure firsts (lastNode b)) (figure lows (lastNode b)) (figure before (lastNode b)) + q) 0 ≤ mostRows
-  pub few-points : figure after (lastNode b) - figure before (lastNode b) ≤ 65
+  pub grown : getD before (lastNode b) 0 ≤ getD after (lastNode b) 0
+  pub settled : getD after (lastNode b) 0 ≤ points
+  pub sets : Reportable rows at (getD firsts (lastNode b) 0) (getD lows (lastNode b) 0) (getD before (lastNode b) 0) (getD after (lastNode b) 0 - getD before (lastNode b) 0)
+  pub few : (q : ℕ) → q < getD after (lastNode b) 0 - getD before (lastNode b) 0 → getD at (setOf (getD firsts (lastNode b) 0) (getD lows (lastNode b) 0) (getD before (lastNode b) 0) + q + 1) 0 - getD at (setOf (getD firsts (lastNode b) 0) (getD lows (lastNode b) 0) (getD before (lastNode b) 0) + q) 0 ≤ mostRows
+  pub few-points : getD after (lastNode b) 0 - getD before (lastNode b) 0 ≤ 65
 
 -- the words of that report
 abbrev pub lastWords : List ℕ → List ℕ → List ℕ → List ℕ → List ℕ → List ℕ → List ℕ → List ℕ → ℕ → List ℕ → List ℕ
 lastWords b rows at firsts lows masks before after base times =
-    words rows at (figure firsts (lastNode b)) (figure lows (lastNode b)) base times (figure masks (lastNode b)) (figure before (lastNode b)) (figure after (lastNode b) - figure before (lastNode b))
+    words rows at (getD firsts (lastNode b) 0) (getD lows (lastNode b) 0) base times (getD masks (lastNode b) 0) (getD before (lastNode b) 0) (getD after (lastNode b) 0 - getD before (lastNode b) 0)

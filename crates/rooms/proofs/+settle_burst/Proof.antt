@@ -146,7 +146,12 @@ settle-burst-settle-requires : (t : ℕ) → settle-burst-lts.Need-settle-requir
   settle-reads.Asked,
   settle-reads.Learnt,
 ) (settle-burst-at t) settle-burst.Post
-settle-burst-settle-requires t c κs = let s = c .before .before .before .before .before .before .before .before .before .before .before .before .before .before .before .before .before .before .before .before .before .before .before .before .before .before .before in (s .pre .1 .0, (record { words = omega (arith, s .pre .1 .0 .few-kept, nodes-most _ (s .pre .1 .0 .accepted .0) (s .pre .1 .0 .accepted .1)); small = omega (arith, s .pre .1 .0 .few-kept, nodes-most _ (s .pre .1 .0 .accepted .0) (s .pre .1 .0 .accepted .1)); marks = omega (arith, nodes-most _ (s .pre .1 .0 .accepted .0) (s .pre .1 .0 .accepted .1)); nodes = omega arith; pairs = record { agesThere = omega (arith, s .pre .1 .0 .few-kept, nodes-most _ (s .pre .1 .0 .accepted .0) (s .pre .1 .0 .accepted .1)); valuesThere = omega (arith, s .pre .1 .0 .few-kept, nodes-most _ (s .pre .1 .0 .accepted .0) (s .pre .1 .0 .accepted .1)) }; spare = λ o. record { agesThere = omega (arith, s .pre .1 .0 .few-kept, nodes-most _ (s .pre .1 .0 .accepted .0) (s .pre .1 .0 .accepted .1)); valuesThere = omega (arith, s .pre .1 .0 .few-kept, nodes-most _ (s .pre .1 .0 .accepted .0) (s .pre .1 .0 .accepted .1)) } }, s .pre .1 .1))
+settle-burst-settle-requires t c κs =
+    let s = c .before .before .before .before .before .before .before .before .before .before .before .before .before .before .before .before .before .before .before .before .before .before .before .before .before .before .before in
+    let h = s .pre .1 .0 in
+    let kept = h .few-kept in
+    let nodes = nodes-most _ (h .accepted .0) (h .accepted .1) in
+    (h, (record { words = omega arith; small = omega arith; marks = omega arith; nodes = omega arith; pairs = record { agesThere = omega arith; valuesThere = omega arith }; spare = λ o. record { agesThere = omega arith; valuesThere = omega arith } }, s .pre .1 .1))
 
 settle-burst-same-length-5 : (t : ℕ) → settle-burst-lts.Need-same-length-5 (
   settle-burst-below t,

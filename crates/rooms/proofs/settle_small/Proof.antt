@@ -5,7 +5,10 @@ use Rattle.rooms.proofs.settle_small.Statement.{statement}
 use Rattle.rooms.proofs.settle_small.Tie as tie
 
 settle-requires : tie.Need-settle-requires
-settle-requires c κs = let s = c .before .before .before .before .before .before .before .before .before .before .before .before .before .before .before .before .before .before .before .before .before .before .before .before .before .before in (s .pre .0, (record { words = omega (arith, s .pre .1 .0 .1, s .pre .1 .0 .0); small = omega (arith, s .pre .1 .0 .1, s .pre .1 .0 .0); marks = omega (arith, s .pre .1 .0 .0); nodes = omega arith; pairs = record { agesThere = omega (arith, s .pre .1 .0 .1); valuesThere = omega (arith, s .pre .1 .0 .1) }; spare = λ o. absurd (omega arith) }, s .pre .1 .1))
+settle-requires c κs =
+    let s = c .before .before .before .before .before .before .before .before .before .before .before .before .before .before .before .before .before .before .before .before .before .before .before .before .before .before in
+    let (nodes, kept) = s .pre .1 .0 in
+    (s .pre .0, (record { words = omega arith; small = omega arith; marks = omega arith; nodes = omega arith; pairs = record { agesThere = omega arith; valuesThere = omega arith }; spare = λ o. absurd (omega arith) }, s .pre .1 .1))
 
 pub settle-small-spec : {M : Type 1} → statement M
 settle-small-spec =

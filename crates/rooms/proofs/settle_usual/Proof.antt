@@ -6,7 +6,12 @@ use Rattle.rooms.proofs.settle_usual.Statement.{statement}
 use Rattle.rooms.proofs.settle_usual.Tie as tie
 
 settle-requires : tie.Need-settle-requires
-settle-requires c κs = let s = c .before .before .before .before .before .before .before .before .before .before .before .before .before .before .before .before .before .before .before .before .before .before .before .before .before .before in (s .pre .0, (record { words = omega (arith, s .pre .0 .few-kept, nodes-most _ (s .pre .0 .accepted .0) (s .pre .0 .accepted .1)); small = omega (arith, s .pre .0 .few-kept, nodes-most _ (s .pre .0 .accepted .0) (s .pre .0 .accepted .1)); marks = omega (arith, nodes-most _ (s .pre .0 .accepted .0) (s .pre .0 .accepted .1)); nodes = omega arith; pairs = record { agesThere = omega (arith, s .pre .0 .few-kept, nodes-most _ (s .pre .0 .accepted .0) (s .pre .0 .accepted .1)); valuesThere = omega (arith, s .pre .0 .few-kept, nodes-most _ (s .pre .0 .accepted .0) (s .pre .0 .accepted .1)) }; spare = λ o. absurd (omega arith) }, s .pre .1))
+settle-requires c κs =
+    let s = c .before .before .before .before .before .before .before .before .before .before .before .before .before .before .before .before .before .before .before .before .before .before .before .before .before .before in
+    let h = s .pre .0 in
+    let kept = h .few-kept in
+    let nodes = nodes-most _ (h .accepted .0) (h .accepted .1) in
+    (h, (record { words = omega arith; small = omega arith; marks = omega arith; nodes = omega arith; pairs = record { agesThere = omega arith; valuesThere = omega arith }; spare = λ o. absurd (omega arith) }, s .pre .1))
 
 pub settle-usual-spec : {M : Type 1} → statement M
 settle-usual-spec =

@@ -1,7 +1,7 @@
 -- `take_admitted` meets its contract: the figures are those of the call.
 use Prim.Native.Nat.{_-_}
 use native.Mathlib.Omega.{arith}
-use mathlib.Core.Path.{_≡_}
+use mathlib.Core.Path.{_≡_, refl, sym, _∙_}
 use Rattle.meaning.specs.RuleFile.{nodeCount}
 use Rattle.meaning.proofs.Accepted.{accepted, nodes-most}
 use Rattle.taking.proofs.Figuring.{counting, figured-whole, known-first, first-many}
@@ -32,18 +32,18 @@ take-admitted-spec =
     (λ c. search needs)
     (λ c. search needs)
     part-figures-end
-    (λ c. search needs)
-    (λ c. search needs)
+    (λ c. refl)
+    (λ c. refl)
     figures-requires
     (λ c. search needs)
     (λ c. search needs)
     part-take-figured-end
-    (λ c. search needs)
-    (λ c. search needs)
+    (λ c. sym (c .before .before .before .before .before .after2 .given))
+    (λ c. sym (c .before .before .before .before .before .wants2 .given))
     take-figured-requires
-    (λ c. search needs)
-    (λ c. search needs)
-    (λ c. search needs)
-    (λ c. search needs)
-    (λ c. search needs)
-    (λ c. search needs))
+    (λ c. c .before .before .before .before .before .before .before .before .before .report .given)
+    (λ c. c .before .before .before .before .before .before .before .stamps2 .given ∙ c .before .before .before .before .before .before .before .before .before .before .before .before .before .before .before .before .before .before .before .before .before .before .stamps .given)
+    (λ c. c .before .before .before .before .before .out-owners .given)
+    (λ c. c .before .before .before .out-numbers .given)
+    (λ c. c .before .out-values .given)
+    (λ c. c .before .before .before .before .before .before .before .before .before .before .take-figured .ensures))

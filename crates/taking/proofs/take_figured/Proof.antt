@@ -66,9 +66,9 @@ take-figured-spec =
     add-finish
     add-finish-2
     finish-requires
-    (λ c. search needs)
-    (λ c. search needs)
-    (λ c. search needs)
-    (λ c. search needs)
-    (λ c. search needs)
+    (λ c. c .before .before .before .before .before .before .report .given)
+    (λ c. c .before .stamps2 .given)
+    (λ c. c .before .before .before .before .before .before .before .before .before .before .before .before .out-owners .given)
+    (λ c. c .before .before .before .before .before .before .before .before .before .before .out-numbers .given)
+    (λ c. c .before .before .before .before .before .before .before .before .out-values .given)
     returns)

@@ -1,6 +1,6 @@
 -- 8 by the test of well-formedness, 9 to 12 by the first checks, and where these find nothing what follows.
 use native.Mathlib.Omega.{arith}
-use mathlib.Core.Path.{_≡_, sym, _∙_}
+use mathlib.Core.Path.{_≡_, refl, sym, _∙_}
 use mathlib.Core.Bool.{true}
 use mathlib.Core.List.{[], _∷_}
 use types.Run.{miss}
@@ -21,13 +21,13 @@ well : (c : tie.Else1)
 well c = sym (c .before .before .before .before .well-formed .ensures .0) ∙ not-false _ (c .if1 .left)
 
 slice-aggregate-well-formed : tie.Need-slice-aggregate-well-formed
-slice-aggregate-well-formed c = search needs
+slice-aggregate-well-formed c = refl
 
 slice-aggregate-well-formed-2 : tie.Need-slice-aggregate-well-formed-2
-slice-aggregate-well-formed-2 c = search needs
+slice-aggregate-well-formed-2 c = refl
 
 slice-aggregate-well-formed-3 : tie.Need-slice-aggregate-well-formed-3
-slice-aggregate-well-formed-3 c = search needs
+slice-aggregate-well-formed-3 c = refl
 
 well-formed-requires : tie.Need-well-formed-requires
 well-formed-requires c κs = (c .before .before .before .before .before .before .before .before .before .before .before .before .before .before .pre .0, omega arith)
@@ -51,13 +51,13 @@ returns-2 : tie.Need-returns-2
 returns-2 c = let d = c .before .before in refused-first (d .admit .result) (well (d .before .before)) (d .before .latest .ensures) (d .admit .ensures) (c .refusal-of .ensures)
 
 slice-aggregate-take-admitted : tie.Need-slice-aggregate-take-admitted
-slice-aggregate-take-admitted c = search needs
+slice-aggregate-take-admitted c = sym (c .before .before .before .before .before .before .before .before .masks2 .given)
 
 slice-aggregate-take-admitted-2 : tie.Need-slice-aggregate-take-admitted-2
-slice-aggregate-take-admitted-2 c = search needs
+slice-aggregate-take-admitted-2 c = sym (c .before .before .before .before .before .before .before .before .counts2 .given)
 
 slice-aggregate-take-admitted-3 : tie.Need-slice-aggregate-take-admitted-3
-slice-aggregate-take-admitted-3 c = search needs
+slice-aggregate-take-admitted-3 c = sym (c .before .before .before .before .before .before .before .before .lows2 .given)
 
 take-admitted-requires : tie.Need-take-admitted-requires
 take-admitted-requires c κs =
@@ -69,19 +69,19 @@ take-admitted-requires c κs =
     (s .pre .0, (formed _ (well p), (f .well-formed .ensures .1 (not-false _ (p .if1 .left)), (fine-event _ _ _ _ _ (d .admit .ensures) (t .enum-told .given .1), (omega (arith, f .well-formed .kept, s .pre), s .pre .1 .1)))))
 
 same-length : tie.Need-same-length
-same-length c = search needs
+same-length c = c .before .before .before .before .before .before .before .before .before .report .given
 
 same-length-2 : tie.Need-same-length-2
-same-length-2 c = search needs
+same-length-2 c = c .before .before .before .before .before .before .before .stamps .given
 
 same-length-3 : tie.Need-same-length-3
-same-length-3 c = search needs
+same-length-3 c = c .before .before .before .before .before .out-owners .given
 
 same-length-4 : tie.Need-same-length-4
-same-length-4 c = search needs
+same-length-4 c = c .before .before .before .out-numbers .given
 
 same-length-5 : tie.Need-same-length-5
-same-length-5 c = search needs
+same-length-5 c = c .before .out-values .given
 
 returns-3 : tie.Need-returns-3
 returns-3 c =

@@ -20,8 +20,8 @@ use Rattle.settling.specs.Sights.{sightIn}
 use Rattle.turn.specs.Turning.{Sets, Same, Turned}
 use Rattle.turn.proofs.Standing.{same-self}
 use Rattle.turn.proofs.Going.{pairs-there}
-use Rattle.turns.specs.Nodes.{Finishable, keeps, Finished}
-use Rattle.turns.proofs.Laying.{run-few}
+use Rattle.finishing.specs.Finish.{Finishable, keeps, Finished}
+use Rattle.finishing.proofs.Laying.{run-few}
 
 module _ {b w rows at firsts lows masks counts times : List ℕ} {base points n first low start end from : ℕ} {node : Node} {oldAges oldValues : List ℕ} {old : ℕ} {ages paired spareAges sparePaired : List ℕ}
     (d : Finishable b w rows at firsts lows masks counts times base points n first low start end from node oldAges oldValues old ages paired spareAges sparePaired) where

@@ -2,9 +2,9 @@
 use native.Mathlib.Omega.{arith}
 use mathlib.Core.Path.{refl}
 use borrow.Author.Needs.{needs}
-use Rattle.turns.proofs.Finishing.{packs, new-words, finished-new, old-sets, finished-old}
-use Rattle.turns.proofs.finish_turn.Statement.{statement}
-use Rattle.turns.proofs.finish_turn.Tie as tie
+use Rattle.finishing.proofs.Finishing.{packs, new-words, finished-new, old-sets, finished-old}
+use Rattle.finishing.proofs.finish_turn.Statement.{statement}
+use Rattle.finishing.proofs.finish_turn.Tie as tie
 
 -- the places behind one another
 abbrev entry : tie.After-struct-known4 → tie.Start
