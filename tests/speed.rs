@@ -47,7 +47,7 @@ fn half_hour() -> Rule {
     Rule { arities: vec![1, 1], nodes }
 }
 
-// A point every 20 seconds; each of 8 blocks is read every 160 seconds, so some 90 pairs are kept.
+// Each point reads one of 8 blocks in turn: 91 pairs are kept where a point comes every 20 seconds, 46 where every 40.
 fn rows_of_half_hour(i: usize) -> Vec<Row> {
     let mut rows = vec![(1, vec![(i % 8) as u32])];
     if i % 4 == 0 {
@@ -90,7 +90,8 @@ fn rows_of_nodes_32(i: usize) -> Vec<Row> {
 fn cases() -> Vec<Case> {
     vec![
         Case { name: "rule L", rule: rule_l(), step: 7, rows: rows_of_l },
-        Case { name: "the half-hour rule", rule: half_hour(), step: 20, rows: rows_of_half_hour },
+        Case { name: "the half-hour rule, a reading every 40 s", rule: half_hour(), step: 40, rows: rows_of_half_hour },
+        Case { name: "the half-hour rule, a reading every 20 s", rule: half_hour(), step: 20, rows: rows_of_half_hour },
         Case { name: "32 nodes", rule: nodes_32(), step: 10, rows: rows_of_nodes_32 },
     ]
 }
