@@ -12,9 +12,6 @@ returns c = weighs-backlog (omega arith)
 returns-2 : tie.Need-returns-2
 returns-2 c = weighs-over (omega arith) (omega arith)
 
-cast-t19 : tie.Need-cast-t19
-cast-t19 c = let s = c .before .before .before .before .before .before .before .before in record { fits = omega (arith, c .before .words-needed .ensures (s .args .rows .now) (s .args .times .now) (s .args .base .0), s .pre .1) }
-
 returns-3 : tie.Need-returns-3
 returns-3 c = let s = c .before .before .before .before .before .before .before .before in weighs-short (omega arith) (omega arith) (c .before .words-needed .ensures (s .args .rows .now) (s .args .times .now) (s .args .base .0)) (omega arith)
 
@@ -31,7 +28,7 @@ weigh-spec =
     returns
     returns-2
     (λ c κs. search needs)
-    cast-t19
+    (λ c. let s = c .before .before .before .before .before .before .before .before in record { fits = omega (arith, c .before .words-needed .ensures (s .args .rows .now) (s .args .times .now) (s .args .base .0), s .pre .1) })
     returns-3
     write-requires
     (λ c. search needs)
