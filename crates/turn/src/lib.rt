@@ -3,10 +3,7 @@ use kinds::Left;
 use meaning::Node;
 use meaning::Point;
 use meaning::Window;
-ghost use mathlib.Core.Path.{_≡_};
 ghost use Prim.Native.Nat.{_+_, _-_, _*_, _<_};
-ghost use Rattle.method.specs.Settle.{grownBy};
-ghost use Rattle.method.specs.Stored.{stampIn};
 ghost use Rattle.kinds.specs.Kinds.{pairsFrom, PairsThere};
 ghost use Rattle.shelf.specs.Appended.{Space};
 ghost use Rattle.shelving.specs.Shelved.{Spaces};
@@ -16,18 +13,6 @@ ghost use Rattle.turn.specs.Turning.{Ready, Due, Rest, Sided, askedPairs
 pub enum Settled {
     Crowded,
     Pairs(usize),
-}
-
-// How much older pairs grow up to point i: nothing at the first point.
-fn grown_by(times: &[u32], base: Point, i: Point) -> u32
-    ensures { λ r. ⌜ r ≡ grownBy (stampIn (base .0) (now (times .entry))) i ⌝ }
-{
-    if i.0 == 0 {
-        return 0;
-    }
-    let before = progress::time_in(times, base, Point(i.0 - 1));
-    let here = progress::time_in(times, base, i);
-    untils::elapsed(before, here)
 }
 
 // The pairs of a since kind at point i: left is node a, right is node b; where nothing is asked of left, right may be given for left.
@@ -58,7 +43,7 @@ fn grow_at(
     let p = settling::set_part(at, firsts, lows, a, i);
     let q = settling::set_part(at, firsts, lows, b, i);
     let mask = masks[a as usize];
-    let by = grown_by(times, base, i);
+    let by = untils::grown_by(times, base, i);
     pairs::grow(
         left,
         mask,

@@ -13,6 +13,7 @@ ghost use Rattle.meaning.specs.Lists.{all, select};
 ghost use Rattle.meaning.specs.Log.{elapsed, pointsFrom};
 ghost use Rattle.meaning.specs.Formula.{inWindow};
 ghost use Rattle.meaning.specs.Evaluator.{leading, untilRows};
+ghost use Rattle.method.specs.Settle.{grownBy};
 ghost use Rattle.method.specs.Stored.{stampIn};
 ghost use Rattle.rowset.specs.Rows.{wordsOf, rowsFrom, lookUp};
 ghost use Rattle.rowset.specs.Sets.{Run, Room, Added};
@@ -44,6 +45,18 @@ pub fn elapsed(s: Stamp, t: Stamp) -> u32
     ensures { λ r. ⌜ r ≡ elapsed s t ⌝ }
 {
     if s.0 < t.0 { t.0 - s.0 } else { 0 }
+}
+
+// How much older pairs grow up to point i: nothing at the first point.
+pub fn grown_by(times: &[u32], base: Point, i: Point) -> u32
+    ensures { λ r. ⌜ r ≡ grownBy (stampIn (base .0) (now (times .entry))) i ⌝ }
+{
+    if i.0 == 0 {
+        return 0;
+    }
+    let before = progress::time_in(times, base, Point(i.0 - 1));
+    let here = progress::time_in(times, base, i);
+    elapsed(before, here)
 }
 
 // The window holds what has elapsed from a stamp to point j's.

@@ -3,8 +3,8 @@ use mathlib.Core.Path.{ap₂, _∙_}
 use borrow.Author.Tests.{eq-eqb, ne-eqb}
 use borrow.Author.Needs.{needs}
 use Rattle.meaning.specs.Log.{elapsed}
-use Rattle.turn.proofs.grown_by.Statement.{statement}
-use Rattle.turn.proofs.grown_by.Tie as tie
+use Rattle.untils.proofs.grown_by.Statement.{statement}
+use Rattle.untils.proofs.grown_by.Tie as tie
 
 returns : tie.Need-returns
 returns c = rw (eq-eqb _ _ (c .if1 .taken))
