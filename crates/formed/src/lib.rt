@@ -276,7 +276,7 @@ fn entries_fit(
 }
 
 // The least of the counts and the number of points.
-pub fn least(points: u32, counts: &[u32]) -> u32
+fn least(points: u32, counts: &[u32]) -> u32
     ensures { λ r. ⌜ r ≡ leastOf points (now (counts .entry)) ⌝ }
 {
     let mut m = points;
@@ -286,6 +286,13 @@ pub fn least(points: u32, counts: &[u32]) -> u32
         m = progress::lower(counts[i], m);
     }
     m
+}
+
+// The first point whose time is retained, from the counts of settled points.
+pub fn first_retained(points: u32, counts: &[u32]) -> u32
+    ensures { λ r. ⌜ r ≡ firstRetained points (now (counts .entry)) ⌝ }
+{
+    progress::less(least(points, counts), 1)
 }
 
 // No time is below the one before it.
@@ -308,7 +315,7 @@ fn times_asked(points: u32, times: &[u32], counts: &[u32]) -> bool
     requires { ⌜ length (now times) ≤ mostTimes ⌝ }
     ensures { λ r. ⌜ r ≡ (eqb (length (now (times .entry))) (points - firstRetained points (now (counts .entry))) && notFalling (now (times .entry))) ⌝ }
 {
-    let first = progress::less(least(points, counts), 1);
+    let first = first_retained(points, counts);
     if times.len() as u32 == progress::less(points, first) {
         return not_falling(times);
     }

@@ -118,7 +118,7 @@ fn retain(after: &[u32], points: u32, base: u32, stamps: &mut [u32], k: usize) -
     requires { ⌜ (points ≤ base + k) × (k ≤ length (now stamps)) × (k < 4294967296) ⌝ }
     ensures { λ r. ⌜ (take r (now (stamps .exit)) ≡ drop (firstRetained points (now (after .entry)) - base) (take k (now (stamps .entry)))) × (r ≤ k) ⌝ }
 {
-    let first = progress::less(formed::least(points, after), 1);
+    let first = formed::first_retained(points, after);
     let from = progress::less(first, base) as usize;
     move_front(stamps, from, k);
     (k - from) as u32

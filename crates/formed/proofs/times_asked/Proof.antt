@@ -8,16 +8,13 @@ use Rattle.formed.proofs.times_asked.Statement.{statement}
 use Rattle.formed.proofs.times_asked.Tie as tie
 
 -- how many times the counts ask
-asked : (c : tie.After-less2) → let a = c .before .before .before .before .before .args in c .less2 .result ≡ a .points - firstRetained (a .points) (a .counts .now)
-asked c =
-    let a = c .before .before .before .before .before .args in
-    c .less2 .ensures ∙ ap (λ k. a .points - k) (c .before .less .ensures ∙ ap (λ k. k - 1) (c .before .before .least .ensures))
+asked : (c : tie.After-less) → let a = c .before .before .before .before .args in c .less .result ≡ a .points - firstRetained (a .points) (a .counts .now)
+asked c = let a = c .before .before .before .before .args in c .less .ensures ∙ ap (λ k. a .points - k) (c .before .first-retained .ensures)
 
 pub times-asked-spec : {M : Type 1} → statement M
 times-asked-spec =
     tie.close
     (tie.spec
-    (λ c κs. search needs)
     (λ c κs. search needs)
     (λ c. search needs)
     (λ c κs. search needs)

@@ -10,19 +10,18 @@ use Rattle.taking.proofs.retain.Statement.{statement}
 use Rattle.taking.proofs.retain.Tie as tie
 
 move-front-requires : tie.Need-move-front-requires
-move-front-requires c κs = let s = c .before .before .before .before .before .before in (omega (arith, s .pre .0, c .before .less2 .ensures, c .before .before .less .ensures, c .before .before .before .least .ensures, least-most (s .args .points) (s .args .after .now)), s .pre .1)
+move-front-requires c κs = let s = c .before .before .before .before .before in (omega (arith, s .pre .0, c .before .less .ensures, c .before .before .first-retained .ensures, least-most (s .args .points) (s .args .after .now)), s .pre .1)
 
 sub-result : tie.Need-sub-result
-sub-result c = let s = c .before .before .before .before .before .before .before .before .before in omega (arith, s .pre .0, c .before .before .before .before .less2 .ensures, c .before .before .before .before .before .less .ensures, c .before .before .before .before .before .before .least .ensures, least-most (s .args .points) (s .args .after .now))
+sub-result c = let s = c .before .before .before .before .before .before .before .before in omega (arith, s .pre .0, c .before .before .before .before .less .ensures, c .before .before .before .before .before .first-retained .ensures, least-most (s .args .points) (s .args .after .now))
 
 returns : tie.Need-returns
-returns c = let s = c .before .before .before .before .before .before .before .before .before in let d = c .before .before .before .before in let e : d .less2 .result ≡ firstRetained (s .args .points) (s .args .after .now) - s .args .base = d .less2 .ensures ∙ ap (λ q. q - s .args .base) (d .before .less .ensures ∙ ap (λ q. q - 1) (d .before .before .least .ensures)) in (c .before .before .move-front .ensures ∙ ap (λ q. drop q (take (s .args .k) (s .args .stamps .now))) e, omega arith)
+returns c = let s = c .before .before .before .before .before .before .before .before in let d = c .before .before .before .before in let e : d .less .result ≡ firstRetained (s .args .points) (s .args .after .now) - s .args .base = d .less .ensures ∙ ap (λ q. q - s .args .base) (d .before .first-retained .ensures) in (c .before .before .move-front .ensures ∙ ap (λ q. drop q (take (s .args .k) (s .args .stamps .now))) e, omega arith)
 
 pub retain-spec : {M : Type 1} → statement M
 retain-spec =
     tie.close
     (tie.spec
-    (λ c κs. search needs)
     (λ c κs. search needs)
     (λ c κs. search needs)
     (λ c. search needs)
