@@ -16,8 +16,8 @@ use Rattle.weighing.specs.declared.Refusal.{Refusal}
 use Rattle.weighing.specs.declared.Refusal.the-variants.{NotWellFormed, NotAnEvent, RowOut, TimeFalls, LogFull, Crowded, Backlog, KeptOver, BufferShort}
 use Rattle.refusals.specs.Told.{toldOf as numbered}
 use Rattle.refusals.specs.declared.Told.{Told as Numbered}
-use Rattle.taking.specs.Answers.{Opens}
-use Rattle.taking.specs.declared.Open.the-variants.{Points, NotWellFormed as NotFormed}
+use Rattle.figuring.specs.Fronts.{Opens}
+use Rattle.figuring.specs.declared.Open.the-variants.{Points, NotWellFormed as NotFormed}
 use Rattle.lent.specs.Lent.{Sized, answerOf, TakesLent}
 use Rattle.lent.specs.declared.Answer.{Answer}
 use Rattle.lent.specs.declared.Answer.the-variants.{Refused}

@@ -6,7 +6,7 @@ use refusals::of_rule;
 use report::Counted;
 use rulefile::Checked;
 use rulefile::check;
-use taking::Open;
+use figuring::Open;
 use weighing::Refusal;
 ghost use mathlib.Core.Path.{_≡_};
 ghost use Rattle.meaning.specs.RuleFile.{checking};

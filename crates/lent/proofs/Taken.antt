@@ -14,7 +14,7 @@ use Rattle.weighing.specs.declared.Refusal.{Refusal}
 use Rattle.taking.specs.Answers.{takenOf, takeAnswer, TakesIn}
 use Rattle.taking.specs.declared.Taken.{Taken}
 use Rattle.taking.specs.declared.Taken.the-variants as taken
-use Rattle.taking.proofs.Stored.{front-take}
+use Rattle.figuring.proofs.Slices.{front-take}
 use Rattle.lent.specs.Lent.{Lent, lent, stored, Sized, Copies, answerOf, Moves, TakesLent}
 use Rattle.lent.specs.declared.Answer.{Answer}
 use Rattle.lent.specs.declared.Answer.the-variants.{Written, Refused}

@@ -8,7 +8,8 @@ use Rattle.meaning.specs.Keeper.{bufferAfter}
 use Rattle.method.specs.Stored.{Stored}
 use Rattle.method.specs.Step.{storedNow, reportNow}
 use Rattle.weighing.specs.Weighs.{refusalOf}
-use Rattle.taking.specs.Answers.{takeAnswer, storedFront}
+use Rattle.figuring.specs.Fronts.{storedFront}
+use Rattle.taking.specs.Answers.{takeAnswer}
 use Rattle.lent.specs.declared.Answer.{Answer}
 use Rattle.lent.specs.declared.Answer.the-variants.{Written, Refused}
 

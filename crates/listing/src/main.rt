@@ -14,7 +14,7 @@ use listed::print_refusal;
 use monitor::State;
 use refusals::of_rule;
 use rulefile::Checked;
-use taking::Open;
+use figuring::Open;
 use weighing::Refusal;
 
 // Takes the events on standard input and prints the answers; the count of turns only bounds the loop.

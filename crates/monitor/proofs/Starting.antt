@@ -21,11 +21,11 @@ use Rattle.rulefile.specs.Checked.{answerOf}
 use Rattle.rulefile.specs.declared.Checked.{Checked}
 use Rattle.rulefile.specs.declared.Checked.the-variants.{Accepted, Cut, OtherVersion, SizeOut, Misshapen, WindowOut, FreeBroken, NotOneParent}
 use Rattle.rulefile.proofs.Checked.{the-type}
-use Rattle.taking.specs.Answers.{storedFront}
+use Rattle.figuring.specs.Fronts.{storedFront}
 use Rattle.monitor.specs.State.{stored, nothing, blank}
 use Rattle.monitor.specs.Contracts.{Starts}
 use Rattle.monitor.specs.declared.State.{State}
-use Rattle.taking.proofs.Stored.{front-take}
+use Rattle.figuring.proofs.Slices.{front-take}
 
 -- a state of zeros with a rule put in
 pub rule-in : (z : State) (b bytes : List ℕ) → z ≡ blank → length b ≤ length bytes → take (length b) bytes ≡ b

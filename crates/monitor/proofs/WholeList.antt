@@ -22,9 +22,9 @@ use Rattle.method.specs.WellFormed.{wellFormed}
 use Rattle.method.proofs.Whole.{log-ordered}
 use Rattle.method.proofs.Stepped.{kept-stored, open-stored}
 use Rattle.method.proofs.Reached.{reached, stored-well-formed}
-use Rattle.taking.specs.Answers.{Opens}
-use Rattle.taking.specs.declared.Open.{Open}
-use Rattle.taking.specs.declared.Open.the-variants.{Points, NotWellFormed}
+use Rattle.figuring.specs.Fronts.{Opens}
+use Rattle.figuring.specs.declared.Open.{Open}
+use Rattle.figuring.specs.declared.Open.the-variants.{Points, NotWellFormed}
 use Rattle.monitor.specs.State.{stored}
 use Rattle.monitor.specs.Contracts.{Starts}
 use Rattle.monitor.specs.Calls.{Call, Calls, takingOf, givenOf, logOf}

@@ -3,7 +3,7 @@ use Prim.Native.Nat.{ℕ}
 use mathlib.Core.List.{List, []}
 use lib.ListN.{replicate}
 use Rattle.method.specs.Stored.{Stored}
-use Rattle.taking.specs.Answers.{storedFront}
+use Rattle.figuring.specs.Fronts.{storedFront}
 use Rattle.lent.specs.Lent.{Lent, lent}
 use Rattle.monitor.specs.declared.State.{State}
 

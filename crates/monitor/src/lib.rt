@@ -1,12 +1,12 @@
 // The monitor: its state, starting it, taking events, and the figures to be read off it.
 use lent::Answer;
 use rulefile::Checked;
-use taking::Open;
+use figuring::Open;
 ghost use mathlib.Core.Path.{_≡_};
 ghost use Prim.Native.Nat.{_≤_};
 ghost use lib.ListN.{length, take};
 ghost use Rattle.method.specs.Step.{keptStored};
-ghost use Rattle.taking.specs.Answers.{Opens};
+ghost use Rattle.figuring.specs.Fronts.{Opens};
 ghost use Rattle.monitor.specs.State.{stored, nothing, blank};
 ghost use Rattle.monitor.specs.Contracts.{Starts, Takes};
 
@@ -144,7 +144,7 @@ pub fn kept(s: State) -> u32
 pub fn open_points(state: State) -> Open
     ensures { λ r. ⌜ Opens (stored state) r ⌝ }
 {
-    taking::open_points(
+    figuring::open_points(
         &state.rule,
         state.bytes,
         state.points,

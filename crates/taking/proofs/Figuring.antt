@@ -28,8 +28,8 @@ use Rattle.rooms.specs.Settles.{reportIn, SettledAll}
 use Rattle.taking.specs.declared.Taken.{Taken}
 use Rattle.taking.specs.declared.Taken.the-variants as taken
 use Rattle.taking.specs.Answers.{weighedNow, Finishes, TakesIn}
-use Rattle.taking.specs.Figures.{bare, Counting, Figured, MostNew}
-use Rattle.taking.proofs.Stored.{entries-many}
+use Rattle.figuring.specs.Figures.{bare, Counting, Figured, MostNew}
+use Rattle.figuring.proofs.Slices.{entries-many}
 
 -- a refusal has nothing done
 pub not-done : {A : Type 0} {r : Refusal} {words retained kept : ℕ} → taken.Refused r ≡ taken.Done words retained kept → A

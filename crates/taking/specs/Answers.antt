@@ -1,15 +1,14 @@
 -- What the steps of a taking answer, the outcome of 01 that each answer stands for, and what a taking leaves.
 use Prim.Native.Nat.{ℕ, _+_, _-_, _≤_, _<_}
 use mathlib.Core.Path.{_≡_}
-use mathlib.Core.Bool.{true, false, cond}
-use mathlib.Core.List.{List, map}
-use lib.ListN.{length, getD, take, drop}
-use Rattle.meaning.specs.Lists.{range}
+use mathlib.Core.Bool.{cond}
+use mathlib.Core.List.{List}
+use lib.ListN.{length, take, drop}
 use Rattle.meaning.specs.Outcome.{Outcome, refused, given, notWellFormed, mostKept, mostPoints}
 use Rattle.meaning.specs.RuleFile.{nodeCount, lastNode}
 use Rattle.meaning.specs.Keeper.{weighed, bufferAfter}
 use Rattle.method.specs.Stored.{Stored, firstRetained}
-use Rattle.method.specs.Step.{openStored, countAfter, storedNow, crowdedNow, reportNow, answerNow}
+use Rattle.method.specs.Step.{countAfter, storedNow, crowdedNow, reportNow, answerNow}
 use Rattle.method.specs.WellFormed.{wellFormed}
 use Rattle.formed.specs.Known.{storedIn}
 use Rattle.weighing.specs.Weighs.{refusalOf, weighedOf}
@@ -17,8 +16,6 @@ use Rattle.weighing.specs.declared.Weighed.{Weighed}
 use Rattle.weighing.specs.declared.Weighed.the-variants.{Written}
 use Rattle.taking.specs.declared.Taken.{Taken}
 use Rattle.taking.specs.declared.Taken.the-variants.{Refused, Done}
-use Rattle.taking.specs.declared.Open.{Open}
-use Rattle.taking.specs.declared.Open.the-variants.{Points, NotWellFormed}
 
 abbrev pub takenOf : Taken → Outcome ℕ
 takenOf (Refused r) = refusalOf r
@@ -33,13 +30,6 @@ unfoldable pub weighedNow : Stored → List ℕ → ℕ → Outcome ℕ
 weighedNow s w room =
     weighed (crowdedNow s w) (nodeCount (s .rule)) (s .points + 1 - countAfter s w (lastNode (s .rule))) (length (storedNow s w .entries)) (length (reportNow s w)) room
 
--- what is stored, read off the front of slices, as many words as the figures say
-abbrev pub front : ℕ → List ℕ → List ℕ
-front n xs = map (λ k. getD xs k 0) (range 0 n)
-
-abbrev pub storedFront : List ℕ → ℕ → ℕ → List ℕ → ℕ → List ℕ → List ℕ → List ℕ → ℕ → Stored
-storedFront rule bytes points times retained os ns vs count = storedIn (front bytes rule) points (front retained times) os ns vs count
-
 -- once 13 to 16 are weighed: the times from the first that is retained on, of k times of which the first is point base's
 pub record Finishes (points base k : ℕ) (after stamps stamps' : List ℕ) (w : Weighed) (r : Taken) : Type 0 where
   pub outcome : takenOf r ≡ weighedOf w
@@ -51,8 +41,3 @@ pub record TakesIn (s : Stored) (w buffer buffer' times' os' ns' vs' : List ℕ)
   pub written : buffer' ≡ bufferAfter (takenOf r) (reportNow s w) buffer
   pub stored : (words retained kept : ℕ) → r ≡ Done words retained kept → storedIn (s .rule) (s .points + 1) (take retained times') os' ns' vs' kept ≡ storedNow s w
   pub few : (words retained kept : ℕ) → r ≡ Done words retained kept → (retained ≤ 65) × (kept ≤ mostKept) × (s .points < mostPoints)
-
--- the figure `open` of what is well formed
-abbrev pub Opens : Stored → Open → Type 0
-Opens s (Points n) = (wellFormed s ≡ true) × (n ≡ openStored s)
-Opens s NotWellFormed = wellFormed s ≡ false

@@ -1,3 +1,2 @@
--- What the contracts of this crate cite beside the definitions of `meaning`, `method`, `formed` and `turns`.
+-- What the contracts of this crate cite beside the definitions of `meaning`, `method`, `formed` and `figuring`.
 pub mod Answers
-pub mod Figures

@@ -1,16 +1,13 @@
 // Taking an event, over slices: the checks in the order of their refusals, the counts, all nodes' turns, and the report.
 use events::Admitted;
 use meaning::Point;
-use meaning::Stamp;
 use weighing::Refusal;
 use weighing::Weighed;
 ghost use mathlib.Core.Path.{_≡_};
-ghost use mathlib.Core.List.{[], _∷_, _++_};
-ghost use Prim.Native.Nat.{ℕ, _+_, _-_, _≤_, _<_, max};
-ghost use lib.ListN.{length, getD, take, drop};
+ghost use Prim.Native.Nat.{ℕ, _+_, _≤_, _<_};
+ghost use lib.ListN.{length};
 ghost use Rattle.meaning.specs.Outcome.{Outcome, mostKept};
 ghost use Rattle.meaning.specs.RuleFile.{nodeCount};
-ghost use Rattle.method.specs.Stored.{firstRetained};
 ghost use Rattle.method.proofs.Formed.{Formed};
 ghost use Rattle.kinds.specs.Kinds.{EventThere};
 ghost use Rattle.shelf.specs.Entries.{Stands};
@@ -18,110 +15,14 @@ ghost use Rattle.formed.specs.Known.{storedIn, Known};
 ghost use Rattle.events.specs.Answers.{outcomeOf};
 ghost use Rattle.events.specs.declared.Admitted.the-variants.{Fine};
 ghost use Rattle.weighing.specs.Weighs.{refusalOf};
-ghost use Rattle.taking.specs.Answers.{takeAnswer, weighedNow, Finishes, TakesIn, storedFront, Opens};
-ghost use Rattle.taking.specs.Figures.{bare, Counting, Figured, MostNew};
+ghost use Rattle.figuring.specs.Figures.{Figured};
+ghost use Rattle.figuring.specs.Fronts.{storedFront};
+ghost use Rattle.taking.specs.Answers.{takeAnswer, weighedNow, Finishes, TakesIn};
 
 // What a taking gives: a refusal, or the words written, the times retained and the entries kept.
 pub enum Taken {
     Refused(Refusal),
     Done(u32, u32, u32),
-}
-
-// The figure `open`, or that the state isn't well formed.
-pub enum Open {
-    Points(u32),
-    NotWellFormed,
-}
-
-// How many nodes the rule has.
-fn node_total(rule: &[u8]) -> usize
-    requires { ⌜ 2 < length (now rule) ⌝ }
-    ensures { λ r. ⌜ r ≡ nodeCount (now (rule .entry)) ⌝ }
-{
-    rule[2] as usize
-}
-
-// The times with one more behind them, put to the front.
-fn put_times(times: &[u32], time: u32, out: &mut [u32])
-    requires { ⌜ length (now times) + 1 ≤ length (now out) ⌝ }
-    ensures { λ _. ⌜ take (length (now (times .entry)) + 1) (now (out .exit)) ≡ now (times .entry) ++ time ∷ [] ⌝ }
-{
-    let n = times.len();
-    let mut k = 0;
-    while k < n {
-        out[k] = times[k];
-        k += 1;
-    }
-    out[n] = time;
-}
-
-// The figures of a call with the event, from how many points each node has settled before it.
-fn figures(
-    rule: &[u8],
-    points: u32,
-    times: &[u32],
-    before: &[u32],
-    event: &[u32],
-    stamps: &mut [u32],
-    after: &mut [u32],
-    wants: &mut [u32],
-)
-    requires { ⌜ Counting (bare (now rule) points (now times)) (now before) ⌝ }
-    requires { ⌜ (0 < length (now event)) × (65 ≤ length (now stamps)) × (32 ≤ length (now after)) × (32 ≤ length (now wants)) ⌝ }
-    ensures { λ _. ⌜ Figured (bare (now (rule .entry)) points (now (times .entry))) (now (event .entry)) (now (stamps .exit)) (now (after .exit)) (now (wants .exit)) ⌝ }
-{
-    let k = times.len();
-    put_times(times, event[0], stamps);
-    let base = Point(progress::less(points, k as u32));
-    progress::counts(rule, &stamps[0..k + 1], base, points + 1, before, after);
-    let n = node_total(rule);
-    wanted::wanted(rule, &after[0..n], wants);
-}
-
-fn greater(a: u32, b: u32) -> u32
-    ensures { λ r. ⌜ r ≡ max a b ⌝ }
-{
-    if a < b { b } else { a }
-}
-
-// By how many points at most a node's count has grown.
-fn most_new(before: &[u32], after: &[u32]) -> u32
-    requires { ⌜ length (now after) ≡ length (now before) ⌝ }
-    ensures { λ r. ⌜ MostNew (now (before .entry)) (now (after .entry)) (length (now (before .entry))) r ⌝ }
-{
-    let n = before.len();
-    let mut most = 0;
-    let mut x = 0;
-    while x < n {
-        most = greater(most, progress::less(after[x], before[x]));
-        x += 1;
-    }
-    most
-}
-
-// Moves the words from..to to the front.
-fn move_front(words: &mut [u32], from: usize, to: usize)
-    requires { ⌜ (from ≤ to) × (to ≤ length (now words)) ⌝ }
-    ensures { λ _. ⌜ take (to - from) (now (words .exit)) ≡ drop from (take to (now (words .entry))) ⌝ }
-{
-    let mut k = 0;
-    let mut i = from;
-    while i < to {
-        words[k] = words[i];
-        k += 1;
-        i += 1;
-    }
-}
-
-// Moves the times that are retained to the front of the k ones, of which the first is point base's; how many they are.
-fn retain(after: &[u32], points: u32, base: u32, stamps: &mut [u32], k: usize) -> u32
-    requires { ⌜ (points ≤ base + k) × (k ≤ length (now stamps)) × (k < 4294967296) ⌝ }
-    ensures { λ r. ⌜ (take r (now (stamps .exit)) ≡ drop (firstRetained points (now (after .entry)) - base) (take k (now (stamps .entry)))) × (r ≤ k) ⌝ }
-{
-    let first = formed::first_retained(points, after);
-    let from = progress::less(first, base) as usize;
-    move_front(stamps, from, k);
-    (k - from) as u32
 }
 
 // What follows once 13 to 16 are weighed: the retained times.
@@ -139,7 +40,7 @@ fn finish(
     match weighed {
         Weighed::Refused(refusal) => Taken::Refused(refusal),
         Weighed::Written(words, kept) => {
-            let retained = retain(after, points, base, stamps, k);
+            let retained = figuring::retain(after, points, base, stamps, k);
             Taken::Done(words, retained, kept)
         }
     }
@@ -175,10 +76,10 @@ fn take_figured(
     requires { ⌜ Stands (now «out_owners») (now «out_numbers») (now «out_values») mostKept ⌝ }
     ensures { λ r. ⌜ TakesIn (storedIn (now (rule .entry)) points (now (times .entry)) (now (owners .entry)) (now (numbers .entry)) (now (values .entry)) count) (now (event .entry)) (now (report .entry)) (now (report .exit)) (now (stamps .exit)) (now («out_owners» .exit)) (now («out_numbers» .exit)) (now («out_values» .exit)) (weighedNow (storedIn (now (rule .entry)) points (now (times .entry)) (now (owners .entry)) (now (numbers .entry)) (now (values .entry)) count) (now (event .entry)) (length (now (report .entry)))) r ⌝ }
 {
-    let n = node_total(rule);
+    let n = figuring::node_total(rule);
     let k = times.len();
     let base = progress::less(points, k as u32);
-    let most = most_new(before, &after[0..n]);
+    let most = figuring::most_new(before, &after[0..n]);
     let weighed = rooms::settle_in_room(
         rule,
         owners,
@@ -230,10 +131,10 @@ fn take_admitted(
     requires { ⌜ Stands (now «out_owners») (now «out_numbers») (now «out_values») mostKept ⌝ }
     ensures { λ r. ⌜ TakesIn (storedIn (now (rule .entry)) points (now (times .entry)) (now (owners .entry)) (now (numbers .entry)) (now (values .entry)) count) (now (event .entry)) (now (report .entry)) (now (report .exit)) (now (stamps .exit)) (now («out_owners» .exit)) (now («out_numbers» .exit)) (now («out_values» .exit)) (weighedNow (storedIn (now (rule .entry)) points (now (times .entry)) (now (owners .entry)) (now (numbers .entry)) (now (values .entry)) count) (now (event .entry)) (length (now (report .entry)))) r ⌝ }
 {
-    let n = node_total(rule);
+    let n = figuring::node_total(rule);
     let mut after = [0u32; 32];
     let mut wants = [0u32; 32];
-    figures(
+    figuring::figures(
         rule,
         points,
         times,
@@ -263,17 +164,6 @@ fn take_admitted(
         out_numbers,
         out_values,
     )
-}
-
-// The last of the times, 0 where there is none.
-fn latest(times: &[u32]) -> Stamp
-    ensures { λ r. ⌜ r .0 ≡ getD (now (times .entry)) (length (now (times .entry)) - 1) 0 ⌝ }
-{
-    let n = times.len();
-    if 0 < n {
-        return Stamp(times[n - 1]);
-    }
-    Stamp(0)
 }
 
 // The refusal that the first checks of an event give.
@@ -328,7 +218,7 @@ fn take_stored(
     ) {
         return Taken::Refused(Refusal::NotWellFormed);
     }
-    let admitted = events::admit(rule, event, latest(times), points);
+    let admitted = events::admit(rule, event, figuring::latest(times), points);
     let Admitted::Fine = admitted else {
         return Taken::Refused(refusal_of(admitted));
     };
@@ -399,76 +289,5 @@ pub fn take<'a>(
         out_owners,
         out_numbers,
         out_values,
-    )
-}
-
-// The figure `open` of what is stored in the slices.
-fn open_stored(
-    rule: &[u8],
-    points: u32,
-    times: &[u32],
-    owners: &[u32],
-    numbers: &[u32],
-    values: &[u32],
-    count: usize,
-) -> Open
-    requires { ⌜ Stands (now owners) (now numbers) (now values) count ⌝ }
-    ensures { λ r. ⌜ Opens (storedIn (now (rule .entry)) points (now (times .entry)) (now (owners .entry)) (now (numbers .entry)) (now (values .entry)) count) r ⌝ }
-{
-    let mut masks = [0u8; 32];
-    let mut counts = [0u32; 32];
-    let mut lows = [0u32; 32];
-    if !formed::well_formed(
-        rule,
-        points,
-        times,
-        owners,
-        numbers,
-        values,
-        count,
-        &mut masks,
-        &mut counts,
-        &mut lows,
-    ) {
-        return Open::NotWellFormed;
-    }
-    let last = (rule[2] - 1) as usize;
-    Open::Points(points - counts[last])
-}
-
-// The figure `open` of any state whatever, which stands in the slices as for `take`.
-pub fn open_points<'a>(
-    rule: &'a [u8],
-    bytes: u32,
-    points: u32,
-    times: &'a [u32],
-    retained: u32,
-    owners: &'a [u32],
-    numbers: &'a [u32],
-    values: &'a [u32],
-    count: u32,
-) -> Open
-    requires { ⌜ (length (now rule) ≡ 652) × (64 ≤ length (now times)) × Stands (now owners) (now numbers) (now values) mostKept ⌝ }
-    ensures { λ r. ⌜ Opens (storedFront (now (rule .entry)) bytes points (now (times .entry)) retained (now (owners .entry)) (now (numbers .entry)) (now (values .entry)) count) r ⌝ }
-{
-    if 652 < bytes {
-        return Open::NotWellFormed;
-    }
-    if 64 < retained {
-        return Open::NotWellFormed;
-    }
-    if 512 < count {
-        return Open::NotWellFormed;
-    }
-    let n = bytes as usize;
-    let k = retained as usize;
-    open_stored(
-        &rule[0..n],
-        points,
-        &times[0..k],
-        owners,
-        numbers,
-        values,
-        count as usize,
     )
 }

@@ -1,7 +1,8 @@
 -- Figures that are out of bounds aren't of a well-formed state; else what is stored at the front is what is stored in the parts.
 use native.Mathlib.Omega.{arith}
 use denote.Ref.{now}
-use Rattle.taking.proofs.Stored.{front-length, entries-many, front-parts, long-rule, many-times, many-entries, not-formed}
+use Rattle.figuring.proofs.Slices.{front-length, entries-many, front-parts, long-rule, many-times, many-entries}
+use Rattle.taking.proofs.Stored.{not-formed}
 use borrow.Author.Needs.{needs}
 use Rattle.taking.proofs.take.Statement.{statement}
 use Rattle.taking.proofs.take.Tie as tie

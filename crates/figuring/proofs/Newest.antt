@@ -7,7 +7,7 @@ use lib.ListN.{getD}
 use lib.Dec.{ltb}
 use borrow.Author.Tests.{ltb-true, ltb-false}
 use Rattle.meaning.proofs.Points.{Tested, passed, failed, tested}
-use Rattle.taking.specs.Figures.{MostNew}
+use Rattle.figuring.specs.Figures.{MostNew}
 
 pub most-none : (before after : List ℕ) → MostNew before after 0 0
 most-none before after = record { bound = λ x o. absurd (omega arith); least = λ c h. omega arith }

@@ -1,8 +1,8 @@
 -- `node_total` meets its contract: a byte fits.
 use native.Mathlib.Omega.{arith}
 use borrow.Author.Needs.{needs}
-use Rattle.taking.proofs.node_total.Statement.{statement}
-use Rattle.taking.proofs.node_total.Tie as tie
+use Rattle.figuring.proofs.node_total.Statement.{statement}
+use Rattle.figuring.proofs.node_total.Tie as tie
 
 cast-result : tie.Need-cast-result
 cast-result c = omega (arith, c .shared-slice-known .given 2)

@@ -5,10 +5,10 @@ use Prim.Native.Nat.{_+_, _-_}
 use mathlib.Core.Path.{_≡_}
 use lib.ListN.{length}
 use Rattle.meaning.specs.RuleFile.{nodeCount}
-use Rattle.taking.proofs.Begins.{many-first, few-after, figured}
+use Rattle.figuring.proofs.Begins.{many-first, few-after, figured}
 use borrow.Author.Needs.{needs}
-use Rattle.taking.proofs.figures.Statement.{statement}
-use Rattle.taking.proofs.figures.Tie as tie
+use Rattle.figuring.proofs.figures.Statement.{statement}
+use Rattle.figuring.proofs.figures.Tie as tie
 
 counts-requires : tie.Need-counts-requires
 counts-requires c κs = let s = c .before .before .before .before .before .before .before .before .before .before .before .before .before .before .before .before in (accepted _ (s .pre .0 .accepted .0) (s .pre .0 .accepted .1) .long, omega (arith, nodes-most _ (s .pre .0 .accepted .0) (s .pre .0 .accepted .1), s .pre .1 .2))

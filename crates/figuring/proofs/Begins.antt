@@ -12,7 +12,7 @@ use Rattle.method.specs.Step.{wantedFrom, countsStored, countBefore, stampsNow,
 use Rattle.progress.specs.Bounds.{Within}
 use Rattle.progress.specs.Filled.{Filled}
 use Rattle.progress.proofs.Withins.{counts-within}
-use Rattle.taking.specs.Figures.{bare, Counting, Figured}
+use Rattle.figuring.specs.Figures.{bare, Counting, Figured}
 
 -- as many words as there are nodes
 pub many-first : {k : ℕ} (n : ℕ) (xs : List ℕ) → n ≡ k → k ≤ length xs → k ≤ length (take n xs)

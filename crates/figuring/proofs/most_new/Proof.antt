@@ -3,11 +3,11 @@ use Prim.Native.Nat.{_-_, _≤_, max}
 use native.Mathlib.Omega.{arith}
 use mathlib.Core.Path.{_≡_, refl, _∙_, ap}
 use lib.ListN.{length}
-use Rattle.taking.specs.Figures.{MostNew}
-use Rattle.taking.proofs.Newest.{most-none, most-more, most-all}
+use Rattle.figuring.specs.Figures.{MostNew}
+use Rattle.figuring.proofs.Newest.{most-none, most-more, most-all}
 use borrow.Author.Needs.{needs}
-use Rattle.taking.proofs.most_new.Statement.{statement}
-use Rattle.taking.proofs.most_new.Tie as tie
+use Rattle.figuring.proofs.most_new.Statement.{statement}
+use Rattle.figuring.proofs.most_new.Tie as tie
 
 abbrev Inv-loop : tie.InvT-loop
 Inv-loop before after n most₀ x₀ most x = (n ≡ length before) × (x ≤ n) × MostNew before after x most

@@ -7,10 +7,10 @@ use denote.Ref.{now}
 use Rattle.method.specs.WellFormed.{wellFormed}
 use Rattle.method.proofs.Formed.{formed}
 use Rattle.formed.specs.Known.{storedIn}
-use Rattle.taking.proofs.Stored.{node-sizes, last-most, open-counted}
+use Rattle.figuring.proofs.Slices.{node-sizes, last-most, open-counted}
 use borrow.Author.Needs.{needs}
-use Rattle.taking.proofs.open_stored.Statement.{statement}
-use Rattle.taking.proofs.open_stored.Tie as tie
+use Rattle.figuring.proofs.open_stored.Statement.{statement}
+use Rattle.figuring.proofs.open_stored.Tie as tie
 
 -- past the first test the state is well formed
 well : (c : tie.Else1)

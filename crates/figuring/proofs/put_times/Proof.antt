@@ -3,10 +3,10 @@ use Prim.Native.Nat.{_+_, _-_, _≤_}
 use native.Mathlib.Omega.{arith}
 use mathlib.Core.Path.{_≡_, refl, sym, _∙_, ap}
 use lib.ListN.{length, getD, length-set}
-use Rattle.taking.proofs.Moved.{Moved, moved-none, moved-more, all-moved}
+use Rattle.figuring.proofs.Moved.{Moved, moved-none, moved-more, all-moved}
 use borrow.Author.Needs.{needs}
-use Rattle.taking.proofs.put_times.Statement.{statement}
-use Rattle.taking.proofs.put_times.Tie as tie
+use Rattle.figuring.proofs.put_times.Statement.{statement}
+use Rattle.figuring.proofs.put_times.Tie as tie
 
 abbrev Inv-loop : tie.InvT-loop
 Inv-loop times time out₀ n k₀ out k = (n ≡ length times) × (k ≤ n) × Moved out₀ times 0 out k

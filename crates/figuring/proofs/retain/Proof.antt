@@ -6,8 +6,8 @@ use mathlib.Core.Path.{_≡_, _∙_, ap}
 use lib.ListN.{take, drop}
 use Rattle.method.specs.Stored.{firstRetained}
 use borrow.Author.Needs.{needs}
-use Rattle.taking.proofs.retain.Statement.{statement}
-use Rattle.taking.proofs.retain.Tie as tie
+use Rattle.figuring.proofs.retain.Statement.{statement}
+use Rattle.figuring.proofs.retain.Tie as tie
 
 move-front-requires : tie.Need-move-front-requires
 move-front-requires c κs = let s = c .before .before .before .before .before in (omega (arith, s .pre .0, c .before .less .ensures, c .before .before .first-retained .ensures, least-most (s .args .points) (s .args .after .now)), s .pre .1)

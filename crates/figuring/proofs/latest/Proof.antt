@@ -3,8 +3,8 @@ use native.Mathlib.Omega.{arith}
 use mathlib.Core.Path.{sym}
 use lib.ListN.{List·getD-eq-default}
 use borrow.Author.Needs.{needs}
-use Rattle.taking.proofs.latest.Statement.{statement}
-use Rattle.taking.proofs.latest.Tie as tie
+use Rattle.figuring.proofs.latest.Statement.{statement}
+use Rattle.figuring.proofs.latest.Tie as tie
 
 returns-2 : tie.Need-returns-2
 returns-2 c = sym (List·getD-eq-default (c .before .args .times .now) 0 (omega arith))

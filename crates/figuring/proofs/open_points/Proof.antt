@@ -1,10 +1,10 @@
 -- Figures that are out of bounds aren't of a well-formed state; else what is stored at the front is what is stored in the parts.
 use native.Mathlib.Omega.{arith}
 use denote.Ref.{now}
-use Rattle.taking.proofs.Stored.{front-length, entries-many, front-parts, long-rule, many-times, many-entries}
+use Rattle.figuring.proofs.Slices.{front-length, entries-many, front-parts, long-rule, many-times, many-entries}
 use borrow.Author.Needs.{needs}
-use Rattle.taking.proofs.open_points.Statement.{statement}
-use Rattle.taking.proofs.open_points.Tie as tie
+use Rattle.figuring.proofs.open_points.Statement.{statement}
+use Rattle.figuring.proofs.open_points.Tie as tie
 
 returns : tie.Need-returns
 returns c = let a = c .before .before .before .before .before .before .args in long-rule _ (omega (arith, front-length (a .bytes) (now (a .rule))))

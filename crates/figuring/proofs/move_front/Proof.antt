@@ -3,10 +3,10 @@ use Prim.Native.Nat.{_+_, _-_, _≤_}
 use native.Mathlib.Omega.{arith}
 use mathlib.Core.Path.{_≡_, _∙_, ap}
 use lib.ListN.{getD}
-use Rattle.taking.proofs.Moved.{Moved, moved-none, moved-more, front-moved}
+use Rattle.figuring.proofs.Moved.{Moved, moved-none, moved-more, front-moved}
 use borrow.Author.Needs.{needs}
-use Rattle.taking.proofs.move_front.Statement.{statement}
-use Rattle.taking.proofs.move_front.Tie as tie
+use Rattle.figuring.proofs.move_front.Statement.{statement}
+use Rattle.figuring.proofs.move_front.Tie as tie
 
 abbrev Inv-loop : tie.InvT-loop
 Inv-loop words₀ from to k₀ i₀ words k i = (i ≡ from + k) × (i ≤ to) × Moved words₀ words₀ from words k

@@ -1,0 +1,25 @@
+-- A state that stands at the front of slices, and its figure `open`.
+use Prim.Native.Nat.{ℕ}
+use mathlib.Core.Path.{_≡_}
+use mathlib.Core.Bool.{true, false}
+use mathlib.Core.List.{List, map}
+use lib.ListN.{getD}
+use Rattle.meaning.specs.Lists.{range}
+use Rattle.method.specs.Stored.{Stored}
+use Rattle.method.specs.Step.{openStored}
+use Rattle.method.specs.WellFormed.{wellFormed}
+use Rattle.formed.specs.Known.{storedIn}
+use Rattle.figuring.specs.declared.Open.{Open}
+use Rattle.figuring.specs.declared.Open.the-variants.{Points, NotWellFormed}
+
+-- what is stored, read off the front of slices, as many words as the figures say
+abbrev pub front : ℕ → List ℕ → List ℕ
+front n xs = map (λ k. getD xs k 0) (range 0 n)
+
+abbrev pub storedFront : List ℕ → ℕ → ℕ → List ℕ → ℕ → List ℕ → List ℕ → List ℕ → ℕ → Stored
+storedFront rule bytes points times retained os ns vs count = storedIn (front bytes rule) points (front retained times) os ns vs count
+
+-- the figure `open` of what is well formed
+abbrev pub Opens : Stored → Open → Type 0
+Opens s (Points n) = (wellFormed s ≡ true) × (n ≡ openStored s)
+Opens s NotWellFormed = wellFormed s ≡ false
