@@ -1,4 +1,4 @@
--- A row by its place in a run of words: found there or not, there already, put in, or refused by a full set.
+-- A row by its place in a run of words: there already, put in, or refused by a full set.
 use Prim.Native.Nat.{ℕ, _+_, _-_, _≤_, _<_}
 use mathlib.Core.Path.{_≡_, refl, sym, ap, ap₂, _∙_}
 use mathlib.Core.Bool.{Bool, true, false, not, _&&_}
@@ -7,28 +7,14 @@ use native.Mathlib.Omega.{arith}
 use lib.ListN.{length, getD, take, drop}
 use lib.Dec.{ltb}
 use borrow.Author.Tests.{ltb-true, lt-ltb, not-true, not-false}
-use Rattle.meaning.specs.Lists.{sameRow}
 use Rattle.meaning.specs.Order.{before}
 use Rattle.meaning.specs.Evaluator.{insert}
 use Rattle.meaning.proofs.Points.{first, second}
-use Rattle.rowset.specs.Rows.{rowAt, rowsFrom, lookUp, placeOf, mostHeld, addCapped}
+use Rattle.rowset.specs.Rows.{rowAt, rowsFrom, placeOf, mostHeld, addCapped}
 use Rattle.rowset.specs.Sets.{Added}
 use Rattle.rowset.proofs.Saturation.{with-room, when-full}
-use Rattle.rowset.proofs.Places.{place-within, look-at, look-beyond, insert-there, insert-new}
+use Rattle.rowset.proofs.Places.{place-within, insert-there, insert-new}
 use Rattle.rowset.proofs.Runs.{rows-length, rows-at, rows-take, rows-drop}
-
--- looking up in a run, by the place p
-module _ (ws r : List ℕ) (from to p : ℕ) (ordered : from ≤ to) (e : p ≡ from + placeOf r (rowsFrom ws from (to - from))) where
-  pub found-at : p < to → sameRow r (rowAt ws p) ≡ lookUp r (rowsFrom ws from (to - from))
-  found-at l =
-      let n = rows-length ws from (to - from) in
-      sym
-      (look-at r (rowsFrom ws from (to - from)) (omega arith) ∙ ap (sameRow r) (rows-at ws from (to - from) (placeOf r (rowsFrom ws from (to - from))) (omega arith) ∙ ap (rowAt ws) (sym e)))
-
-  pub found-none : to ≤ p → false ≡ lookUp r (rowsFrom ws from (to - from))
-  found-none l =
-      let n = rows-length ws from (to - from) in
-      sym (look-beyond r (rowsFrom ws from (to - from)) (omega arith))
 
 pub add-full : (ws r : List ℕ) (n : ℕ) → n ≤ mostHeld → mostHeld ≤ n → Added ws n ws n (r ∷ [])
 add-full ws r n m l =

@@ -1,4 +1,4 @@
--- A row's place in a list, the number of rows at the front that stand before it: looking it up and putting it in by its place,
+-- A row's place in a list, the number of rows at the front that stand before it, and putting it in by its place;
 -- and looking up in an ascending list finds what is in it.
 use Prim.Native.Nat.{ℕ, suc, _≤_, _<_}
 use mathlib.Core.Path.{_≡_, refl, sym, ap, _∙_}
@@ -8,7 +8,6 @@ use native.Mathlib.Omega.{arith}
 use lib.ListN.{length, getD, take, drop}
 use lib.Dec.{eqb}
 use borrow.Author.Tests.{eqb-true}
-use Rattle.meaning.specs.Lists.{sameRow}
 use Rattle.meaning.specs.Order.{before, ascending}
 use Rattle.meaning.specs.Evaluator.{insert, member}
 use Rattle.meaning.proofs.Points.{Tested, passed, failed, tested, first, second}
@@ -24,25 +23,6 @@ place-within r (s ∷ rows) = go (before s r) (place-within r rows)
     go : (t : Bool) → placeOf r rows ≤ length rows → cond t (suc (placeOf r rows)) 0 ≤ suc (length rows)
     go true h = omega arith
     go false h = omega arith
-
--- looking up stops at the place
-pub look-beyond : (r : List ℕ) (rows : List (List ℕ)) → length rows ≤ placeOf r rows → lookUp r rows ≡ false
-look-beyond r [] h = refl
-look-beyond r (s ∷ rows) h = go (before s r) h (look-beyond r rows)
-  where
-    go : (t : Bool) → suc (length rows) ≤ cond t (suc (placeOf r rows)) 0 → (length rows ≤ placeOf r rows → lookUp r rows ≡ false) → cond t (lookUp r rows) (sameRow r s) ≡ false
-    go true h rest = rest (omega arith)
-    go false h rest = absurd (omega arith)
-
-pub look-at : (r : List ℕ) (rows : List (List ℕ)) → placeOf r rows < length rows → lookUp r rows ≡ sameRow r (getD rows (placeOf r rows) [])
-look-at r [] h = absurd (omega arith)
-look-at r (s ∷ rows) h = go (before s r) h (look-at r rows)
-  where
-    go : (t : Bool) → cond t (suc (placeOf r rows)) 0 < suc (length rows)
-        → (placeOf r rows < length rows → lookUp r rows ≡ sameRow r (getD rows (placeOf r rows) []))
-        → cond t (lookUp r rows) (sameRow r s) ≡ sameRow r (getD (s ∷ rows) (cond t (suc (placeOf r rows)) 0) [])
-    go true h rest = rest (omega arith)
-    go false h rest = refl
 
 -- a row isn't put in where the row at its place doesn't stand after it
 pub insert-there : (r : List ℕ) (rows : List (List ℕ)) → placeOf r rows < length rows → before r (getD rows (placeOf r rows) []) ≡ false → insert r rows ≡ rows

@@ -1,4 +1,4 @@
--- Runs of rows in words: taken from the front, in two parts, after a row was put in place of another, and a row's place in a run.
+-- Runs of rows in words: taken from the front, in two parts, after a row was put in place of another, and a row's place in a run and looking it up there.
 use Prim.Native.Nat.{ℕ, zero, suc, _+_, _-_, _*_, _≤_, _<_}
 use mathlib.Core.Logic.{_≢_}
 use mathlib.Core.Path.{_≡_, refl, sym, ap, ap₂, _∙_}
@@ -9,11 +9,12 @@ use native.Mathlib.Numerals.{add-one}
 use native.Mathlib.Omega.{arith}
 use lib.ListN.{length, getD, set, take, drop, length-set}
 use lib.Seq.{getD-set-same, getD-set-other, take-at, drop-at, append-snoc}
-use Rattle.meaning.specs.Lists.{range}
+use Rattle.meaning.specs.Lists.{range, sameRow}
 use Rattle.meaning.specs.Order.{before}
 use Rattle.rowset.specs.declared.Row.{Row}
-use Rattle.rowset.specs.Rows.{wordsOf, rowAt, setRow, rowsFrom, placeOf}
+use Rattle.rowset.specs.Rows.{wordsOf, rowAt, setRow, rowsFrom, lookUp, placeOf}
 use Rattle.rowset.proofs.Ascending.{sized}
+use Rattle.rowset.proofs.Order.{same-not-after}
 
 -- a run of what an accessor gives, taken from the front
 module _ {A : Type 0} (at : ℕ → A) (to i : ℕ) where
@@ -185,3 +186,17 @@ module _ (ws r : List ℕ) (to i : ℕ) where
 
   pub place-end : to ≤ i → placeOf r (rowsFrom ws i (to - i)) ≡ 0
   place-end l = rw (rows-end ws to i l)
+
+-- looking a row up in a run, from row i on
+module _ (ws r : List ℕ) (to i : ℕ) where
+  pub look-here : i < to → sameRow r (rowAt ws i) ≡ true → lookUp r (rowsFrom ws i (to - i)) ≡ true
+  look-here l e = rw (rows-first ws to i l, same-not-after r (rowAt ws i) e, e)
+
+  pub look-stops : i < to → sameRow r (rowAt ws i) ≡ false → before (rowAt ws i) r ≡ false → lookUp r (rowsFrom ws i (to - i)) ≡ false
+  look-stops l e f = rw (rows-first ws to i l, f, e)
+
+  pub look-more : i < to → before (rowAt ws i) r ≡ true → lookUp r (rowsFrom ws i (to - i)) ≡ lookUp r (rowsFrom ws (i + 1) (to - (i + 1)))
+  look-more l e = rw (rows-first ws to i l, e)
+
+  pub look-end : to ≤ i → lookUp r (rowsFrom ws i (to - i)) ≡ false
+  look-end l = rw (rows-end ws to i l)

@@ -93,9 +93,16 @@ pub fn contains(ws: &[u32], from: usize, to: usize, r: Row) -> bool
     requires { ⌜ Run (now ws) from to ⌝ }
     ensures { λ t. ⌜ t ≡ lookUp (wordsOf r) (rowsFrom (now (ws .entry)) from (to - from)) ⌝ }
 {
-    let p = place(ws, from, to, r);
-    if p < to {
-        return same_row(r, row_at(ws, p));
+    let mut i = from;
+    while i < to {
+        let u = row_at(ws, i);
+        if same_row(r, u) {
+            return true;
+        }
+        if !is_before(u, r) {
+            return false;
+        }
+        i += 1;
     }
     false
 }

@@ -1,25 +1,64 @@
--- `contains` meets its contract: the row is looked for at its place alone.
+-- `contains` meets its contract. The loop's invariant: the row is in the run where it is in the rest of it.
+use Prim.Native.Nat.{_-_, _≤_}
 use native.Mathlib.Omega.{arith}
-use mathlib.Core.Path.{ap, _∙_}
 use borrow.Author.Needs.{needs}
+use borrow.Author.Tests.{not-true, not-false}
+use mathlib.Core.Path.{_≡_, refl, sym, _∙_}
+use mathlib.Core.Bool.{true, false}
 use Rattle.meaning.specs.Lists.{sameRow}
-use Rattle.rowset.specs.Rows.{wordsOf}
-use Rattle.rowset.proofs.Adding.{found-at, found-none}
+use Rattle.meaning.specs.Order.{before}
+use Rattle.rowset.specs.Rows.{wordsOf, rowAt, rowsFrom, lookUp}
+use Rattle.rowset.proofs.Runs.{look-here, look-stops, look-more, look-end}
 use Rattle.rowset.proofs.contains.Statement.{statement}
 use Rattle.rowset.proofs.contains.Tie as tie
 
-returns : tie.Need-returns
-returns c =
-    let s = c .before .before .before .before .before in
-    let p = c .before .before .before .place in
-    c .same-row .ensures ∙ ap (sameRow (wordsOf (s .args .r))) (c .before .row-at .ensures)
-    ∙ found-at (s .args .ws .now) (wordsOf (s .args .r)) (s .args .from) (s .args .to) (p .result) (s .pre .ordered) (p .ensures) (c .before .before .if1 .taken)
+abbrev Inv-loop : tie.InvT-loop
+Inv-loop ws from to r i₀ i =
+    (i ≤ to) × (lookUp (wordsOf r) (rowsFrom ws from (to - from)) ≡ lookUp (wordsOf r) (rowsFrom ws i (to - i)))
 
-returns-2 : tie.Need-returns-2
+abbrev μ-loop : tie.MeasureT-loop
+μ-loop ws from to r i₀ i = to - i
+
+loop-holds : tie.Need-loop-holds Inv-loop μ-loop
+loop-holds c = (c .before .pre .ordered, refl)
+
+returns : tie.Need-returns Inv-loop μ-loop
+returns c =
+    let a = c .before .before .before .before .before .before .args in
+    let l = c .before .before .before .before .loop in
+    let e : sameRow (wordsOf (a .r)) (rowAt (a .ws .now) (l .i)) ≡ true = cc (c .if1 .taken) in
+    sym (l .inv .1 ∙ look-here (a .ws .now) (wordsOf (a .r)) (a .to) (l .i) (c .before .before .before .loop-test .taken) e)
+
+returns-2 : tie.Need-returns-2 Inv-loop μ-loop
 returns-2 c =
-    let s = c .before .before .before in
-    let p = c .before .place in
-    found-none (s .args .ws .now) (wordsOf (s .args .r)) (s .args .from) (s .args .to) (p .result) (s .pre .ordered) (p .ensures) (c .if1 .left)
+    let a = c .before .before .before .before .before .before .before .before .args in
+    let l = c .before .before .before .before .before .before .loop in
+    let e : sameRow (wordsOf (a .r)) (rowAt (a .ws .now) (l .i)) ≡ false = cc (c .before .before .if1 .left) in
+    let f : before (rowAt (a .ws .now) (l .i)) (wordsOf (a .r)) ≡ false = cc (not-true (c .before .is-before .result) (c .if2 .taken)) in
+    sym (l .inv .1 ∙ look-stops (a .ws .now) (wordsOf (a .r)) (a .to) (l .i) (c .before .before .before .before .before .loop-test .taken) e f)
+
+loop-again : tie.Need-loop-again Inv-loop μ-loop
+loop-again c =
+    let a = c .before .before .before .before .before .before .before .before .args in
+    let l = c .before .before .before .before .before .before .loop in
+    let e : before (rowAt (a .ws .now) (l .i)) (wordsOf (a .r)) ≡ true = cc (not-false (c .before .is-before .result) (c .if2 .left)) in
+    (omega arith, l .inv .1 ∙ look-more (a .ws .now) (wordsOf (a .r)) (a .to) (l .i) (c .before .before .before .before .before .loop-test .taken) e)
+
+returns-3 : tie.Need-returns-3 Inv-loop μ-loop
+returns-3 c =
+    let a = c .before .before .before .args in
+    sym (c .before .loop .inv .1 ∙ look-end (a .ws .now) (wordsOf (a .r)) (a .to) (c .before .loop .i) (c .loop-test .left))
 
 pub contains-spec : {M : Type 1} → statement M
-contains-spec = tie.close (tie.spec (λ c κs. search needs) (λ c κs. omega arith) (λ c κs. search needs) returns returns-2)
+contains-spec =
+    tie.close
+    (tie.spec Inv-loop μ-loop loop-holds
+    (λ c κs. omega arith)
+    (λ c κs. search needs)
+    returns
+    (λ c κs. search needs)
+    returns-2
+    (λ c. omega arith)
+    (λ c. omega arith)
+    loop-again
+    returns-3)
