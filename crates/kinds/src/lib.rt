@@ -297,7 +297,18 @@ pub fn exists(x: u32, rows: &[u32], from: usize, to: usize, out: &mut [u32], n: 
     k
 }
 
-// The rows of the pairs from..to that are at least as old as age says.
+// The test passed, and the row isn't in the set of n rows already.
+fn is_new(ok: bool, out: &[u32], n: usize, r: Row) -> bool
+    requires { ⌜ n * 4 ≤ length (now out) ⌝ }
+    ensures { λ t. ⌜ t ≡ (ok && not (lookUp (wordsOf r) (rowsFrom (now (out .entry)) 0 n))) ⌝ }
+{
+    if ok {
+        return !rowset::contains(out, 0, n, r);
+    }
+    false
+}
+
+// The rows of the pairs from..to that are at least as old as age says; one that is in the set already is skipped, as many pairs share a row.
 pub fn old_enough(
     age: u32,
     ages: &[u32],
@@ -316,7 +327,7 @@ pub fn old_enough(
     let mut i = from;
     while i < to {
         let row = rowset::row_at(values, i);
-        let ok = age <= ages[i];
+        let ok = is_new(age <= ages[i], out, k, row);
         k = rowset::add_if(ok, out, k, row);
         i += 1;
     }

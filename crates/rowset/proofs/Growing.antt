@@ -2,18 +2,19 @@
 -- Then what the set holds in the end.
 use Prim.Native.Nat.{ℕ, _+_, _-_, _≤_, _<_}
 use mathlib.Core.Path.{_≡_, refl, sym, ap, _∙_}
-use mathlib.Core.Bool.{Bool, true, false, cond}
+use mathlib.Core.Bool.{Bool, true, false, not, cond, _&&_}
 use mathlib.Core.List.{List, [], _∷_, _++_, map}
 use native.Mathlib.Omega.{arith}
 use lib.ListN.{length}
-use lib.Dec.{leb}
+use lib.Dec.{ltb, leb}
 use borrow.Author.Tests.{leb-true, leb-false}
 use Rattle.meaning.specs.Lists.{range, select}
-use Rattle.meaning.specs.Evaluator.{setOf}
+use Rattle.meaning.specs.Evaluator.{insert, setOf}
 use Rattle.meaning.proofs.Points.{Tested, passed, failed, tested}
-use Rattle.rowset.specs.Rows.{rowsFrom, mostHeld, addAllCapped}
+use Rattle.rowset.specs.Rows.{rowsFrom, lookUp, mostHeld, addCapped, addAllCapped}
 use Rattle.rowset.specs.Sets.{Room, Added}
 use Rattle.rowset.proofs.Saturation.{addAll-append, whole, crowded}
+use Rattle.rowset.proofs.Places.{insert-found}
 use Rattle.rowset.proofs.Runs.{run-first, run-end, rows-none, rows-length}
 
 -- a loop at item i of those up to to; gives says what rows a list of items gives. With the rows of the items still to come put into the new set too,
@@ -53,6 +54,32 @@ module _ {A : Type 0} {at : ℕ → A} {gives : List A → List (List ℕ)} {to 
 -- the rows put in, written in another way
 pub added-as : {old : List ℕ} {n : ℕ} {new : List ℕ} {k : ℕ} {rows rows' : List (List ℕ)} → Added old n new k rows → rows ≡ rows' → Added old n new k rows'
 added-as {old} {n} h e = record { most = h .most; long = h .long; set = h .set ∙ ap (addAllCapped (rowsFrom old 0 n)) e }
+
+-- a row that is in the set already need not be put in
+module _ (set : List (List ℕ)) (r : List ℕ) where
+  found-stays : lookUp r set ≡ true → set ≡ addCapped set r
+  found-stays e = go (ltb (length set) mostHeld)
+    where
+      go : (t : Bool) → set ≡ cond t (insert r set) set
+      go true = sym (insert-found r set e)
+      go false = refl
+
+  new-alone : (ok : Bool) → addAllCapped set (cond (ok && not (lookUp r set)) (r ∷ []) []) ≡ addAllCapped set (cond ok (r ∷ []) [])
+  new-alone false = refl
+  new-alone true = go (tested (lookUp r set))
+    where
+      go : Tested (lookUp r set) → addAllCapped set (cond (not (lookUp r set)) (r ∷ []) []) ≡ addCapped set r
+      go (passed e) = rw e (found-stays e)
+      go (failed e) = rw e
+
+pub added-new : {old : List ℕ} {n : ℕ} {new : List ℕ} {k : ℕ} (ok : Bool) {t : Bool} (r : List ℕ) → t ≡ (ok && not (lookUp r (rowsFrom old 0 n)))
+    → Added old n new k (cond t (r ∷ []) []) → Added old n new k (cond ok (r ∷ []) [])
+added-new {old} {n} ok r e h =
+    record {
+      most = h .most;
+      long = h .long;
+      set = h .set ∙ ap (λ b. addAllCapped (rowsFrom old 0 n) (cond b (r ∷ []) [])) e ∙ new-alone (rowsFrom old 0 n) r ok;
+    }
 
 -- one list of rows put in after another
 pub added-then : {old : List ℕ} {n : ℕ} {mid : List ℕ} {m : ℕ} {new : List ℕ} {k : ℕ} {xs ys : List (List ℕ)} → Added old n mid m xs → Added mid m new k ys → Added old n new k (xs ++ ys)

@@ -34,6 +34,9 @@ before-other x y p = apart x y (before-apart x y p)
 pub after-other : (x y : List ℕ) → before y x ≡ true → sameRow x y ≡ false
 after-other x y p = apart x y (λ e. before-apart y x p (sym e))
 
--- nor does a row stand after the same one
+-- nor does a row stand before or after the same one
+pub same-not-before : (x y : List ℕ) → sameRow x y ≡ true → before x y ≡ false
+same-not-before x y e = rw (same-row x y .0 e) (before-irreflexive y)
+
 pub same-not-after : (x y : List ℕ) → sameRow x y ≡ true → before y x ≡ false
 same-not-after x y e = rw (same-row x y .0 e) (before-irreflexive y)

@@ -1,8 +1,8 @@
 -- A row's place in a list, the number of rows at the front that stand before it, and putting it in by its place;
--- and looking up in an ascending list finds what is in it.
+-- a row that is found isn't put in, and looking up in an ascending list finds what is in it.
 use Prim.Native.Nat.{ℕ, suc, _≤_, _<_}
 use mathlib.Core.Path.{_≡_, refl, sym, ap, _∙_}
-use mathlib.Core.Bool.{Bool, true, false, cond}
+use mathlib.Core.Bool.{Bool, true, false, true≢false, cond}
 use mathlib.Core.List.{List, [], _∷_, _++_}
 use native.Mathlib.Omega.{arith}
 use lib.ListN.{length, getD, take, drop}
@@ -14,7 +14,7 @@ use Rattle.meaning.proofs.Points.{Tested, passed, failed, tested, first, second
 use Rattle.meaning.proofs.Rows.{before-transitive, ascending-tail}
 use Rattle.rowset.specs.Rows.{lookUp, placeOf}
 use Rattle.rowset.proofs.Ascending.{sized}
-use Rattle.rowset.proofs.Order.{asymmetric, total, before-other, after-other}
+use Rattle.rowset.proofs.Order.{asymmetric, total, before-other, after-other, same-not-before}
 
 pub place-within : (r : List ℕ) (rows : List (List ℕ)) → placeOf r rows ≤ length rows
 place-within r [] = omega arith
@@ -47,6 +47,15 @@ insert-new r (s ∷ rows) e = go (tested (before s r)) (insert-new r rows)
     go (passed p) rest =
         rw (asymmetric s r p, p) (ap (λ t. s ∷ t) (rest (λ h. (rw p at e) (omega arith))))
     go (failed p) rest = rw (p, (rw p at e) (omega arith))
+
+-- a row that looking up finds isn't put in
+pub insert-found : (r : List ℕ) (rows : List (List ℕ)) → lookUp r rows ≡ true → insert r rows ≡ rows
+insert-found r [] e = absurd (true≢false (sym e))
+insert-found r (s ∷ rows) e = go (tested (before s r)) (insert-found r rows)
+  where
+    go : Tested (before s r) → (lookUp r rows ≡ true → insert r rows ≡ rows) → insert r (s ∷ rows) ≡ s ∷ rows
+    go (passed p) rest = rw (asymmetric s r p, p) (ap (λ t. s ∷ t) (rest (rw p at e)))
+    go (failed p) rest = rw (same-not-before r s (rw p at e), p)
 
 -- what stands before the first of an ascending list isn't in it
 absent : (r s : List ℕ) (rows : List (List ℕ)) → ascending (s ∷ rows) ≡ true → before r s ≡ true → member r (s ∷ rows) ≡ false

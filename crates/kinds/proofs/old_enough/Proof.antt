@@ -1,4 +1,4 @@
--- `old_enough` meets its contract: the row of each pair of that age is put in.
+-- `old_enough` meets its contract: the row of each pair of that age is put in, unless it is there.
 use Prim.Native.Nat.{ℕ, _-_}
 use native.Mathlib.Omega.{arith}
 use mathlib.Core.Path.{refl, ap}
@@ -7,7 +7,8 @@ use mathlib.Core.List.{List, [], _∷_}
 use lib.ListN.{getD, drop}
 use lib.Dec.{leb}
 use Rattle.kinds.specs.Kinds.{pairAt, pairsFrom, aged}
-use Rattle.rowset.proofs.Growing.{Through, begun, turned, ended, map-select-one, chosen}
+use Rattle.rowset.specs.Rows.{wordsOf}
+use Rattle.rowset.proofs.Growing.{Through, begun, turned, ended, added-new, map-select-one, chosen}
 use Rattle.kinds.proofs.old_enough.Statement.{statement}
 use Rattle.kinds.proofs.old_enough.Tie as tie
 
@@ -23,13 +24,16 @@ loop-holds c = begun (c .before .before .before .pre .0 .ordered) (c .before .be
 
 loop-again : tie.Need-loop-again Inv-loop μ-loop
 loop-again c =
-    let a = c .before .before .before .before .before .before .before .before .before .before .before .args in
+    let a = c .before .before .before .before .before .before .before .before .before .before .before .before .before .args in
+    let l = c .before .before .before .before .before .before .before .before .before .loop in
+    let r = c .before .before .before .before .before .before .before .row-at in
     let p : List ℕ → Bool = λ u. leb (a .age) (getD u 0 0) in
-    turned (c .before .before .before .before .before .before .before .loop .inv) (λ u. cond (p u) (drop 1 u ∷ []) []) (map-select-one p (drop 1)) (c .before .before .before .before .before .before .loop-test .taken) (c .before .before .add-if .ensures)
-    (chosen p (drop 1) refl refl (ap (λ u. getD (a .ages .now) (c .before .before .before .before .before .before .before .loop .i) 0 ∷ u) (c .before .before .before .before .before .row-at .ensures)))
+    turned (l .inv) (λ u. cond (p u) (drop 1 u ∷ []) []) (map-select-one p (drop 1)) (c .before .before .before .before .before .before .before .before .loop-test .taken)
+    (added-new (leb (a .age) (getD (a .ages .now) (l .i) 0)) (wordsOf (r .result)) (c .before .before .before .before .is-new .ensures) (c .before .before .add-if .ensures))
+    (chosen p (drop 1) refl refl (ap (λ u. getD (a .ages .now) (l .i) 0 ∷ u) (r .ensures)))
 
 returns : tie.Need-returns Inv-loop μ-loop
 returns c = ended (c .before .loop .inv) refl (c .loop-test .left)
 
 pub old-enough-spec : {M : Type 1} → statement M
-old-enough-spec = tie.close (tie.spec Inv-loop μ-loop loop-holds (λ c κs. omega arith) (λ c. omega arith) (λ c. omega arith) (λ c κs. omega arith) (λ c. omega arith) (λ c. omega arith) loop-again (λ c. c .before .loop .inv .long) returns)
+old-enough-spec = tie.close (tie.spec Inv-loop μ-loop loop-holds (λ c κs. omega arith) (λ c. omega arith) (λ c. omega arith) (λ c κs. omega arith) (λ c κs. omega arith) (λ c. omega arith) (λ c. omega arith) loop-again (λ c. c .before .loop .inv .long) returns)
