@@ -1,11 +1,12 @@
 -- Rows and pairs tested with the mask of a node's free variables are tested as the node's.
-use Prim.Native.Nat.{ℕ, zero, suc, _<_}
+use Prim.Native.Nat.{ℕ, zero, suc, _*_, _/_, _%_, _<_}
 use native.Mathlib.Omega.{arith}
-use mathlib.Core.Path.{_≡_, ap, fun-ext}
-use mathlib.Core.Bool.{Bool, cond, _&&_}
+use mathlib.Core.Path.{_≡_, refl, sym, ap, ap₂, fun-ext, _∙_}
+use mathlib.Core.Bool.{Bool, cond, _&&_, and-true}
 use mathlib.Core.List.{List}
 use lib.ListN.{length, drop, getD}
-use lib.Dec.{leb}
+use lib.Dec.{leb, eqb}
+use borrow.Author.Tests.{le-leb, lt-leb, eq-eqb, ne-eqb}
 use Rattle.meaning.specs.Lists.{all, sameRow}
 use Rattle.meaning.specs.Outcome.{mostRows}
 use Rattle.meaning.specs.Order.{ascending}
@@ -14,6 +15,8 @@ use Rattle.meaning.specs.declared.Window.{Window}
 use Rattle.meaning.proofs.Rows.{words-same}
 use Rattle.method.specs.WellFormed.{rowOfNode, setFits, pairFits}
 use Rattle.rulefree.proofs.Free.{bits}
+use Rattle.rowset.specs.Rows.{wordsOf}
+use Rattle.rowset.specs.declared.Row.{Row}
 use Rattle.kinds.specs.Kinds.{inMask}
 use Rattle.formed.specs.Tests.{MaskOf, rowCut, rowsFit, ageFits, agedFit}
 
@@ -24,6 +27,22 @@ mask-has f (suc zero) l = bits (f 0) (f 1) (f 2) (f 3) .1
 mask-has f (suc (suc zero)) l = bits (f 0) (f 1) (f 2) (f 3) .2
 mask-has f (suc (suc (suc zero))) l = bits (f 0) (f 1) (f 2) (f 3) .3
 mask-has f (suc (suc (suc (suc v)))) l = absurd (omega arith)
+
+-- a word is as a bit leaves it where it is at most the largest such word
+word-cut : (b x : ℕ) → b < 2 → x < 4294967296 → eqb x (cond (eqb b 1) x 0) ≡ leb x (b * 4294967295)
+word-cut zero zero l m = refl
+word-cut zero (suc x) l m = ne-eqb (suc x) 0 (λ e. omega arith) ∙ sym (lt-leb (suc x) 0 (omega arith))
+word-cut (suc zero) x l m = eq-eqb x x refl ∙ sym (le-leb x 4294967295 (omega arith))
+word-cut (suc (suc b)) x l m = absurd (omega arith)
+
+-- a row is cut down to a mask where each word is at most the largest that its bit leaves
+pub row-words : (mask : ℕ) (u : Row) → (u .v0 < 4294967296) × (u .v1 < 4294967296) × (u .v2 < 4294967296) × (u .v3 < 4294967296)
+    → rowCut mask (wordsOf u)
+    ≡ (leb (u .v0) (mask / 1 % 2 * 4294967295) && (leb (u .v1) (mask / 2 % 2 * 4294967295) && (leb (u .v2) (mask / 4 % 2 * 4294967295) && leb (u .v3) (mask / 8 % 2 * 4294967295))))
+row-words mask u l =
+    ap₂ _&&_ (word-cut (mask / 1 % 2) (u .v0) (omega arith) (l .0))
+    (ap₂ _&&_ (word-cut (mask / 2 % 2) (u .v1) (omega arith) (l .1))
+    (ap₂ _&&_ (word-cut (mask / 4 % 2) (u .v2) (omega arith) (l .2)) (and-true (eqb (u .v3) (cond (inMask mask 3) (u .v3) 0)) ∙ word-cut (mask / 8 % 2) (u .v3) (omega arith) (l .3))))
 
 module _ {b : List ℕ} {x mask : ℕ} (m : MaskOf b x mask) where
   row-same : (u : List ℕ) → rowCut mask u ≡ rowOfNode b x u

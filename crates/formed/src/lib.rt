@@ -33,11 +33,21 @@ pub enum Walked {
     Stuck,
 }
 
-// The row is 0 at variables that the mask doesn't have.
+// The row is 0 at variables that the mask doesn't have: 0 is the largest value of a variable outside the mask.
 fn row_cut(mask: u8, u: Row) -> bool
     ensures { λ t. ⌜ t ≡ rowCut mask (wordsOf u) ⌝ }
 {
-    rowset::same_row(u, kinds::cut(mask, u))
+    let m = mask as u32;
+    if m / 1 % 2 * 4294967295 < u.v0 {
+        return false;
+    }
+    if m / 2 % 2 * 4294967295 < u.v1 {
+        return false;
+    }
+    if m / 4 % 2 * 4294967295 < u.v2 {
+        return false;
+    }
+    u.v3 <= m / 8 % 2 * 4294967295
 }
 
 // Row i is cut down to the mask, and stands before the next, if there is one.
