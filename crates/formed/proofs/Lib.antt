@@ -3,6 +3,7 @@ pub mod Ascents
 pub mod NoPairs
 pub mod Fronts
 pub mod Masks
+pub mod Ages
 pub mod Walks
 pub mod Runs
 pub mod Times

@@ -9,7 +9,7 @@ ghost use mathlib.Core.Bool.{true, _&&_};
 ghost use mathlib.Core.List.{_∷_};
 ghost use Prim.Native.Nat.{ℕ, _+_, _-_, _*_, _≤_, _<_};
 ghost use lib.ListN.{length, getD};
-ghost use lib.Dec.{eqb};
+ghost use lib.Dec.{leb, eqb};
 ghost use Rattle.meaning.specs.Outcome.{given, mostPoints};
 ghost use Rattle.meaning.specs.RuleFile.{Accepted, checking, nodeCount, nodeAt};
 ghost use Rattle.method.specs.Stored.{leastOf, firstRetained};
@@ -83,14 +83,21 @@ fn rows_fit(values: &[u32], from: usize, to: usize, mask: u8) -> bool
     true
 }
 
+// The largest age that fits the window: the last before its end, and where there is no end its start.
+fn oldest(w: Window) -> u32
+    ensures { λ r. ⌜ ((age : ℕ) → leb age r ≡ ageFits w age) ⌝ }
+{
+    if w.end == 0 {
+        return w.start;
+    }
+    w.end - 1
+}
+
 // The age is before the window's end, and where there is no end at most the start.
 fn age_fits(w: Window, age: u32) -> bool
     ensures { λ t. ⌜ t ≡ ageFits w age ⌝ }
 {
-    if pairs::is_below_end(w, age as u64) {
-        return pairs::counted_age(w, age as u64) == age;
-    }
-    false
+    age <= oldest(w)
 }
 
 // A pair's age fits the window, and its row the mask.
