@@ -1,4 +1,5 @@
 // The operations for programs in other languages. A slice is passed as its address and then its length.
+use figuring::Open;
 use lent::Answer;
 use monitor::State;
 use refusals::of_event;
@@ -6,7 +7,6 @@ use refusals::of_rule;
 use report::Counted;
 use rulefile::Checked;
 use rulefile::check;
-use figuring::Open;
 use weighing::Refusal;
 ghost use mathlib.Core.Path.{_≡_};
 ghost use Rattle.meaning.specs.RuleFile.{checking};

@@ -3,6 +3,7 @@ mod input;
 mod line;
 mod listed;
 
+use figuring::Open;
 use input::Next;
 use input::read_event;
 use input::read_rule;
@@ -14,7 +15,6 @@ use listed::print_refusal;
 use monitor::State;
 use refusals::of_rule;
 use rulefile::Checked;
-use figuring::Open;
 use weighing::Refusal;
 
 // Takes the events on standard input and prints the answers; the count of turns only bounds the loop.

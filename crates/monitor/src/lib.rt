@@ -1,7 +1,7 @@
 // The monitor: its state, starting it, taking events, and the figures to be read off it.
+use figuring::Open;
 use lent::Answer;
 use rulefile::Checked;
-use figuring::Open;
 ghost use mathlib.Core.Path.{_≡_};
 ghost use Prim.Native.Nat.{_≤_};
 ghost use lib.ListN.{length, take};

@@ -24,7 +24,7 @@ use Rattle.turns.specs.Turns.{figure, turnIn, crowdedIn, entriesOut, entriesIn,
 use Rattle.weighing.specs.declared.Weighed.{Weighed}
 use Rattle.weighing.specs.declared.Weighed.the-variants.{Refused}
 use Rattle.weighing.specs.declared.Refusal.{Refusal}
-use Rattle.rooms.specs.Settles.{reportIn, SettledAll}
+use Rattle.closing.specs.Settles.{reportIn, SettledAll}
 use Rattle.taking.specs.declared.Taken.{Taken}
 use Rattle.taking.specs.declared.Taken.the-variants as taken
 use Rattle.taking.specs.Answers.{weighedNow, Finishes, TakesIn}

@@ -4,6 +4,7 @@ use meaning::Point;
 use weighing::Refusal;
 use weighing::Weighed;
 ghost use mathlib.Core.Path.{_≡_};
+ghost use mathlib.Core.Bool.{true};
 ghost use Prim.Native.Nat.{ℕ, _+_, _≤_, _<_};
 ghost use lib.ListN.{length};
 ghost use Rattle.meaning.specs.Outcome.{Outcome, mostKept};
@@ -15,6 +16,8 @@ ghost use Rattle.formed.specs.Known.{storedIn, Known};
 ghost use Rattle.events.specs.Answers.{outcomeOf};
 ghost use Rattle.events.specs.declared.Admitted.the-variants.{Fine};
 ghost use Rattle.weighing.specs.Weighs.{refusalOf};
+ghost use Rattle.turns.specs.Turns.{Begun};
+ghost use Rattle.closing.specs.Settles.{SettledAll};
 ghost use Rattle.figuring.specs.Figures.{Figured};
 ghost use Rattle.figuring.specs.Fronts.{storedFront};
 ghost use Rattle.taking.specs.Answers.{takeAnswer, weighedNow, Finishes, TakesIn};
@@ -23,6 +26,112 @@ ghost use Rattle.taking.specs.Answers.{takeAnswer, weighedNow, Finishes,
 pub enum Taken {
     Refused(Refusal),
     Done(u32, u32, u32),
+}
+
+// Whether no node newly settles more than four points, in a rule of at most 8 nodes with at most 128 entries.
+fn is_few(rule: &[u8], count: usize, most: u32) -> bool
+    requires { ⌜ 2 < length (now rule) ⌝ }
+    ensures { λ r. ⌜ (r ≡ true → (most ≤ 4) × (nodeCount (now (rule .entry)) ≤ 8) × (count ≤ 128)) ⌝ }
+{
+    if most <= 4 {
+        return closing::is_small(rule, count);
+    }
+    false
+}
+
+// All nodes' turns in the room that the most newly settled points of a node ask.
+fn settle_in_room(
+    rule: &[u8],
+    owners: &[u32],
+    numbers: &[u32],
+    values: &[u32],
+    count: usize,
+    lows: &[u32],
+    wants: &[u32],
+    masks: &[u8],
+    before: &[u32],
+    after: &[u32],
+    times: &[u32],
+    base: Point,
+    points: u32,
+    event: &[u32],
+    most: u32,
+    out_owners: &mut [u32],
+    out_numbers: &mut [u32],
+    out_values: &mut [u32],
+    report: &mut [u32],
+) -> Weighed
+    requires { ⌜ Begun (now rule) (now owners) (now numbers) (now values) count (now before) (now after) (now times) (base .0) (now event) (now lows) (now wants) (now masks) points most ⌝ }
+    requires { ⌜ most ≤ 65 ⌝ }
+    requires { ⌜ Stands (now «out_owners») (now «out_numbers») (now «out_values») mostKept ⌝ }
+    ensures { λ r. ⌜ SettledAll (now (rule .entry)) (now (owners .entry)) (now (numbers .entry)) (now (values .entry)) count (now (before .entry)) (now (after .entry)) (now (times .entry)) (base .0) (now (event .entry)) points (now (report .entry)) (now (report .exit)) (now («out_owners» .exit)) (now («out_numbers» .exit)) (now («out_values» .exit)) r ⌝ }
+{
+    if most <= 1 {
+        return rooms::settle_one(
+            rule,
+            owners,
+            numbers,
+            values,
+            count,
+            lows,
+            wants,
+            masks,
+            before,
+            after,
+            times,
+            base,
+            points,
+            event,
+            out_owners,
+            out_numbers,
+            out_values,
+            report,
+        );
+    }
+    if is_few(rule, count, most) {
+        return bursts::settle_few(
+            rule,
+            owners,
+            numbers,
+            values,
+            count,
+            lows,
+            wants,
+            masks,
+            before,
+            after,
+            times,
+            base,
+            points,
+            event,
+            out_owners,
+            out_numbers,
+            out_values,
+            report,
+        );
+    }
+    bursts::settle_many(
+        points / 4_000_000_000,
+        rule,
+        owners,
+        numbers,
+        values,
+        count,
+        lows,
+        wants,
+        masks,
+        before,
+        after,
+        times,
+        base,
+        points,
+        event,
+        most,
+        out_owners,
+        out_numbers,
+        out_values,
+        report,
+    )
 }
 
 // What follows once 13 to 16 are weighed: the retained times.
@@ -80,7 +189,7 @@ fn take_figured(
     let k = times.len();
     let base = progress::less(points, k as u32);
     let most = figuring::most_new(before, &after[0..n]);
-    let weighed = rooms::settle_in_room(
+    let weighed = settle_in_room(
         rule,
         owners,
         numbers,

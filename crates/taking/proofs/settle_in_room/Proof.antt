@@ -1,9 +1,9 @@
 -- `settle_in_room` meets its contract: a lower bound on the newly settled points is a higher one too.
 use native.Mathlib.Omega.{arith}
 use Rattle.meaning.proofs.Accepted.{accepted}
-use Rattle.rooms.proofs.Settled.{begun-most}
-use Rattle.rooms.proofs.settle_in_room.Statement.{statement}
-use Rattle.rooms.proofs.settle_in_room.Tie as tie
+use Rattle.closing.proofs.Settled.{begun-most}
+use Rattle.taking.proofs.settle_in_room.Statement.{statement}
+use Rattle.taking.proofs.settle_in_room.Tie as tie
 
 settle-one-requires : tie.Need-settle-one-requires
 settle-one-requires c κs = let s = c .before .before .before .before .before .before .before .before .before .before .before .before .before .before .before .before .before .before .before .before in (begun-most (s .pre .0) 1 (omega arith), s .pre .1 .1)

@@ -1,9 +1,9 @@
 -- `settle` meets its contract: the lowest crowded node, or what is weighed after the turns.
 use native.Mathlib.Omega.{arith}
-use Rattle.rooms.proofs.Settled.{crowded-settles, last-ready, weighed-settles}
+use Rattle.closing.proofs.Settled.{crowded-settles, last-ready, weighed-settles}
 use borrow.Author.Needs.{needs}
-use Rattle.rooms.proofs.settle.Statement.{statement}
-use Rattle.rooms.proofs.settle.Tie as tie
+use Rattle.closing.proofs.settle.Statement.{statement}
+use Rattle.closing.proofs.settle.Tie as tie
 
 all-turns-requires : tie.Need-all-turns-requires
 all-turns-requires c κs = let s = c .before .before .before .before .before .before .before .before .before .before .before .before .before .before .before .before .before .before .before .before .before .before .before .before .before .before .before .before .before .before .before .before in (s .pre .0, (s .pre .1 .0, s .pre .1 .1))

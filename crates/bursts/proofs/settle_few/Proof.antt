@@ -1,8 +1,8 @@
 -- `settle_few` meets its contract: the room is enough for four newly settled points of each of 8 nodes.
 use native.Mathlib.Omega.{arith}
 use mathlib.Core.Path.{refl}
-use Rattle.rooms.proofs.settle_few.Statement.{statement}
-use Rattle.rooms.proofs.settle_few.Tie as tie
+use Rattle.bursts.proofs.settle_few.Statement.{statement}
+use Rattle.bursts.proofs.settle_few.Tie as tie
 
 settle-requires : tie.Need-settle-requires
 settle-requires c κs =

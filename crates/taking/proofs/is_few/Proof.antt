@@ -2,8 +2,8 @@
 use mathlib.Core.Path.{sym}
 use mathlib.Core.Bool.{true≢false}
 use borrow.Author.Needs.{needs}
-use Rattle.rooms.proofs.is_few.Statement.{statement}
-use Rattle.rooms.proofs.is_few.Tie as tie
+use Rattle.taking.proofs.is_few.Statement.{statement}
+use Rattle.taking.proofs.is_few.Tie as tie
 
 is-small-requires : tie.Need-is-small-requires
 is-small-requires c κs = search needs

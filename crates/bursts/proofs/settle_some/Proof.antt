@@ -1,9 +1,9 @@
--- `settle_burst` meets its contract: the room is enough for 65 points a node.
+-- `settle_some` meets its contract: the room is enough for four newly settled points a node.
 use native.Mathlib.Omega.{arith}
 use mathlib.Core.Path.{refl}
 use Rattle.meaning.proofs.Accepted.{nodes-most}
-use Rattle.rooms.proofs.settle_burst.Statement.{statement}
-use Rattle.rooms.proofs.settle_burst.Tie as tie
+use Rattle.bursts.proofs.settle_some.Statement.{statement}
+use Rattle.bursts.proofs.settle_some.Tie as tie
 
 settle-requires : tie.Need-settle-requires
 settle-requires c κs =
@@ -13,8 +13,8 @@ settle-requires c κs =
     let nodes = nodes-most _ (h .accepted .0) (h .accepted .1) in
     (h, (record { words = omega arith; small = omega arith; marks = omega arith; nodes = omega arith; pairs = record { agesThere = omega arith; valuesThere = omega arith }; spare = λ o. record { agesThere = omega arith; valuesThere = omega arith } }, s .pre .1))
 
-pub settle-burst-spec : {M : Type 1} → statement M
-settle-burst-spec =
+pub settle-some-spec : {M : Type 1} → statement M
+settle-some-spec =
     tie.close
     (tie.spec
     (λ c. refl)

@@ -2,8 +2,8 @@
 use mathlib.Core.Path.{sym}
 use mathlib.Core.Bool.{true≢false}
 use borrow.Author.Needs.{needs}
-use Rattle.rooms.proofs.is_small.Statement.{statement}
-use Rattle.rooms.proofs.is_small.Tie as tie
+use Rattle.closing.proofs.is_small.Statement.{statement}
+use Rattle.closing.proofs.is_small.Tie as tie
 
 returns-2 : tie.Need-returns-2
 returns-2 c e = absurd (true≢false (sym e))

@@ -31,7 +31,7 @@ use Rattle.weighing.specs.declared.Weighed.{Weighed}
 use Rattle.weighing.specs.declared.Weighed.the-variants.{Refused}
 use Rattle.weighing.specs.Weighs.{Weighs, Last, lastWords}
 use Rattle.weighing.proofs.Weighing.{not-written}
-use Rattle.rooms.specs.Settles.{SettledAll, reportIn}
+use Rattle.closing.specs.Settles.{SettledAll, reportIn}
 
 -- a higher bound on the newly settled points
 pub begun-most : {b os ns vs : List ℕ} {count : ℕ} {before after times : List ℕ} {base : ℕ} {w lows wants masks : List ℕ} {points most : ℕ} → Begun b os ns vs count before after times base w lows wants masks points most

@@ -4,14 +4,14 @@ use native.Mathlib.Omega.{arith}
 use borrow.Author.Needs.{needs}
 use borrow.Fn.Kinds.{In}
 use borrow.Fn.PlainCycle.{Measures, is, falls, and}
-use Rattle.rooms.proofs.Settled.{begun-most}
-use Rattle.rooms.proofs.settle_many.Reads as settle-many
-use Rattle.rooms.proofs.settle_many.Kinds as settle-many-kinds
-use Rattle.rooms.proofs.+settle_many.Lts-settle_many as settle-many-lts
-use Rattle.rooms.proofs.settle_burst.Reads as settle-burst-reads
-use Rattle.rooms.proofs.settle_some.Reads as settle-some-reads
-use Rattle.rooms.proofs.+settle_many.{statement}
-use Rattle.rooms.proofs.+settle_many.Tie.{close}
+use Rattle.closing.proofs.Settled.{begun-most}
+use Rattle.bursts.proofs.settle_many.Reads as settle-many
+use Rattle.bursts.proofs.settle_many.Kinds as settle-many-kinds
+use Rattle.bursts.proofs.+settle_many.Lts-settle_many as settle-many-lts
+use Rattle.bursts.proofs.settle_burst.Reads as settle-burst-reads
+use Rattle.bursts.proofs.settle_some.Reads as settle-some-reads
+use Rattle.bursts.proofs.+settle_many.{statement}
+use Rattle.bursts.proofs.+settle_many.Tie.{close}
 
 abbrev μ-settle-many : Measures 15 settle-many-kinds.ps ℕ
 μ-settle-many κs a = a .0
