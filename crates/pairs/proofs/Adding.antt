@@ -4,19 +4,21 @@ use mathlib.Core.Path.{_≡_, refl, sym, ap, ap₂, _∙_}
 use mathlib.Core.Bool.{Bool, true, false, not, _&&_}
 use mathlib.Core.List.{List, [], _∷_, _++_}
 use native.Mathlib.Omega.{arith}
-use lib.ListN.{length, getD, take, drop}
-use lib.Dec.{ltb}
-use borrow.Author.Tests.{ltb-true, lt-ltb, not-true, not-false}
+use lib.ListN.{length, getD, set, take, drop, length-set}
+use lib.Dec.{ltb, eqb}
+use borrow.Author.Tests.{ltb-true, lt-ltb, le-ltb, eq-eqb, ne-eqb, not-true, not-false}
 use Rattle.meaning.specs.Order.{before, ascending}
 use Rattle.meaning.specs.Evaluator.{insert}
-use Rattle.meaning.proofs.Points.{first, second}
-use Rattle.rowset.specs.Rows.{placeOf}
+use Rattle.meaning.proofs.Points.{first, second, Tested, passed, failed, tested}
+use Rattle.rowset.specs.Rows.{wordsOf, setRow, placeOf}
+use Rattle.rowset.specs.declared.Row.{Row}
 use Rattle.meaning.proofs.Rows.{insert-ascends}
 use Rattle.rowset.proofs.Places.{place-within, insert-there, insert-new}
+use Rattle.rowset.proofs.Runs.{put-long}
 use Rattle.kinds.specs.Kinds.{pairAt, pairsFrom}
 use Rattle.pairs.specs.Pairs.{PairRoom, PairsAdded}
 use Rattle.pairs.proofs.Places.{place-most, place-above}
-use Rattle.pairs.proofs.Runs.{pairs-length, pairs-at, pairs-take, pairs-drop}
+use Rattle.pairs.proofs.Runs.{pairs-length, pairs-at, pairs-take, pairs-drop, Passing, passed-all}
 
 module _ (ages values : List ℕ) (n : ℕ) (x : List ℕ) where
   -- the place is at most n, at most p - 1 where pair p - 1 doesn't stand before x, and p where it does
@@ -80,3 +82,23 @@ module _ (ages values : List ℕ) (n : ℕ) (x : List ℕ) where
           set = f;
           ascends = ap ascending f ∙ insert-ascends x (pairsFrom ages values 0 n) (room .ascends);
         }
+
+-- a pair is last where its place is n: there are none, or the last stands before it
+module _ (ages values : List ℕ) (n : ℕ) (x : List ℕ) where
+  pub last-none : n ≡ 0 → true ≡ eqb n (placeOf x (pairsFrom ages values 0 n))
+  last-none e = sym (eq-eqb n (placeOf x (pairsFrom ages values 0 n)) (omega (arith, place-start ages values n x)))
+
+  pub last-some : 0 < n → ascending (pairsFrom ages values 0 n) ≡ true → before (pairAt ages values (n - 1)) x ≡ eqb n (placeOf x (pairsFrom ages values 0 n))
+  last-some l a = go (tested (before (pairAt ages values (n - 1)) x))
+    where
+      go : Tested (before (pairAt ages values (n - 1)) x) → before (pairAt ages values (n - 1)) x ≡ eqb n (placeOf x (pairsFrom ages values 0 n))
+      go (passed e) = e ∙ sym (eq-eqb n (placeOf x (pairsFrom ages values 0 n)) (place-found ages values n x n l (omega arith) a e (place-start ages values n x)))
+      go (failed e) = e ∙ sym (ne-eqb n (placeOf x (pairsFrom ages values 0 n)) (λ q. omega (arith, place-down ages values n x n l (omega arith) e)))
+
+-- a pair whose place is n is put behind the n pairs
+pub add-last : (ages values : List ℕ) (n age : ℕ) (r : Row) → n ≡ placeOf (age ∷ wordsOf r) (pairsFrom ages values 0 n) → PairRoom ages values n 1 → (values' : List ℕ) → values' ≡ setRow values n r
+    → PairsAdded ages values n (set ages n age) values' (n + 1) 1 ((age ∷ wordsOf r) ∷ [])
+add-last ages values n age r e room values' f =
+    let t : Passing ages values n n (age ∷ wordsOf r) ages values age r n = record { reached = omega arith; agesLong = refl; valuesLong = refl; whole = refl } in
+    add-new ages values n (age ∷ wordsOf r) n e room {stands = false} (rw (le-ltb n n (omega arith))) refl (set ages n age) values' (length-set ages n age) (ap length f ∙ put-long values n r)
+    (passed-all t (room .agesThere) (room .valuesThere) (omega arith) values' f)

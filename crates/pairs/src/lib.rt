@@ -7,7 +7,7 @@ ghost use mathlib.Core.Bool.{true, not, cond, _&&_};
 ghost use mathlib.Core.List.{[], _∷_, _++_, map};
 ghost use Prim.Native.Nat.{_+_, _-_, _*_, _≤_};
 ghost use lib.ListN.{length};
-ghost use lib.Dec.{ltb};
+ghost use lib.Dec.{ltb, eqb};
 ghost use Rattle.meaning.specs.Order.{before, ascending};
 ghost use Rattle.meaning.specs.Evaluator.{cutTo, valuationOf};
 ghost use Rattle.meaning.specs.Kept.{belowEnd, countedAge};
@@ -89,6 +89,31 @@ pub fn add_pair(ages: &mut [u32], values: &mut [u32], n: usize, age: u32, r: Row
     }
     put_in(ages, values, n, p, age, r);
     n + 1
+}
+
+// The pair stands after the last of n pairs, or there is none.
+fn is_last(ages: &[u32], values: &[u32], n: usize, age: u32, r: Row) -> bool
+    requires { ⌜ PairsThere (now ages) (now values) n ⌝ }
+    requires { ⌜ ascending (pairsFrom (now ages) (now values) 0 n) ≡ true ⌝ }
+    ensures { λ t. ⌜ t ≡ eqb n (placeOf (age ∷ wordsOf r) (pairsFrom (now (ages .entry)) (now (values .entry)) 0 n)) ⌝ }
+{
+    if n == 0 {
+        return true;
+    }
+    pair_before(ages[n - 1], rowset::row_at(values, n - 1), age, r)
+}
+
+// Puts a pair into n pairs as `add_pair` does, where it mostly belongs last.
+fn add_next(ages: &mut [u32], values: &mut [u32], n: usize, age: u32, r: Row) -> usize
+    requires { ⌜ PairRoom (now ages) (now values) n 1 ⌝ }
+    ensures { λ k. ⌜ PairsAdded (now (ages .entry)) (now (values .entry)) n (now (ages .exit)) (now (values .exit)) k 1 ((age ∷ wordsOf r) ∷ []) ⌝ }
+{
+    if is_last(ages, values, n, age, r) {
+        ages[n] = age;
+        rowset::put_row(values, n, r);
+        return n + 1;
+    }
+    add_pair(ages, values, n, age, r)
 }
 
 // The row, cut down to the variables of the mask, is in the run.
@@ -177,7 +202,7 @@ fn add_older(
 {
     if is_below_end(w, age) {
         if left_passes(left, mask, rows, from, to, r) {
-            return add_pair(ages, values, n, counted_age(w, age), r);
+            return add_next(ages, values, n, counted_age(w, age), r);
         }
         return n;
     }

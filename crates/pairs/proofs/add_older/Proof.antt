@@ -18,7 +18,7 @@ counted-age-requires c κs = sym (c .before .before .before .before .before .is-
 returns : tie.Need-returns
 returns c =
     let a = c .before .before .before .before .before .before .before .before .before .before .before .before .before .before .before .args in
-    put-passed (countedAge (a .w) (a .age) ∷ wordsOf (a .r)) (c .before .before .before .before .add-pair .ensures) (ap (λ y. y ∷ wordsOf (a .r)) (c .before .before .before .before .before .counted-age .ensures))
+    put-passed (countedAge (a .w) (a .age) ∷ wordsOf (a .r)) (c .before .before .before .before .add-next .ensures) (ap (λ y. y ∷ wordsOf (a .r)) (c .before .before .before .before .before .counted-age .ensures))
     (both (sym (c .before .before .before .before .before .before .before .before .before .before .before .is-below-end .ensures) ∙ c .before .before .before .before .before .before .before .before .before .before .if1 .taken) (sym (c .before .before .before .before .before .before .before .before .before .left-passes .ensures) ∙ c .before .before .before .before .before .before .before .before .if2 .taken))
 
 returns-2 : tie.Need-returns-2

@@ -1,0 +1,38 @@
+-- `is_last` meets its contract, of no pairs and by the last.
+use Prim.Native.Nat.{_-_, _<_}
+use native.Mathlib.Omega.{arith}
+use mathlib.Core.Path.{ap, _∙_}
+use mathlib.Core.List.{_∷_}
+use lib.ListN.{getD}
+use borrow.Author.Needs.{needs}
+use Rattle.meaning.specs.Order.{before}
+use Rattle.rowset.specs.Rows.{wordsOf}
+use Rattle.pairs.proofs.Adding.{last-none, last-some}
+use Rattle.pairs.proofs.is_last.Statement.{statement}
+use Rattle.pairs.proofs.is_last.Tie as tie
+
+returns : tie.Need-returns
+returns c =
+    let a = c .before .before .before .args in
+    last-none (a .ages .now) (a .values .now) (a .n) (a .age ∷ wordsOf (a .r)) (c .if1 .taken)
+
+returns-2 : tie.Need-returns-2
+returns-2 c =
+    let s = c .before .before .before .before .before .before in
+    let a = s .args in
+    let l : 0 < a .n = omega (arith, c .before .before .before .if1 .left) in
+    c .pair-before .ensures ∙ ap (λ u. before (getD (a .ages .now) (a .n - 1) 0 ∷ u) (a .age ∷ wordsOf (a .r))) (c .before .row-at .ensures)
+    ∙ last-some (a .ages .now) (a .values .now) (a .n) (a .age ∷ wordsOf (a .r)) l (s .pre .1)
+
+pub is-last-spec : {M : Type 1} → statement M
+is-last-spec =
+    tie.close
+    (tie.spec
+    returns
+    (λ c. search needs)
+    (λ c. search needs)
+    (λ c. search needs)
+    (λ c. search needs)
+    (λ c κs. search needs)
+    (λ c κs. search needs)
+    returns-2)
