@@ -137,7 +137,7 @@ pub fn left_passes(left: Left, mask: u8, rows: &[u32], from: usize, to: usize, u
 }
 
 // The age is before the window's end, if there is one.
-pub fn is_below_end(w: Window, age: u64) -> bool
+fn is_below_end(w: Window, age: u64) -> bool
     ensures { λ t. ⌜ t ≡ belowEnd w age ⌝ }
 {
     if w.end == 0 {
@@ -147,7 +147,7 @@ pub fn is_below_end(w: Window, age: u64) -> bool
 }
 
 // The age as it counts: where the window has no end, at most its start.
-pub fn counted_age(w: Window, age: u64) -> u32
+fn counted_age(w: Window, age: u64) -> u32
     requires { ⌜ belowEnd w age ≡ true ⌝ }
     ensures { λ a. ⌜ a ≡ countedAge w age ⌝ }
 {
