@@ -58,7 +58,7 @@ pub fn is_before(x: Row, y: Row) -> bool
     x.v3 < y.v3
 }
 
-pub fn same_row(x: Row, y: Row) -> bool
+fn same_row(x: Row, y: Row) -> bool
     ensures { λ t. ⌜ t ≡ sameRow (wordsOf x) (wordsOf y) ⌝ }
 {
     if x.v0 != y.v0 {
