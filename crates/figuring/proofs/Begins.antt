@@ -6,7 +6,7 @@ use mathlib.Core.List.{List, [], _∷_, _++_}
 use lib.ListN.{length, getD, take}
 use lib.Seq.{length-take-le}
 use Rattle.meaning.specs.RuleFile.{nodeCount}
-use Rattle.method.specs.Stored.{Stored, baseOf, stampIn}
+use Rattle.method.specs.Stored.{baseOf, stampIn}
 use Rattle.method.specs.Counts.{countsTo}
 use Rattle.method.specs.Step.{wantedFrom, countsStored, countBefore, stampsNow, countsAfter, countAfter}
 use Rattle.progress.specs.Bounds.{Within}
