@@ -12,13 +12,13 @@ pub enum Term {
     Constant(u32),
 }
 
-// An atom's terms: the first `count` of the four.
+// An atom's terms: the first `count` of the four. They stand before their count, as "keep" has its two: in other places a compiled node would be put together in memory by parts, which costs more than the rest of reading it.
 pub struct Terms {
-    pub count: u8,
     pub first: Term,
     pub second: Term,
     pub third: Term,
     pub fourth: Term,
+    pub count: u8,
 }
 
 // The two terms that "keep" compares.

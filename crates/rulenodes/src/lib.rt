@@ -108,11 +108,11 @@ fn terms_of(count: u8, mask: u8, w: Body) -> Terms
     ensures { λ r. ⌜ r ≡ termsOfBody count mask w ⌝ }
 {
     Terms {
-        count,
         first: term_of(mask, 1, w.word0),
         second: term_of(mask, 2, w.word1),
         third: term_of(mask, 4, w.word2),
         fourth: term_of(mask, 8, w.word3),
+        count,
     }
 }
 
