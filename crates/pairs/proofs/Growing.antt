@@ -1,16 +1,21 @@
 -- Loops that put pairs in: what was put in and what is still to come make up the whole, from the first turn to the last.
--- Then one list of pairs put in after another, from nothing.
+-- Then one list of pairs put in after another, from nothing, and the turn of a loop that puts in old pairs.
 use Prim.Native.Nat.{ℕ, _+_, _-_, _≤_, _<_}
 use mathlib.Core.Path.{_≡_, refl, sym, ap, _∙_}
-use mathlib.Core.Bool.{Bool, true, false, cond}
+use mathlib.Core.Bool.{Bool, true, false, cond, _&&_}
 use mathlib.Core.List.{List, [], _∷_, _++_, map}
 use native.Mathlib.Omega.{arith}
-use lib.ListN.{length}
+use lib.ListN.{length, getD, drop}
 use Rattle.meaning.specs.Lists.{range}
 use Rattle.meaning.specs.Order.{ascending}
 use Rattle.meaning.specs.Evaluator.{insert, insertAll}
+use Rattle.meaning.specs.Kept.{belowEnd, countedAge}
+use Rattle.meaning.specs.declared.Window.{Window}
+use Rattle.method.specs.Settle.{older}
+use Rattle.rowset.specs.Rows.{rowAt}
+use Rattle.rowset.proofs.Growing.{map-select-one}
 use Rattle.rowset.proofs.Runs.{run-first, run-end}
-use Rattle.kinds.specs.Kinds.{pairsFrom, PairsThere}
+use Rattle.kinds.specs.Kinds.{pairAt, pairsFrom, PairsThere}
 use Rattle.pairs.specs.Pairs.{PairRoom, PairsAdded, PairsMade}
 use Rattle.pairs.proofs.Runs.{pairs-none}
 
@@ -85,6 +90,22 @@ module _ {ages values : List ℕ} {n : ℕ} {t : Bool} (x : List ℕ) where
   pub put-failed : PairRoom ages values n 1 → t ≡ false → PairsAdded ages values n ages values n 1 (cond t (x ∷ []) [])
   put-failed h p = rw p (record { least = omega arith; most = omega arith; agesLong = refl; valuesLong = refl; set = refl; ascends = h .ascends })
 
+-- a second test, of the row, that passed or failed
+and-true : (b : Bool) → (b && true) ≡ b
+and-true true = refl
+and-true false = refl
+
+and-false : (b : Bool) → (b && false) ≡ false
+and-false true = refl
+and-false false = refl
+
+module _ (b : Bool) {t : Bool} where
+  pub both-passed : {ages values : List ℕ} {n : ℕ} {ages' values' : List ℕ} {k : ℕ} (x : List ℕ) → PairsAdded ages values n ages' values' k 1 (cond b (x ∷ []) []) → t ≡ true → PairsAdded ages values n ages' values' k 1 (cond (b && t) (x ∷ []) [])
+  both-passed x h e = rw (e, and-true b) h
+
+  pub second-failed : t ≡ false → (b && t) ≡ false
+  second-failed e = rw e (and-false b)
+
 -- no pairs yet, and room for the first m of m + n
 pub room-from-none : {ages values : List ℕ} {m : ℕ} (n : ℕ) → PairsThere ages values (m + n) → PairRoom ages values 0 m
 room-from-none {ages} {values} n h = record { agesThere = omega arith; valuesThere = omega arith; ascends = ap ascending (pairs-none ages values) }
@@ -104,3 +125,14 @@ module _ {ages values ages' values' : List ℕ} {k m : ℕ} {xs : List (List ℕ
         set = h .set ∙ ap (λ s. insertAll s ys) (g .set ∙ ap (λ s. insertAll s xs) (pairs-none ages values)) ∙ sym (insertAll-append [] xs ys);
         ascends = h .ascends;
       }
+
+-- a turn of the loop over the old pairs: pair i is put in at the age that it has now, where it is before the window's end and its row passes left
+module _ (w : Window) (by : ℕ) (left : List ℕ → Bool) (old-ages old-values : List ℕ) {old : ℕ} {ages₀ values₀ : List ℕ} {n : ℕ} {all : List (List ℕ)} {ages values : List ℕ} {k i : ℕ} where
+  pub older-turned : Through (pairAt old-ages old-values) (older w by left) 0 old ages₀ values₀ n all ages values k i → i < old → {u : List ℕ} → u ≡ rowAt old-values i → {ages' values' : List ℕ} {k' : ℕ}
+      → PairsAdded ages values k ages' values' k' 1 (cond (belowEnd w (getD old-ages i 0 + by) && left u) ((countedAge w (getD old-ages i 0 + by) ∷ u) ∷ []) [])
+      → Through (pairAt old-ages old-values) (older w by left) 0 old ages₀ values₀ n all ages' values' k' (i + 1)
+  older-turned t l is h =
+      let stays : List ℕ → Bool = λ p. belowEnd w (getD p 0 0 + by) && left (drop 1 p) in
+      let grown : List ℕ → List ℕ = λ p. countedAge w (getD p 0 0 + by) ∷ drop 1 p in
+      turned t (λ p. cond (stays p) (grown p ∷ []) []) (map-select-one stays grown) l h
+      (ap (λ v. cond (stays (getD old-ages i 0 ∷ v)) (grown (getD old-ages i 0 ∷ v) ∷ []) []) is)

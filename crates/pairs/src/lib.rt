@@ -182,7 +182,18 @@ fn add_young(
     k
 }
 
-// Puts a pair of the point before into n pairs, at the age that it has now, where it is before the window's end and its row passes left.
+// Puts a pair of the point before into n pairs, at the age that it has now, where it is before the window's end.
+fn add_aged(w: Window, age: u64, r: Row, ages: &mut [u32], values: &mut [u32], n: usize) -> usize
+    requires { ⌜ PairRoom (now ages) (now values) n 1 ⌝ }
+    ensures { λ k. ⌜ PairsAdded (now (ages .entry)) (now (values .entry)) n (now (ages .exit)) (now (values .exit)) k 1 (cond (belowEnd w age) ((countedAge w age ∷ wordsOf r) ∷ []) []) ⌝ }
+{
+    if is_below_end(w, age) {
+        return add_next(ages, values, n, counted_age(w, age), r);
+    }
+    n
+}
+
+// The same where its row passes left too.
 fn add_older(
     left: Left,
     mask: u8,
@@ -200,13 +211,36 @@ fn add_older(
     requires { ⌜ PairRoom (now ages) (now values) n 1 ⌝ }
     ensures { λ k. ⌜ PairsAdded (now (ages .entry)) (now (values .entry)) n (now (ages .exit)) (now (values .exit)) k 1 (cond (belowEnd w age && leftTest left mask (rowsFrom (now (rows .entry)) from (to - from)) (wordsOf r)) ((countedAge w age ∷ wordsOf r) ∷ []) []) ⌝ }
 {
-    if is_below_end(w, age) {
-        if left_passes(left, mask, rows, from, to, r) {
-            return add_next(ages, values, n, counted_age(w, age), r);
-        }
-        return n;
+    if left_passes(left, mask, rows, from, to, r) {
+        return add_aged(w, age, r, ages, values, n);
     }
     n
+}
+
+// Puts the old pairs into n pairs, each grown older, where nothing is asked of left. It is a loop of its own, since nothing is looked up in it.
+fn add_all_aged(
+    w: Window,
+    by: u32,
+    old_ages: &[u32],
+    old_values: &[u32],
+    old: usize,
+    ages: &mut [u32],
+    values: &mut [u32],
+    n: usize,
+) -> usize
+    requires { ⌜ PairsThere (now «old_ages») (now «old_values») old ⌝ }
+    requires { ⌜ PairRoom (now ages) (now values) n old ⌝ }
+    ensures { λ k. ⌜ PairsAdded (now (ages .entry)) (now (values .entry)) n (now (ages .exit)) (now (values .exit)) k old (older w by (λ _. true) (pairsFrom (now («old_ages» .entry)) (now («old_values» .entry)) 0 old)) ⌝ }
+{
+    let mut k = n;
+    let mut i = 0;
+    while i < old {
+        let r = rowset::row_at(old_values, i);
+        let age = old_ages[i] as u64 + by as u64;
+        k = add_aged(w, age, r, ages, values, k);
+        i += 1;
+    }
+    k
 }
 
 // Puts the old pairs into n pairs, each grown older.
@@ -266,19 +300,22 @@ pub fn grow(
     ensures { λ k. ⌜ PairsMade (now (ages .entry)) (now (values .entry)) (now (ages .exit)) (now (values .exit)) k (end - start + old) (map (λ u. 0 ∷ u) (rowsFrom (now (rows .entry)) start (end - start)) ++ older w by (leftTest left mask (rowsFrom (now (rows .entry)) from (to - from))) (pairsFrom (now («old_ages» .entry)) (now («old_values» .entry)) 0 old)) ⌝ }
 {
     let n = add_young(rows, start, end, ages, values, 0);
-    add_all_older(
-        left,
-        mask,
-        rows,
-        from,
-        to,
-        w,
-        by,
-        old_ages,
-        old_values,
-        old,
-        ages,
-        values,
-        n,
-    )
+    match left {
+        Left::Always => add_all_aged(w, by, old_ages, old_values, old, ages, values, n),
+        _ => add_all_older(
+            left,
+            mask,
+            rows,
+            from,
+            to,
+            w,
+            by,
+            old_ages,
+            old_values,
+            old,
+            ages,
+            values,
+            n,
+        ),
+    }
 }

@@ -1,17 +1,12 @@
 -- `add_all_older` meets its contract: each old pair is put in, grown older, where it stays.
-use Prim.Native.Nat.{ℕ, _+_, _-_}
+use Prim.Native.Nat.{_-_}
 use native.Mathlib.Omega.{arith}
-use mathlib.Core.Path.{refl, ap}
-use mathlib.Core.Bool.{Bool, cond, _&&_}
-use mathlib.Core.List.{List, [], _∷_}
-use lib.ListN.{getD, drop}
-use Rattle.meaning.specs.Kept.{belowEnd, countedAge}
+use mathlib.Core.Path.{refl}
 use Rattle.method.specs.Settle.{older}
 use Rattle.rowset.specs.Rows.{rowsFrom}
-use Rattle.rowset.proofs.Growing.{map-select-one}
 use Rattle.kinds.specs.Kinds.{pairAt, pairsFrom}
 use Rattle.pairs.specs.Pairs.{leftTest}
-use Rattle.pairs.proofs.Growing.{Through, begun-all, room-for, turned, ended}
+use Rattle.pairs.proofs.Growing.{Through, begun-all, room-for, older-turned, ended}
 use Rattle.pairs.proofs.add_all_older.Statement.{statement}
 use Rattle.pairs.proofs.add_all_older.Tie as tie
 
@@ -41,11 +36,8 @@ add-older-requires c κs =
 loop-again : tie.Need-loop-again Inv-loop μ-loop
 loop-again c =
     let a = c .before .before .before .before .before .before .before .before .before .before .before .before .before .before .before .before .args in
-    let l = c .before .before .before .before .before .before .before .before .before .before .loop in
-    let stays : List ℕ → Bool = λ p. belowEnd (a .w) (getD p 0 0 + a .by) && leftTest (a .left) (a .mask) (rowsFrom (a .rows .now) (a .from) (a .to - a .from)) (drop 1 p) in
-    let grown : List ℕ → List ℕ = λ p. countedAge (a .w) (getD p 0 0 + a .by) ∷ drop 1 p in
-    turned (l .inv) (λ p. cond (stays p) (grown p ∷ []) []) (map-select-one stays grown) (c .before .before .before .before .before .before .before .before .before .loop-test .taken) (c .before .before .before .before .add-older .ensures)
-    (ap (λ u. cond (stays (getD (a .old-ages .now) (l .i) 0 ∷ u)) (grown (getD (a .old-ages .now) (l .i) 0 ∷ u) ∷ []) []) (c .before .before .before .before .before .before .before .before .row-at .ensures))
+    older-turned (a .w) (a .by) (leftTest (a .left) (a .mask) (rowsFrom (a .rows .now) (a .from) (a .to - a .from))) (a .old-ages .now) (a .old-values .now)
+    (c .before .before .before .before .before .before .before .before .before .before .loop .inv) (c .before .before .before .before .before .before .before .before .before .loop-test .taken) (c .before .before .before .before .before .before .before .before .row-at .ensures) (c .before .before .before .before .add-older .ensures)
 
 returns : tie.Need-returns Inv-loop μ-loop
 returns c = ended (c .before .loop .inv) refl (c .loop-test .left) (omega arith)
