@@ -297,18 +297,7 @@ pub fn exists(x: u32, rows: &[u32], from: usize, to: usize, out: &mut [u32], n: 
     k
 }
 
-// The test passed, and the row isn't in the set of n rows already.
-fn is_new(ok: bool, out: &[u32], n: usize, r: Row) -> bool
-    requires { ⌜ n * 4 ≤ length (now out) ⌝ }
-    ensures { λ t. ⌜ t ≡ (ok && not (lookUp (wordsOf r) (rowsFrom (now (out .entry)) 0 n))) ⌝ }
-{
-    if ok {
-        return !rowset::contains(out, 0, n, r);
-    }
-    false
-}
-
-// The rows of the pairs from..to that are at least as old as age says; one that is in the set already is skipped, as many pairs share a row.
+// The rows of the pairs from..to that are at least as old as age says. Many pairs share a row, so each is looked for near the one before it.
 pub fn old_enough(
     age: u32,
     ages: &[u32],
@@ -316,19 +305,20 @@ pub fn old_enough(
     from: usize,
     to: usize,
     out: &mut [u32],
-    n: usize,
 ) -> usize
     requires { ⌜ Run (now values) from to ⌝ }
     requires { ⌜ to ≤ length (now ages) ⌝ }
-    requires { ⌜ Room (now out) n ⌝ }
-    ensures { λ k. ⌜ Added (now (out .entry)) n (now (out .exit)) k (aged age (pairsFrom (now (ages .entry)) (now (values .entry)) from (to - from))) ⌝ }
+    requires { ⌜ Room (now out) 0 ⌝ }
+    ensures { λ k. ⌜ Added (now (out .entry)) 0 (now (out .exit)) k (aged age (pairsFrom (now (ages .entry)) (now (values .entry)) from (to - from))) ⌝ }
 {
-    let mut k = n;
+    let mut k = 0;
+    let mut near = 0;
     let mut i = from;
     while i < to {
         let row = rowset::row_at(values, i);
-        let ok = is_new(age <= ages[i], out, k, row);
-        k = rowset::add_if(ok, out, k, row);
+        let gathered = rowset::add_near_if(age <= ages[i], out, k, near, row);
+        k = gathered.count;
+        near = gathered.near;
         i += 1;
     }
     k

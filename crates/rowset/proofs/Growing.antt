@@ -2,20 +2,23 @@
 -- Then what the set holds in the end.
 use Prim.Native.Nat.{ℕ, _+_, _-_, _≤_, _<_}
 use mathlib.Core.Path.{_≡_, refl, sym, ap, _∙_}
-use mathlib.Core.Bool.{Bool, true, false, not, cond, _&&_}
+use mathlib.Core.Bool.{Bool, true, false, cond, _&&_}
 use mathlib.Core.List.{List, [], _∷_, _++_, map}
 use native.Mathlib.Omega.{arith}
 use lib.ListN.{length}
 use lib.Dec.{ltb, leb}
-use borrow.Author.Tests.{leb-true, leb-false}
-use Rattle.meaning.specs.Lists.{range, select}
-use Rattle.meaning.specs.Evaluator.{insert, setOf}
-use Rattle.meaning.proofs.Points.{Tested, passed, failed, tested}
-use Rattle.rowset.specs.Rows.{rowsFrom, lookUp, mostHeld, addCapped, addAllCapped}
+use borrow.Author.Tests.{ltb-true, leb-true, leb-false}
+use Rattle.meaning.specs.Lists.{range, select, sameRow}
+use Rattle.meaning.specs.Order.{ascending}
+use Rattle.meaning.specs.Evaluator.{insert, setOf, member}
+use Rattle.meaning.proofs.Points.{Tested, passed, failed, tested, first, second}
+use Rattle.rowset.specs.declared.Row.{Row}
+use Rattle.rowset.specs.Rows.{wordsOf, rowAt, rowsFrom, lookUp, mostHeld, addCapped, addAllCapped}
 use Rattle.rowset.specs.Sets.{Room, Added}
 use Rattle.rowset.proofs.Saturation.{addAll-append, whole, crowded}
-use Rattle.rowset.proofs.Places.{insert-found}
-use Rattle.rowset.proofs.Runs.{run-first, run-end, rows-none, rows-length}
+use Rattle.rowset.proofs.Ascending.{addAll-ascends}
+use Rattle.rowset.proofs.Places.{insert-found, look-member}
+use Rattle.rowset.proofs.Runs.{any-listed, run-first, run-end, rows-none, rows-length, rows-sized}
 
 -- a loop at item i of those up to to; gives says what rows a list of items gives. With the rows of the items still to come put into the new set too,
 -- it is the old one with all put in
@@ -55,7 +58,7 @@ module _ {A : Type 0} {at : ℕ → A} {gives : List A → List (List ℕ)} {to 
 pub added-as : {old : List ℕ} {n : ℕ} {new : List ℕ} {k : ℕ} {rows rows' : List (List ℕ)} → Added old n new k rows → rows ≡ rows' → Added old n new k rows'
 added-as {old} {n} h e = record { most = h .most; long = h .long; set = h .set ∙ ap (addAllCapped (rowsFrom old 0 n)) e }
 
--- a row that is in the set already need not be put in
+-- a row that looking up finds need not be put in
 module _ (set : List (List ℕ)) (r : List ℕ) where
   found-stays : lookUp r set ≡ true → set ≡ addCapped set r
   found-stays e = go (ltb (length set) mostHeld)
@@ -64,22 +67,27 @@ module _ (set : List (List ℕ)) (r : List ℕ) where
       go true = sym (insert-found r set e)
       go false = refl
 
-  new-alone : (ok : Bool) → addAllCapped set (cond (ok && not (lookUp r set)) (r ∷ []) []) ≡ addAllCapped set (cond ok (r ∷ []) [])
-  new-alone false = refl
-  new-alone true = go (tested (lookUp r set))
-    where
-      go : Tested (lookUp r set) → addAllCapped set (cond (not (lookUp r set)) (r ∷ []) []) ≡ addCapped set r
-      go (passed e) = rw e (found-stays e)
-      go (failed e) = rw e
+-- a row that one of the first n is, in a set that ascends, is found there, and nothing is put in
+module _ (ws : List ℕ) (r : Row) (n p : ℕ) (up : ascending (rowsFrom ws 0 n) ≡ true) where
+  is-member : p < n → sameRow (wordsOf r) (rowAt ws p) ≡ true → member (wordsOf r) (rowsFrom ws 0 n) ≡ true
+  unfolding rowsFrom
+  is-member l e =
+      let z : 0 + p ≡ p = omega arith in
+      any-listed (sameRow (wordsOf r)) (rowAt ws) 0 n p l (rw z e)
 
-pub added-new : {old : List ℕ} {n : ℕ} {new : List ℕ} {k : ℕ} (ok : Bool) {t : Bool} (r : List ℕ) → t ≡ (ok && not (lookUp r (rowsFrom old 0 n)))
-    → Added old n new k (cond t (r ∷ []) []) → Added old n new k (cond ok (r ∷ []) [])
-added-new {old} {n} ok r e h =
-    record {
-      most = h .most;
-      long = h .long;
-      set = h .set ∙ ap (λ b. addAllCapped (rowsFrom old 0 n) (cond b (r ∷ []) [])) e ∙ new-alone (rowsFrom old 0 n) r ok;
-    }
+  pub add-at : n ≤ mostHeld → {t : Bool} → t ≡ (ltb p n && sameRow (wordsOf r) (rowAt ws p)) → t ≡ true → Added ws n ws n (wordsOf r ∷ [])
+  add-at m is there =
+      let both : (ltb p n && sameRow (wordsOf r) (rowAt ws p)) ≡ true = sym is ∙ there in
+      let l : p < n = ltb-true p n (first (ltb p n) (sameRow (wordsOf r) (rowAt ws p)) both) in
+      record {
+        most = m;
+        long = refl;
+        set = found-stays (rowsFrom ws 0 n) (wordsOf r) (look-member (wordsOf r) (rowsFrom ws 0 n) (rows-sized ws 0 n) up ∙ is-member l (second (ltb p n) (sameRow (wordsOf r) (rowAt ws p)) both));
+      }
+
+-- an ascending set still ascends with rows put in
+pub added-ascends : {old : List ℕ} {n : ℕ} {new : List ℕ} {k : ℕ} {rows : List (List ℕ)} → Added old n new k rows → ascending (rowsFrom old 0 n) ≡ true → ascending (rowsFrom new 0 k) ≡ true
+added-ascends {old} {n} {rows = rows} h up = ap ascending (h .set) ∙ addAll-ascends (rowsFrom old 0 n) rows up
 
 -- one list of rows put in after another
 pub added-then : {old : List ℕ} {n : ℕ} {mid : List ℕ} {m : ℕ} {new : List ℕ} {k : ℕ} {xs ys : List (List ℕ)} → Added old n mid m xs → Added mid m new k ys → Added old n new k (xs ++ ys)

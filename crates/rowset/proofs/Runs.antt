@@ -2,19 +2,33 @@
 use Prim.Native.Nat.{ℕ, zero, suc, _+_, _-_, _*_, _≤_, _<_}
 use mathlib.Core.Logic.{_≢_}
 use mathlib.Core.Path.{_≡_, refl, sym, ap, ap₂, _∙_}
-use mathlib.Core.Bool.{true, false}
+use mathlib.Core.Bool.{Bool, true, false, _||_}
 use mathlib.Core.List.{List, [], _∷_, _++_, map}
 use native.Mathlib.Nat.{zero-add, add-zero}
 use native.Mathlib.Numerals.{add-one}
 use native.Mathlib.Omega.{arith}
 use lib.ListN.{length, getD, set, take, drop, length-set}
 use lib.Seq.{getD-set-same, getD-set-other, take-at, drop-at, append-snoc}
-use Rattle.meaning.specs.Lists.{range, sameRow}
+use Rattle.meaning.specs.Lists.{any, range, sameRow}
 use Rattle.meaning.specs.Order.{before}
 use Rattle.rowset.specs.declared.Row.{Row}
 use Rattle.rowset.specs.Rows.{wordsOf, rowAt, setRow, rowsFrom, lookUp, placeOf}
 use Rattle.rowset.proofs.Ascending.{sized}
 use Rattle.rowset.proofs.Order.{same-not-after}
+
+-- a test that item k of a run passes
+or-true : (b : Bool) → (b || true) ≡ true
+or-true true = refl
+or-true false = refl
+
+pub any-listed : {A : Type 0} (p : A → Bool) (at : ℕ → A) (a n k : ℕ) → k < n → p (at (a + k)) ≡ true → any p (map at (range a n)) ≡ true
+any-listed p at a zero k l e = absurd (omega arith)
+any-listed p at a (suc n) zero l e =
+    let z : a + 0 ≡ a = omega arith in
+    rw (rw z at e)
+any-listed p at a (suc n) (suc k) l e =
+    let z : suc a + k ≡ a + suc k = omega arith in
+    rw (any-listed p at (suc a) n k (omega arith) (rw z e)) (or-true (p (at a)))
 
 -- a run of what an accessor gives, taken from the front
 module _ {A : Type 0} (at : ℕ → A) (to i : ℕ) where

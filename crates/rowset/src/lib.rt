@@ -1,12 +1,12 @@
 // Sets of valuations as rows of four words in lent slices.
 ghost use mathlib.Core.Path.{_≡_};
-ghost use mathlib.Core.Bool.{_&&_, not, cond};
+ghost use mathlib.Core.Bool.{true, _&&_, not, cond};
 ghost use mathlib.Core.List.{[], _∷_, _++_};
 ghost use Prim.Native.Nat.{_+_, _-_, _*_, _≤_, _<_};
 ghost use lib.ListN.{length};
 ghost use lib.Dec.{ltb};
 ghost use Rattle.meaning.specs.Lists.{sameRow};
-ghost use Rattle.meaning.specs.Order.{before};
+ghost use Rattle.meaning.specs.Order.{before, ascending};
 ghost use Rattle.rowset.specs.Rows.{wordsOf, rowAt, setRow, rowsFrom, lookUp, placeOf};
 ghost use Rattle.rowset.specs.Sets.{Run, Room, Added};
 
@@ -159,4 +159,68 @@ pub fn add_if(ok: bool, out: &mut [u32], n: usize, r: Row) -> usize
         return add(out, n, r);
     }
     n
+}
+
+// A set that rows are gathered in: how many it has, and where the next row is looked for first.
+pub struct Gathered {
+    pub count: usize,
+    pub near: usize,
+}
+
+// Row p is one of the first n, and is r.
+fn is_at(ws: &[u32], n: usize, p: usize, r: Row) -> bool
+    requires { ⌜ n * 4 ≤ length (now ws) ⌝ }
+    ensures { λ t. ⌜ t ≡ (ltb p n && sameRow (wordsOf r) (rowAt (now (ws .entry)) p)) ⌝ }
+{
+    if p < n {
+        return same_row(r, row_at(ws, p));
+    }
+    false
+}
+
+// The row before row p of n, or the last where p is the first.
+fn before_in_turn(p: usize, n: usize) -> usize {
+    if 0 < p {
+        return p - 1;
+    }
+    if 0 < n {
+        return n - 1;
+    }
+    0
+}
+
+// Puts a row into an ascending set of n rows as `add` does. It is looked for first at the row `near`: rows that come round in turn, youngest first, stand one before the other.
+fn add_near(out: &mut [u32], n: usize, near: usize, r: Row) -> Gathered
+    requires { ⌜ Room (now out) n × (ascending (rowsFrom (now out) 0 n) ≡ true) ⌝ }
+    ensures { λ g. ⌜ Added (now (out .entry)) n (now (out .exit)) (g .count) (wordsOf r ∷ []) ⌝ }
+{
+    if is_at(out, n, near, r) {
+        return Gathered {
+            count: n,
+            near: before_in_turn(near, n),
+        };
+    }
+    let p = place(out, 0, n, r);
+    let next = before_in_turn(p, n);
+    if is_at(out, n, p, r) {
+        return Gathered {
+            count: n,
+            near: next,
+        };
+    }
+    Gathered {
+        count: add(out, n, r),
+        near: next,
+    }
+}
+
+// The same where the test passed.
+pub fn add_near_if(ok: bool, out: &mut [u32], n: usize, near: usize, r: Row) -> Gathered
+    requires { ⌜ Room (now out) n × (ascending (rowsFrom (now out) 0 n) ≡ true) ⌝ }
+    ensures { λ g. ⌜ Added (now (out .entry)) n (now (out .exit)) (g .count) (cond ok (wordsOf r ∷ []) []) ⌝ }
+{
+    if ok {
+        return add_near(out, n, near, r);
+    }
+    Gathered { count: n, near }
 }

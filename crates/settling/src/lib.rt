@@ -245,7 +245,7 @@ fn since_at(w: Window, ages: &[u32], values: &[u32], pairs: usize, out: &mut [u3
     requires { ⌜ Room (now out) 0 ⌝ }
     ensures { λ k. ⌜ Added (now (out .entry)) 0 (now (out .exit)) k (oldEnough w (pairsFrom (now (ages .entry)) (now (values .entry)) 0 pairs)) ⌝ }
 {
-    kinds::old_enough(w.start, ages, values, 0, pairs, out, 0)
+    kinds::old_enough(w.start, ages, values, 0, pairs, out)
 }
 
 // The until kinds at point i, over the points that both children have settled.
