@@ -1,9 +1,8 @@
 // Taking an event in memory that the caller lends: what is stored is changed in place, and a refusal changes nothing.
 use taking::Taken;
 use weighing::Refusal;
-ghost use mathlib.Core.Path.{_≡_};
-ghost use Prim.Native.Nat.{_*_, _≤_};
-ghost use lib.ListN.{length, take};
+ghost use Prim.Native.Nat.{_≤_};
+ghost use lib.ListN.{length};
 ghost use Rattle.meaning.specs.Outcome.{mostKept};
 ghost use Rattle.shelf.specs.Entries.{Stands};
 ghost use Rattle.lent.specs.Lent.{lent, Sized, Copies, TakesLent};
@@ -20,18 +19,6 @@ pub struct Left {
     pub retained: u32,
     pub count: u32,
     pub answer: Answer,
-}
-
-// Copies n words to the front of others.
-fn copy_front(from: &[u32], to: &mut [u32], n: usize)
-    requires { ⌜ (n ≤ length (now from)) × (n ≤ length (now to)) ⌝ }
-    ensures { λ _. ⌜ take n (now (to .exit)) ≡ take n (now (from .entry)) ⌝ }
-{
-    let mut k = 0;
-    while k < n {
-        to[k] = from[k];
-        k += 1;
-    }
 }
 
 // Copies the times and entries that are kept to the front of the lent slices.
@@ -52,10 +39,10 @@ fn store(
     requires { ⌜ Stands (now owners) (now numbers) (now values) mostKept ⌝ }
     ensures { λ _. ⌜ Copies (now (stamps .entry)) (now («out_owners» .entry)) (now («out_numbers» .entry)) (now («out_values» .entry)) retained kept (now (times .exit)) (now (owners .exit)) (now (numbers .exit)) (now (values .exit)) ⌝ }
 {
-    copy_front(stamps, times, retained);
-    copy_front(out_owners, owners, kept);
-    copy_front(out_numbers, numbers, kept);
-    copy_front(out_values, values, 4 * kept);
+    shelf::copy_words(stamps, retained, times, 0);
+    shelf::copy_words(out_owners, kept, owners, 0);
+    shelf::copy_words(out_numbers, kept, numbers, 0);
+    shelf::copy_words(out_values, 4 * kept, values, 0);
 }
 
 // Takes an event: any state whatever, which stands in the slices as for `taking::take`, any event words, any report buffer.

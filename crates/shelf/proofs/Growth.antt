@@ -15,7 +15,7 @@ use Rattle.room.specs.Room.{setIn, Laid}
 use Rattle.shelf.specs.Appended.{Copied, Space, Extended, Pushed}
 
 -- a row before the copied ones
-row-kept : {old : List ℕ} {end : ℕ} {new : List ℕ} {count : ℕ} {rows : List (List ℕ)} → Copied old end new count rows → (k : ℕ) → k < end → rowAt new k ≡ rowAt old k
+pub row-kept : {old : List ℕ} {end : ℕ} {new : List ℕ} {count : ℕ} {rows : List (List ℕ)} → Copied old end new count rows → (k : ℕ) → k < end → rowAt new k ≡ rowAt old k
 row-kept h k l =
     let e0 = h .below (k * 4) (omega arith) in
     let e1 = h .below (k * 4 + 1) (omega arith) in

@@ -3,5 +3,6 @@ pub mod Streaks
 pub mod Listed
 pub mod Copies
 pub mod Growth
+pub mod Putting
 pub mod Packing
 pub mod Walking

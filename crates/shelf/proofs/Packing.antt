@@ -13,11 +13,13 @@ use Rattle.meaning.specs.Kept.{Entry, entryOf}
 use Rattle.meaning.proofs.Points.{first, second}
 use Rattle.rowset.specs.declared.Row.{Row}
 use Rattle.rowset.specs.Rows.{wordsOf, rowAt, setRow, rowsFrom}
-use Rattle.rowset.proofs.Runs.{put-long, put-same, put-other}
+use Rattle.rowset.proofs.Runs.{rows-at, put-long, put-same, put-other}
 use Rattle.shelf.specs.Entries.{ownedBy, entryAt, entriesFrom, pairEntries, streak, isOf, isOwned, runOf, pairRunOf, Stands, Packed}
+use Rattle.shelf.specs.Appended.{WordsPut, Copied}
 use Rattle.meaning.specs.Outcome.{mostKept}
 use Rattle.shelf.proofs.Streaks.{streak-within, streak-all}
-use Rattle.shelf.proofs.Listed.{listed-append, listed-more, listed-same, map-twice}
+use Rattle.shelf.proofs.Growth.{row-kept}
+use Rattle.shelf.proofs.Listed.{listed-append, listed-more, listed-same, listed-moved, map-twice}
 
 -- an entry by the parts of its owner
 pub owned-by : (x mark number : ℕ) (r : List ℕ) → mark < 2 → ownedBy (x * 2 + mark) number r ≡ entryOf x mark number r
@@ -74,9 +76,9 @@ packed-one {os} {ns} {vs} k owner number r h l e =
       whole = λ m. entries-more (set os k owner) (set ns k number) (setRow vs k r) k ∙ ap₂ (λ xs x. xs ++ x ∷ []) kept new;
     })
 
--- no room for entry k
-pub packed-full : (os ns vs : List ℕ) (k : ℕ) (more : List Entry) → mostKept ≤ k → Packed os ns vs k os ns vs (k + 1) more
-packed-full os ns vs k more l = record { ownersLong = refl; numbersLong = refl; valuesLong = refl; grown = omega arith; whole = λ m. absurd (omega arith) }
+-- no room for entries behind k others, which would be k' with them
+pub packed-full : (os ns vs : List ℕ) (k k' : ℕ) (more : List Entry) → k ≤ k' → mostKept < k' → Packed os ns vs k os ns vs k' more
+packed-full os ns vs k k' more g l = record { ownersLong = refl; numbersLong = refl; valuesLong = refl; grown = omega arith; whole = λ m. absurd (omega arith) }
 
 pub packed-none : (os ns vs : List ℕ) (k : ℕ) → Packed os ns vs k os ns vs k []
 packed-none os ns vs k = record { ownersLong = refl; numbersLong = refl; valuesLong = refl; grown = omega arith; whole = λ m. sym (append-nil (entriesFrom os ns vs 0 k)) }
@@ -127,6 +129,30 @@ module _ {f : ℕ → Entry} {from to : ℕ} {os ns vs : List ℕ} {kept : ℕ} 
 pub rows-entries : (owner number : ℕ) (ws : List ℕ) (from count : ℕ) → map (λ k. ownedBy owner number (rowAt ws k)) (range from count) ≡ map (ownedBy owner number) (rowsFrom ws from count)
 unfolding rowsFrom
 rows-entries owner number ws from count = sym (map-twice (ownedBy owner number) (rowAt ws) (range from count))
+
+-- owners, numbers and rows put behind kept others are the entries of pairs
+module _ {os ns vs os' ns' vs' : List ℕ} (kept n owner : ℕ) (ages rows : List ℕ) (o : WordsPut os kept os' n (λ _. owner)) (a : WordsPut ns kept ns' n (λ k. getD ages k 0)) (v : Copied vs kept vs' n (rowsFrom rows 0 n)) where
+  row-there : (k : ℕ) → k < n → rowAt vs' (kept + k) ≡ rowAt rows (0 + k)
+  row-there k l = sym (rows-at vs' kept n k l) ∙ ap (λ us. getD us k []) (v .there) ∙ rows-at rows 0 n k l
+
+  new-entries : entriesFrom os' ns' vs' (0 + kept) n ≡ pairEntries owner ages rows 0 n
+  unfolding entriesFrom pairEntries
+  new-entries =
+      let e : 0 + kept ≡ kept = omega arith in
+      rw e
+      (listed-moved (entryAt os' ns' vs') (λ k. ownedBy owner (getD ages k 0) (rowAt rows k)) kept 0 n
+      (λ k l. same-entry (o .there k l) (a .there k l ∙ ap (λ j. getD ages j 0) (omega arith)) (row-there k l)))
+
+  pub packed-pairs : Packed os ns vs kept os' ns' vs' (kept + n) (pairEntries owner ages rows 0 n)
+  packed-pairs =
+      record {
+        ownersLong = o .long;
+        numbersLong = a .long;
+        valuesLong = v .long;
+        grown = omega arith;
+        whole = λ m. entries-append os' ns' vs' 0 kept n ∙ ap₂ (λ xs ys. xs ++ ys)
+            (entries-same os ns vs os' ns' vs' kept (λ j l. same-entry (o .below j l) (a .below j l) (row-kept v j l))) new-entries;
+      }
 
 -- entries whose owner and number, or owner alone, pass a test one after the other
 module _ (os ns vs : List ℕ) (cursor count owner : ℕ) where

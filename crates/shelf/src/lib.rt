@@ -3,12 +3,12 @@ use rowset::Row;
 ghost use mathlib.Core.Path.{_≡_};
 ghost use mathlib.Core.List.{[], _∷_, map};
 ghost use Prim.Native.Nat.{_+_, _-_, _*_, _≤_, _<_};
-ghost use lib.ListN.{length};
+ghost use lib.ListN.{length, getD};
 ghost use Rattle.rowset.specs.Rows.{wordsOf, rowsFrom};
 ghost use Rattle.rowset.specs.Sets.{Run};
 ghost use Rattle.shelf.specs.Entries.{ownedBy, pairEntries, isOf, runOf, pairRunOf, Stands, Packed};
 ghost use Rattle.meaning.specs.Outcome.{mostKept};
-ghost use Rattle.shelf.specs.Appended.{Copied, Space, Pushed};
+ghost use Rattle.shelf.specs.Appended.{WordsPut, Copied, Space, Pushed};
 
 // Entry k has that owner and number.
 fn is_of(owners: &[u32], numbers: &[u32], k: usize, owner: u32, number: u32) -> bool
@@ -152,7 +152,31 @@ pub fn pack(
     k
 }
 
-// The same for n pairs, each with its age as its number.
+// Puts n times the word at word `end` and on.
+fn fill(word: u32, n: usize, words: &mut [u32], end: usize)
+    requires { ⌜ end + n ≤ length (now words) ⌝ }
+    ensures { λ _. ⌜ WordsPut (now (words .entry)) end (now (words .exit)) n (λ _. word) ⌝ }
+{
+    let mut k = 0;
+    while k < n {
+        words[end + k] = word;
+        k += 1;
+    }
+}
+
+// Copies the first n words to word `end` and on.
+pub fn copy_words(from: &[u32], n: usize, words: &mut [u32], end: usize)
+    requires { ⌜ (n ≤ length (now from)) × (end + n ≤ length (now words)) ⌝ }
+    ensures { λ _. ⌜ WordsPut (now (words .entry)) end (now (words .exit)) n (λ k. getD (now (from .entry)) k 0) ⌝ }
+{
+    let mut k = 0;
+    while k < n {
+        words[end + k] = from[k];
+        k += 1;
+    }
+}
+
+// Appends an entry for each of n pairs, with its age as its number, if there is room for all, and counts on; the number of entries then.
 pub fn pack_pairs(
     ages: &[u32],
     rows: &[u32],
@@ -167,13 +191,11 @@ pub fn pack_pairs(
     ensures count { λ r. ⌜ r ≡ kept + n ⌝ }
     ensures packed { λ r. ⌜ Packed (now (owners .entry)) (now (numbers .entry)) (now (values .entry)) kept (now (owners .exit)) (now (numbers .exit)) (now (values .exit)) r (pairEntries owner (now (ages .entry)) (now (rows .entry)) 0 n) ⌝ }
 {
-    let mut k = kept;
-    let mut i = 0;
-    while i < n {
-        let row = rowset::row_at(rows, i);
-        put_entry(owners, numbers, values, k, owner, ages[i], row);
-        k += 1;
-        i += 1;
+    if 512 < kept + n {
+        return kept + n;
     }
-    k
+    fill(owner, n, owners, kept);
+    copy_words(ages, n, numbers, kept);
+    copy_rows(rows, 0, n, values, kept);
+    kept + n
 }

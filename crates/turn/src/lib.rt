@@ -237,12 +237,8 @@ fn copy_pairs(
     requires { ⌜ PairsThere (now «spare_ages») (now «spare_values») n ⌝ }
     ensures { λ _. ⌜ PairsCopied (now (ages .entry)) (now (values .entry)) (now («spare_ages» .entry)) (now («spare_values» .entry)) (now («spare_ages» .exit)) (now («spare_values» .exit)) n ⌝ }
 {
+    shelf::copy_words(ages, n, spare_ages, 0);
     shelf::copy_rows(values, 0, n, spare_values, 0);
-    let mut k = 0;
-    while k < n {
-        spare_ages[k] = ages[k];
-        k += 1;
-    }
 }
 
 // The points from start on before end, which may be none. The node's pairs are at the front of ages and values, before the points and after them; before each point they are copied to the spare slices.

@@ -1,4 +1,6 @@
 -- `put_entry` meets its contract: the three stores are one entry more, and past the limit there is nothing to say.
+use Prim.Native.Nat.{_+_}
+use native.Mathlib.Omega.{arith}
 use borrow.Author.Needs.{needs}
 use mathlib.Core.List.{[], _∷_}
 use Rattle.rowset.specs.Rows.{wordsOf}
@@ -16,7 +18,7 @@ returns c =
 returns-2 : tie.Need-returns-2
 returns-2 c =
     let a = c .before .before .before .before .args in
-    packed-full (a .owners .now) (a .numbers .now) (a .values .now) (a .k) (ownedBy (a .owner) (a .number) (wordsOf (a .row)) ∷ []) (c .if1 .left)
+    packed-full (a .owners .now) (a .numbers .now) (a .values .now) (a .k) (a .k + 1) (ownedBy (a .owner) (a .number) (wordsOf (a .row)) ∷ []) (omega arith) (omega (arith, c .if1 .left))
 
 pub put-entry-spec : {M : Type 1} → statement M
 put-entry-spec =
