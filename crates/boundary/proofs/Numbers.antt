@@ -25,7 +25,6 @@ use Rattle.monitor.specs.State.{lentOf}
 use Rattle.monitor.specs.Contracts.{Starts}
 use Rattle.monitor.specs.declared.State.{State}
 use Rattle.monitor.specs.declared.Started.{Started}
-use Rattle.monitor.proofs.Taken.{handed-back}
 use Rattle.boundary.specs.Parts.{partsOf}
 use Rattle.boundary.specs.Numbers.{toldOf, StateFor, StartsAs, lengthsFit, fitting, TakesAs, openOf}
 use Rattle.boundary.specs.declared.Parts.{Parts}
@@ -88,7 +87,7 @@ module _ {s : State} {w buffer : List ℕ} {r : Told} where
       → TakesAs s w buffer r s' buffer'
   unfolding lengthsFit
   told-taken fit t e l m n o p =
-      record { answer = _; told = e; taken = λ f. (handed-back _ _ _ _ _ _ t, rw (l, m, n, o, p) fit); untaken = λ unfit. absurd (true≢false (sym fit ∙ unfit)) }
+      record { answer = _; told = e; taken = λ f. (t, rw (l, m, n, o, p) fit); untaken = λ unfit. absurd (true≢false (sym fit ∙ unfit)) }
 
 pub open-told : (s : Stored) {n : ℕ} → Opens s (Points n) → _≡_ {A = OpenParts} (record { number = 0; points = n }) (openOf s)
 unfolding openOf

@@ -17,11 +17,11 @@ use Rattle.weighing.specs.Weighs.{refusalOf}
 use Rattle.taking.specs.Answers.{takeAnswer}
 use Rattle.weighing.specs.declared.Refusal.{Refusal}
 use Rattle.weighing.specs.declared.Refusal.the-variants.{NotWellFormed, NotAnEvent, RowOut, TimeFalls, LogFull, Crowded, Backlog, KeptOver, BufferShort}
-use Rattle.lent.specs.Lent.{answerOf}
+use Rattle.lent.specs.Lent.{answerOf, Moves, stored as storedIn}
 use Rattle.lent.specs.declared.Answer.{Answer}
 use Rattle.lent.specs.declared.Answer.the-variants.{Written, Refused}
-use Rattle.monitor.specs.State.{stored}
-use Rattle.monitor.specs.Contracts.{Takes, Moves}
+use Rattle.monitor.specs.State.{lentOf, stored}
+use Rattle.monitor.specs.Contracts.{Takes}
 use Rattle.monitor.specs.Calls.{Call, Calls, takingOf, givenOf}
 use Rattle.monitor.specs.declared.State.{State}
 use Rattle.monitor.proofs.Logs.{log-then}
@@ -56,9 +56,9 @@ module _ (s : State) (c : Call) (formed : wellFormed (stored s) ≡ true) (t : T
   unfolding storedBy storedAfter
   call-stored = go (c .back .answer) (t .moved) ∙ ap (storedAfter (stored s) (c .event)) answers
     where
-      go : (a : Answer) → Moves s (c .event) (c .back .state) a → stored (c .back .state) ≡ storedAfter (stored s) (c .event) (answerOf a)
+      go : (a : Answer) → Moves (lentOf s) (c .event) (lentOf (c .back .state)) a → stored (c .back .state) ≡ storedAfter (stored s) (c .event) (answerOf a)
       go (Written words) m = m
-      go (Refused r) m = ap stored m ∙ sym (stays (stored s) (c .event) r)
+      go (Refused r) m = ap storedIn m ∙ sym (stays (stored s) (c .event) r)
 
 module _ (b : List ℕ) (a : Accepted) (ok : checking b ≡ given a) where
   -- what the calls gave back, and what is then stored

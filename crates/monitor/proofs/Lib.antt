@@ -1,6 +1,5 @@
 -- From what the contracts of the operations say to the claim about a whole list of takings (WholeList), and what the functions' proofs share.
 pub mod Starting
-pub mod Taken
 pub mod Logs
 pub mod Along
 pub mod WholeList

@@ -1,6 +1,5 @@
 -- `take` meets its contract, by what the taking leaves in the copies that it was lent.
 use borrow.Author.Needs.{needs}
-use Rattle.monitor.proofs.Taken.{handed-back}
 use Rattle.monitor.proofs.take.Statement.{statement}
 use Rattle.monitor.proofs.take.Tie as tie
 
@@ -8,7 +7,7 @@ take-requires : tie.Need-take-requires
 take-requires c κs = search needs
 
 returns : tie.Need-returns
-returns c = handed-back _ _ _ _ _ _ (c .before .before .before .before .before .before .before .take .ensures)
+returns c = c .before .before .before .before .before .before .before .take .ensures
 
 pub take-spec : {M : Type 1} → statement M
 take-spec =
