@@ -1,13 +1,18 @@
 -- `copy_bytes` meets its contract. The loop keeps that the bytes passed so far are copied.
-use Prim.Native.Nat.{_≤_, _-_}
+use Prim.Native.Nat.{ℕ, _+_, _-_, _≤_, _<_}
 use native.Mathlib.Omega.{arith}
-use mathlib.Core.Path.{_≡_, _∙_, ap}
-use lib.ListN.{length, take}
-use lib.Seq.{take-length}
+use native.Mathlib.Numerals.{add-one}
+use mathlib.Core.Path.{_≡_, sym, _∙_, ap}
+use mathlib.Core.List.{List}
+use lib.ListN.{length, getD, take, set}
+use lib.Seq.{take-length, take-suc, take-suc-set}
 use borrow.Author.Needs.{needs}
-use Rattle.lent.proofs.Front.{copied-more}
 use Rattle.monitor.proofs.copy_bytes.Statement.{statement}
 use Rattle.monitor.proofs.copy_bytes.Tie as tie
+
+-- one more is copied
+copied-more : (from to : List ℕ) (k : ℕ) → k < length from → k < length to → take k to ≡ take k from → take (k + 1) (set to k (getD from k 0)) ≡ take (k + 1) from
+copied-more from to k f t e = rw (add-one, take-suc-set to k (getD from k 0) t, e) (sym (take-suc from k 0 f))
 
 abbrev Inv-loop : tie.InvT-loop
 Inv-loop from to₀ n k₀ to k = (n ≡ length from) × (k ≤ n) × (length to ≡ length to₀) × (take k to ≡ take k from)
