@@ -19,7 +19,7 @@ add-all-aged-requires c κs =
 add-all-older-requires : tie.Need-add-all-older-requires
 add-all-older-requires c κs =
     let s = c .before .before .before .before .before .before .before .before .before .before .before .before .before .before .before in
-    (s .pre .0, (s .pre .1 .1 .0, room-then (c .before .before .before .before .before .before .before .add-young .ensures) (s .pre .1 .1 .1)))
+    (search needs, (s .pre .1 .1 .0, room-then (c .before .before .before .before .before .before .before .add-young .ensures) (s .pre .1 .1 .1)))
 
 returns : tie.Need-returns
 returns c =
