@@ -12,7 +12,7 @@ pub enum Term {
     Constant(u32),
 }
 
-// An atom's terms: the first `count` of the four. They stand before their count, as "keep" has its two: in other places a compiled node would be put together in memory by parts, which costs more than the rest of reading it.
+// An atom's terms: the first `count` of the four. They stand before their count, where "keep" has its two, so that a compiled node isn't put together by overlapping parts.
 pub struct Terms {
     pub first: Term,
     pub second: Term,
