@@ -56,6 +56,24 @@ fn rows_of_half_hour(i: usize) -> Vec<Row> {
     rows
 }
 
+// Each point reads all 8 blocks: 80 pairs are kept where a point comes every 200 seconds.
+fn rows_of_all_blocks(i: usize) -> Vec<Row> {
+    let mut rows: Vec<Row> = (0..8).map(|block| (1, vec![block])).collect();
+    if i % 4 == 0 {
+        rows.push((0, vec![(i / 4 % 9) as u32]));
+    }
+    rows
+}
+
+// Each point reads one of 31 blocks, in no order.
+fn rows_of_any_block(i: usize) -> Vec<Row> {
+    let mut rows = vec![(1, vec![((i * 7_919 + i / 13 * 104_729) % 31) as u32])];
+    if i % 4 == 0 {
+        rows.push((0, vec![(i / 4 % 32) as u32]));
+    }
+    rows
+}
+
 // Eight relations, each seen through two nodes, joined in pairs, and a comparison on top.
 fn nodes_32() -> Rule {
     let mut nodes = vec![];
@@ -92,6 +110,8 @@ fn cases() -> Vec<Case> {
         Case { name: "rule L", rule: rule_l(), step: 7, rows: rows_of_l },
         Case { name: "the half-hour rule, a reading every 40 s", rule: half_hour(), step: 40, rows: rows_of_half_hour },
         Case { name: "the half-hour rule, a reading every 20 s", rule: half_hour(), step: 20, rows: rows_of_half_hour },
+        Case { name: "the half-hour rule, all 8 blocks every 200 s", rule: half_hour(), step: 200, rows: rows_of_all_blocks },
+        Case { name: "the half-hour rule, one of 31 blocks in no order every 20 s", rule: half_hour(), step: 20, rows: rows_of_any_block },
         Case { name: "32 nodes", rule: nodes_32(), step: 10, rows: rows_of_nodes_32 },
     ]
 }

@@ -75,15 +75,18 @@ module _ (ws : List ℕ) (r : Row) (n p : ℕ) (up : ascending (rowsFrom ws 0 n)
       let z : 0 + p ≡ p = omega arith in
       any-listed (sameRow (wordsOf r)) (rowAt ws) 0 n p l (rw z e)
 
-  pub add-at : n ≤ mostHeld → {t : Bool} → t ≡ (ltb p n && sameRow (wordsOf r) (rowAt ws p)) → t ≡ true → Added ws n ws n (wordsOf r ∷ [])
-  add-at m is there =
-      let both : (ltb p n && sameRow (wordsOf r) (rowAt ws p)) ≡ true = sym is ∙ there in
-      let l : p < n = ltb-true p n (first (ltb p n) (sameRow (wordsOf r) (rowAt ws p)) both) in
+  pub add-found : n ≤ mostHeld → p < n → sameRow (wordsOf r) (rowAt ws p) ≡ true → Added ws n ws n (wordsOf r ∷ [])
+  add-found m l e =
       record {
         most = m;
         long = refl;
-        set = found-stays (rowsFrom ws 0 n) (wordsOf r) (look-member (wordsOf r) (rowsFrom ws 0 n) (rows-sized ws 0 n) up ∙ is-member l (second (ltb p n) (sameRow (wordsOf r) (rowAt ws p)) both));
+        set = found-stays (rowsFrom ws 0 n) (wordsOf r) (look-member (wordsOf r) (rowsFrom ws 0 n) (rows-sized ws 0 n) up ∙ is-member l e);
       }
+
+  pub add-at : n ≤ mostHeld → {t : Bool} → t ≡ (ltb p n && sameRow (wordsOf r) (rowAt ws p)) → t ≡ true → Added ws n ws n (wordsOf r ∷ [])
+  add-at m is there =
+      let both : (ltb p n && sameRow (wordsOf r) (rowAt ws p)) ≡ true = sym is ∙ there in
+      add-found m (ltb-true p n (first (ltb p n) (sameRow (wordsOf r) (rowAt ws p)) both)) (second (ltb p n) (sameRow (wordsOf r) (rowAt ws p)) both)
 
 -- an ascending set still ascends with rows put in
 pub added-ascends : {old : List ℕ} {n : ℕ} {new : List ℕ} {k : ℕ} {rows : List (List ℕ)} → Added old n new k rows → ascending (rowsFrom old 0 n) ≡ true → ascending (rowsFrom new 0 k) ≡ true

@@ -8,7 +8,7 @@ ghost use lib.Dec.{ltb};
 ghost use Rattle.meaning.specs.Lists.{sameRow};
 ghost use Rattle.meaning.specs.Order.{before, ascending};
 ghost use Rattle.rowset.specs.Rows.{wordsOf, rowAt, setRow, rowsFrom, lookUp, placeOf};
-ghost use Rattle.rowset.specs.Sets.{Run, Room, Added};
+ghost use Rattle.rowset.specs.Sets.{Run, Room, Found, Added};
 
 // A valuation: the values of variables 0 to 3, 0 where one isn't free.
 pub struct Row {
@@ -88,23 +88,31 @@ pub fn place(ws: &[u32], from: usize, to: usize, r: Row) -> usize
     i
 }
 
-// The row is in the run: looking for it stops at the first row that isn't before it.
-pub fn contains(ws: &[u32], from: usize, to: usize, r: Row) -> bool
+// The number of the row in the run, or the run's end where it isn't there: looking for it stops at the first row that isn't before it.
+fn find(ws: &[u32], from: usize, to: usize, r: Row) -> usize
     requires { ⌜ Run (now ws) from to ⌝ }
-    ensures { λ t. ⌜ t ≡ lookUp (wordsOf r) (rowsFrom (now (ws .entry)) from (to - from)) ⌝ }
+    ensures { λ p. ⌜ Found (now (ws .entry)) from to (wordsOf r) p ⌝ }
 {
     let mut i = from;
     while i < to {
         let u = row_at(ws, i);
         if same_row(r, u) {
-            return true;
+            return i;
         }
         if !is_before(u, r) {
-            return false;
+            return to;
         }
         i += 1;
     }
-    false
+    to
+}
+
+// The row is in the run.
+pub fn contains(ws: &[u32], from: usize, to: usize, r: Row) -> bool
+    requires { ⌜ Run (now ws) from to ⌝ }
+    ensures { λ t. ⌜ t ≡ lookUp (wordsOf r) (rowsFrom (now (ws .entry)) from (to - from)) ⌝ }
+{
+    find(ws, from, to, r) < to
 }
 
 // Row p is one of the first n, and doesn't stand after r.
@@ -200,17 +208,16 @@ fn add_near(out: &mut [u32], n: usize, near: usize, r: Row) -> Gathered
             near: before_in_turn(near, n),
         };
     }
-    let p = place(out, 0, n, r);
-    let next = before_in_turn(p, n);
-    if is_at(out, n, p, r) {
+    let p = find(out, 0, n, r);
+    if p < n {
         return Gathered {
             count: n,
-            near: next,
+            near: before_in_turn(p, n),
         };
     }
     Gathered {
         count: add(out, n, r),
-        near: next,
+        near: 0,
     }
 }
 

@@ -1,16 +1,22 @@
--- `contains` meets its contract. The loop's invariant: the row is in the run where it is in the rest of it.
-use Prim.Native.Nat.{_-_, _≤_}
+-- `find` meets its contract. The loop's invariant: the row is in the run where it is in the rest of it.
+use Prim.Native.Nat.{ℕ, _-_, _≤_}
 use native.Mathlib.Omega.{arith}
 use borrow.Author.Needs.{needs}
-use borrow.Author.Tests.{not-true, not-false}
+use borrow.Author.Tests.{lt-ltb, le-ltb, not-true, not-false}
 use mathlib.Core.Path.{_≡_, refl, sym, _∙_}
 use mathlib.Core.Bool.{true, false}
+use mathlib.Core.List.{List}
 use Rattle.meaning.specs.Lists.{sameRow}
 use Rattle.meaning.specs.Order.{before}
 use Rattle.rowset.specs.Rows.{wordsOf, rowAt, rowsFrom, lookUp}
+use Rattle.rowset.specs.Sets.{Found}
 use Rattle.rowset.proofs.Runs.{look-here, look-stops, look-more, look-end}
-use Rattle.rowset.proofs.contains.Statement.{statement}
-use Rattle.rowset.proofs.contains.Tie as tie
+use Rattle.rowset.proofs.find.Statement.{statement}
+use Rattle.rowset.proofs.find.Tie as tie
+
+-- where it isn't found, the end is answered
+at-end : (ws : List ℕ) (from to : ℕ) (r : List ℕ) → lookUp r (rowsFrom ws from (to - from)) ≡ false → Found ws from to r to
+at-end ws from to r e = record { found = le-ltb to to (omega arith) ∙ sym e; there = λ l. absurd (omega arith) }
 
 abbrev Inv-loop : tie.InvT-loop
 Inv-loop ws from to r i₀ i =
@@ -27,7 +33,8 @@ returns c =
     let a = c .before .before .before .before .before .before .args in
     let l = c .before .before .before .before .loop in
     let e : sameRow (wordsOf (a .r)) (rowAt (a .ws .now) (l .i)) ≡ true = cc (c .if1 .taken) in
-    sym (l .inv .1 ∙ look-here (a .ws .now) (wordsOf (a .r)) (a .to) (l .i) (c .before .before .before .loop-test .taken) e)
+    let b = c .before .before .before .loop-test .taken in
+    record { found = lt-ltb (l .i) (a .to) b ∙ sym (l .inv .1 ∙ look-here (a .ws .now) (wordsOf (a .r)) (a .to) (l .i) b e); there = λ _. e }
 
 returns-2 : tie.Need-returns-2 Inv-loop μ-loop
 returns-2 c =
@@ -35,7 +42,7 @@ returns-2 c =
     let l = c .before .before .before .before .before .before .loop in
     let e : sameRow (wordsOf (a .r)) (rowAt (a .ws .now) (l .i)) ≡ false = cc (c .before .before .if1 .left) in
     let f : before (rowAt (a .ws .now) (l .i)) (wordsOf (a .r)) ≡ false = cc (not-true (c .before .is-before .result) (c .if2 .taken)) in
-    sym (l .inv .1 ∙ look-stops (a .ws .now) (wordsOf (a .r)) (a .to) (l .i) (c .before .before .before .before .before .loop-test .taken) e f)
+    at-end (a .ws .now) (a .from) (a .to) (wordsOf (a .r)) (l .inv .1 ∙ look-stops (a .ws .now) (wordsOf (a .r)) (a .to) (l .i) (c .before .before .before .before .before .loop-test .taken) e f)
 
 loop-again : tie.Need-loop-again Inv-loop μ-loop
 loop-again c =
@@ -47,10 +54,10 @@ loop-again c =
 returns-3 : tie.Need-returns-3 Inv-loop μ-loop
 returns-3 c =
     let a = c .before .before .before .args in
-    sym (c .before .loop .inv .1 ∙ look-end (a .ws .now) (wordsOf (a .r)) (a .to) (c .before .loop .i) (c .loop-test .left))
+    at-end (a .ws .now) (a .from) (a .to) (wordsOf (a .r)) (c .before .loop .inv .1 ∙ look-end (a .ws .now) (wordsOf (a .r)) (a .to) (c .before .loop .i) (c .loop-test .left))
 
-pub contains-spec : {M : Type 1} → statement M
-contains-spec =
+pub find-spec : {M : Type 1} → statement M
+find-spec =
     tie.close
     (tie.spec Inv-loop μ-loop loop-holds
     (λ c κs. omega arith)
