@@ -14,9 +14,9 @@ use Rattle.meaning.proofs.Points.{Tested, passed, failed, tested}
 use Rattle.meaning.proofs.Accepted.{accepted, nodes-most, last-is-node}
 use Rattle.method.specs.Stored.{Stored}
 use Rattle.method.specs.Step.{countBefore, openStored}
-use Rattle.method.specs.WellFormed.{mostTimes, wellFormed}
+use Rattle.method.specs.WellFormed.{mostTimes, wellFormed, Formed}
 use Rattle.method.proofs.Turns.{from-getD}
-use Rattle.method.proofs.Formed.{Formed, formed}
+use Rattle.method.proofs.Formed.{formed}
 use Rattle.method.proofs.Bounds.{before-most}
 use Rattle.shelf.specs.Entries.{entryAt, entriesFrom}
 use Rattle.formed.specs.Known.{storedIn, Known}

@@ -22,8 +22,8 @@ use Rattle.meaning.proofs.Rows.{all-points}
 use Rattle.method.specs.WellFormed.{setFits, pairsFit}
 use Rattle.rowset.specs.Rows.{rowsFrom}
 use Rattle.kinds.specs.Kinds.{pairsFrom}
-use Rattle.shelf.specs.Entries.{entryAt, entriesFrom, runOf, pairRunOf}
-use Rattle.shelf.proofs.Walking.{hasOwner, isEntry, RunAt, PairsAt, run-walked, pairs-walked}
+use Rattle.shelf.specs.Entries.{entryAt, entriesFrom, runOf, pairRunOf, hasOwner, isEntry}
+use Rattle.shelf.proofs.Walking.{RunAt, PairsAt, run-walked, pairs-walked}
 use Rattle.shelving.proofs.Paired.{pairOf, entries-pairs}
 use Rattle.formed.specs.Tests.{MaskOf, rowsFit}
 use Rattle.formed.specs.Walk.{front, behind, setsRest, rowsFound, pairsFound, nodesRest, runsFit, entriesFit}

@@ -23,7 +23,8 @@ use Rattle.method.proofs.Turns.{gather-over}
 use Rattle.method.proofs.Held.{nodeOf, of-node, held-is, heldPairs-is}
 use Rattle.method.proofs.Formed.{same-entries, entries-same}
 use Rattle.rulefile.proofs.Ranges.{gather-last}
-use Rattle.shelf.proofs.Walking.{begins, hasOwner, isEntry, all-are}
+use Rattle.shelf.specs.Entries.{begins, hasOwner, isEntry}
+use Rattle.shelf.proofs.Walking.{all-are}
 use Rattle.shelving.specs.Shelved.{setEntries, agedEntries}
 use Rattle.shelving.proofs.Gathered.{sets-more, sets-first, sets-later}
 use Rattle.shelving.proofs.Paired.{pairOf, all-owned}

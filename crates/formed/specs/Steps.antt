@@ -5,8 +5,7 @@ use mathlib.Core.Bool.{true, false}
 use mathlib.Core.List.{List}
 use Rattle.meaning.specs.Kept.{Entry}
 use Rattle.meaning.specs.declared.Point.{Point}
-use Rattle.shelf.specs.Entries.{entriesFrom}
-use Rattle.shelf.proofs.Walking.{hasOwner}
+use Rattle.shelf.specs.Entries.{entriesFrom, hasOwner}
 use Rattle.formed.specs.declared.Walked.{Walked}
 use Rattle.formed.specs.declared.Walked.the-variants.{To, Stuck}
 use Rattle.formed.specs.Tests.{rowsFit}

@@ -9,7 +9,7 @@ use Rattle.meaning.specs.Kept.{Entry}
 use Rattle.meaning.specs.declared.Point.{Point}
 use Rattle.method.specs.Stored.{held, heldPairs}
 use Rattle.method.specs.WellFormed.{sameEntries, setFits, pairsFit}
-use Rattle.shelf.proofs.Walking.{hasOwner, isEntry}
+use Rattle.shelf.specs.Entries.{hasOwner, isEntry}
 use Rattle.shelving.specs.Shelved.{setEntries, agedEntries}
 
 module _ {A : Type 0} where

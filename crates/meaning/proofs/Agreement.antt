@@ -12,14 +12,15 @@ use Rattle.meaning.specs.Lists.{all, any, select, sameRow}
 use Rattle.meaning.specs.Log.{Log, Row, size, time, rowsAt, elapsed, pointBefore, pointAfter, pointsFrom}
 use Rattle.meaning.specs.Formula.{Formula, atom, and, andNot, keep, or, exists, previous, next, since, notSince, until, notUntil, once, eventually, inWindow, compares, isVariable, free, variables, within, termWithin}
 use Rattle.meaning.specs.Definition2.{Valuation, value, replaced, Since, Until, Holds}
-use Rattle.meaning.specs.Order.{ascending}
+use Rattle.meaning.specs.Order.{ascending, OfLength}
 use Rattle.meaning.specs.Evaluator.{cutTo, valuationOf, setOf, bound, matches, atomRows, agrees, joined, andRows, lasting, sinceRows, leading, untilRows, among, vals}
+use Rattle.meaning.specs.Exact.{Gives, Exact}
 use Rattle.meaning.specs.declared.Point.{Point}
 use Rattle.meaning.specs.declared.Term.{Term}
 use Rattle.meaning.specs.declared.Term.the-variants.{Variable, Constant}
 use Rattle.meaning.specs.declared.Window.{Window}
 use Rattle.meaning.proofs.Fine.{Fine, named}
-use Rattle.meaning.proofs.Rows.{either, both-ways, neither, denied, any-at, all-at, all-of, cond-at, cond-of, select-at, select-of, gather-at, gather-of, points-at, points-of, all-points, same-row, member-row, variables-of, variables-at, words-same, words-at, word-at, words-equal, OfLength, setOf-mem, setOf-ascends}
+use Rattle.meaning.proofs.Rows.{either, both-ways, neither, denied, any-at, all-at, all-of, cond-at, cond-of, select-at, select-of, gather-at, gather-of, points-at, points-of, all-points, same-row, member-row, variables-of, variables-at, words-same, words-at, word-at, words-equal, setOf-mem, setOf-ascends}
 
 -- Valuations cut down to some variables.
 within-at : (f g : ℕ → Bool) → within f g ≡ true → (x : ℕ) → x < 4 → f x ≡ true → g x ≡ true
@@ -48,16 +49,6 @@ cut-within f g v w = cut-same f (λ x h e. cut-at g v x h (within-at f g w x h e
 
 cut-both : (f g : ℕ → Bool) (v : Valuation) → within f g ≡ true → within g f ≡ true → cutTo f v ≡ cutTo g v
 cut-both f g v a b = words-same (λ x h. let e : f x ≡ g x = both-ways (f x) (g x) (within-at f g a x h) (within-at g f b x h) in ap (λ (t : Bool). cond t (v x) 0) e)
-
--- The rows are the valuations that satisfy H, cut down to f: nothing but these, and none missing.
-pub record Gives (f : ℕ → Bool) (H : Valuation → Type 0) (rows : List (List ℕ)) : Type 0 where
-  pub cut : (u : List ℕ) → List·Memᴰ u rows → u ≡ cutTo f (valuationOf u)
-  pub same : (v : Valuation) → List·Memᴰ (cutTo f v) rows ↔ H v
-
--- The promises of an evaluator: nothing but the satisfying valuations, none missing, each once, in order.
-pub record Exact (f : ℕ → Bool) (H : Valuation → Type 0) (rows : List (List ℕ)) : Type 0 where
-  pub gives : Gives f H rows
-  pub ascends : ascending rows ≡ true
 
 module _ {f : ℕ → Bool} {H : Valuation → Type 0} {rows : List (List ℕ)} (g : Gives f H rows) where
   pub gives-length : OfLength 4 rows

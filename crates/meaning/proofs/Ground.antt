@@ -14,7 +14,8 @@ use Rattle.meaning.specs.Settled.{settled}
 use Rattle.meaning.specs.RuleFile.{Accepted, checking, nodeCount, formulaAt, pattern}
 use Rattle.meaning.specs.declared.Point.{Point}
 use Rattle.meaning.specs.declared.Stamp.{Stamp}
-use Rattle.meaning.proofs.Agreement.{Exact, exact}
+use Rattle.meaning.specs.Exact.{Exact}
+use Rattle.meaning.proofs.Agreement.{exact}
 use Rattle.meaning.proofs.Accepted.{accepted, fine}
 use Rattle.meaning.proofs.Growth.{Extends, extends, ordered-before, at-latest}
 use Rattle.meaning.proofs.Settles.{prefix, stays, reached}

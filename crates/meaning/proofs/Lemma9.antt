@@ -10,14 +10,15 @@ use Rattle.meaning.specs.Lists.{select}
 use Rattle.meaning.specs.Log.{Log, time, elapsed, pointsFrom}
 use Rattle.meaning.specs.Formula.{Formula, since, notSince, once, free}
 use Rattle.meaning.specs.Definition2.{Valuation, Holds}
-use Rattle.meaning.specs.Order.{ascending}
+use Rattle.meaning.specs.Order.{ascending, OfLength}
 use Rattle.meaning.specs.Evaluator.{cutTo, valuationOf, setOf, lasting, among, vals}
 use Rattle.meaning.specs.Kept.{belowEnd, countedAge, pairRows, pairs}
 use Rattle.meaning.specs.declared.Point.{Point}
 use Rattle.meaning.specs.declared.Window.{Window}
 use Rattle.meaning.proofs.Fine.{Fine}
-use Rattle.meaning.proofs.Rows.{select-at, select-of, gather-at, gather-of, points-at, points-of, OfLength, setOf-mem, setOf-ascends}
-use Rattle.meaning.proofs.Agreement.{Exact, asked-holds, asked-denied, asked-always, lasting-mem, exact}
+use Rattle.meaning.proofs.Rows.{select-at, select-of, gather-at, gather-of, points-at, points-of, setOf-mem, setOf-ascends}
+use Rattle.meaning.specs.Exact.{Exact}
+use Rattle.meaning.proofs.Agreement.{asked-holds, asked-denied, asked-always, lasting-mem, exact}
 
 -- "there is a j ∈ [0, i+1) such that y = τi − τj < d, a ∈ γ at j, and a ∈ β at k, for all k ∈ [j+1, i+1)", with y as ages count where the window has no end
 pub record Aged (l : Log) (w : Window) (left right : Point → Type 0) (i : Point) (y : ℕ) : Type 0 where

@@ -12,7 +12,7 @@ use native.Mathlib.Omega.{arith}
 use Rattle.meaning.specs.Lists.{all, any, select, gather, range, sameRow}
 use Rattle.meaning.specs.Log.{point, pointsFrom}
 use Rattle.meaning.specs.Formula.{variables}
-use Rattle.meaning.specs.Order.{before, ascending}
+use Rattle.meaning.specs.Order.{before, ascending, OfLength}
 use Rattle.meaning.specs.Evaluator.{insert, insertAll, setOf, member}
 use Rattle.meaning.specs.declared.Point.{Point}
 
@@ -244,10 +244,6 @@ insert-at {r} s (t ∷ rows) m =
 pub insert-keeps : {r : List ℕ} (s : List ℕ) {rows : List (List ℕ)} → List·Memᴰ r rows → List·Memᴰ r (insert s rows)
 insert-keeps {r} s (List·Memᴰ·head {x = t} {xs = rows} e) = insert-cases (List·Memᴰ r) s t rows (λ h. List·Memᴰ·tail (List·Memᴰ·head e)) (λ h. List·Memᴰ·head e) (λ h k. List·Memᴰ·head e)
 insert-keeps {r} s (List·Memᴰ·tail {x = t} {xs = rows} m) = insert-cases (List·Memᴰ r) s t rows (λ h. List·Memᴰ·tail (List·Memᴰ·tail m)) (λ h. List·Memᴰ·tail (insert-keeps s m)) (λ h k. List·Memᴰ·tail m)
-
--- rows of one length, which the order tells apart
-abbrev pub OfLength : ℕ → List (List ℕ) → Type 0
-OfLength n rows = (r : List ℕ) → List·Memᴰ r rows → length r ≡ n
 
 pub insert-puts : (s : List ℕ) (rows : List (List ℕ)) → OfLength (length s) rows → List·Memᴰ s (insert s rows)
 insert-puts s [] long = List·Memᴰ·head refl

@@ -18,7 +18,7 @@ use Rattle.meaning.specs.declared.Node.the-variants.{Atom, And, AndNot, Keep, O
 use Rattle.meaning.proofs.Points.{Tested, passed, failed, tested}
 use Rattle.meaning.proofs.Accepted.{accepted, lower}
 use Rattle.method.specs.Stored.{Stored, baseOf, stampIn, leastOf, firstRetained}
-use Rattle.method.specs.Counts.{scan, untilCount, advance, countsTo}
+use Rattle.method.specs.Counts.{scan, untilCount, advance, countsTo, Consults}
 use Rattle.method.specs.Step.{firstWanted, wantedFrom, countsStored, countBefore, stampsNow, countsAfter, countAfter}
 use Rattle.method.specs.WellFormed.{mostTimes}
 use Rattle.method.proofs.Counted.{counts-length, counts-old, counts-new}
@@ -266,23 +266,6 @@ module _ (s : Stored) (a : Accepted) (ok : checking (s .rule) ≡ given a)
     span x o = omega (arith, retained, wanted-retained x o, after-most x o)
 
 -- ---- what a newly settled point consults is settled
-
--- what node asks of its children's counts c where it settles point i
-abbrev pub Consults : (ℕ → ℕ) → ℕ → Node → Type 0
-Consults c i (Atom r t) = Unit
-Consults c i (And a b) = (i < c a) × (i < c b)
-Consults c i (AndNot a b) = (i < c a) × (i < c b)
-Consults c i (Keep a k s) = i < c a
-Consults c i (Or a b) = (i < c a) × (i < c b)
-Consults c i (Exists a x) = i < c a
-Consults c i (Previous a w) = 0 < i → i - 1 < c a
-Consults c i (Next a w) = i + 1 < c a
-Consults c i (Since a b w) = (i < c a) × (i < c b)
-Consults c i (NotSince a b w) = (i < c a) × (i < c b)
-Consults c i (Until a b w) = i < min (c a) (c b)
-Consults c i (NotUntil a b w) = i < min (c a) (c b)
-Consults c i (Once a w) = i < c a
-Consults c i (Eventually a w) = i < c a
 
 pub consults : (τ : Point → Stamp) (n : ℕ) (c : ℕ → ℕ) (start : ℕ) (node : Node) (i : ℕ) → start ≤ i → i < advance τ n c start node → Consults c i node
 consults τ n c start (Atom r t) i h u = tt

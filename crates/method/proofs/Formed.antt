@@ -15,7 +15,7 @@ use Rattle.meaning.proofs.Points.{both, first, second}
 use Rattle.meaning.proofs.Rows.{all-at, all-points, range-of, same-row}
 use Rattle.method.specs.Stored.{Stored, held, firstRetained}
 use Rattle.method.specs.Step.{wantedFrom, countsStored, countBefore}
-use Rattle.method.specs.WellFormed.{mostTimes, isAccepted, notFalling, sameEntry, sameEntries, setFits, ownEntries, nodeFits, wellFormed}
+use Rattle.method.specs.WellFormed.{mostTimes, isAccepted, notFalling, sameEntry, sameEntries, setFits, ownEntries, nodeFits, wellFormed, Formed}
 
 -- two lists of entries are the same where the test says so
 pub same-entries : (es fs : List Entry) → es ≡ fs → sameEntries es fs ≡ true
@@ -38,18 +38,6 @@ entries-same [] [] t = refl
 entries-same [] (f ∷ fs) t = absurd (false≢true t)
 entries-same (e ∷ es) [] t = absurd (false≢true t)
 entries-same (e ∷ es) (f ∷ fs) t = ap₂ (λ x xs. x ∷ xs) (entry-same e f (first (sameEntry e f) (sameEntries es fs) t)) (entries-same es fs (second (sameEntry e f) (sameEntries es fs) t))
-
--- what the parts say of a stored state
-pub record Formed (s : Stored) : Type 0 where
-  pub accepted : (a : Accepted) × (checking (s .rule) ≡ given a)
-  pub few-points : s .points ≤ mostPoints
-  pub few-times : length (s .times) ≤ mostTimes
-  pub times-many : length (s .times) ≡ s .points - firstRetained (s .points) (countsStored s)
-  pub rising : notFalling (s .times) ≡ true
-  pub few-kept : length (s .entries) ≤ mostKept
-  pub entries-own : s .entries ≡ gather (ownEntries s) (range 0 (nodeCount (s .rule)))
-  pub nodes-fit : (x : ℕ) → x < nodeCount (s .rule) → nodeFits s x ≡ true
-  pub sets-few : (x : ℕ) → x < nodeCount (s .rule) → (j : Point) → wantedFrom (s .rule) (countBefore s) x ≤ j .0 → j .0 < countBefore s x → length (held (s .entries) x j) ≤ mostRows
 
 pub is-accepted : (o : Outcome Accepted) → isAccepted o ≡ true → (a : Accepted) × (o ≡ given a)
 is-accepted (refused n p) t = absurd (false≢true t)

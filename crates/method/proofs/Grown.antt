@@ -19,7 +19,8 @@ use Rattle.meaning.specs.declared.Stamp.{Stamp}
 use Rattle.meaning.specs.declared.Window.{Window}
 use Rattle.meaning.proofs.Fine.{Fine}
 use Rattle.meaning.proofs.Points.{both}
-use Rattle.meaning.proofs.Rows.{both-ways, select-at, select-of, gather-at, gather-of, points-at, points-of, OfLength, setOf-mem, setOf-ascends, ascending-same}
+use Rattle.meaning.specs.Order.{OfLength}
+use Rattle.meaning.proofs.Rows.{both-ways, select-at, select-of, gather-at, gather-of, points-at, points-of, setOf-mem, setOf-ascends, ascending-same}
 use Rattle.meaning.proofs.Agreement.{lasting-mem, rows-length}
 use Rattle.method.specs.Settle.{grow, older, grownBy, oldEnough}
 

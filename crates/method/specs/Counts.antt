@@ -1,5 +1,5 @@
 -- How many points each node has settled, from the time stamps alone.
-use Prim.Native.Nat.{ℕ, zero, suc, _+_, _-_, min}
+use Prim.Native.Nat.{ℕ, zero, suc, _+_, _-_, _<_, min}
 use mathlib.Core.Bool.{cond}
 use mathlib.Core.List.{List, [], _∷_, _++_}
 use lib.ListN.{getD}
@@ -41,3 +41,20 @@ advance τ n count from (Eventually a w) = untilCount τ n (w .end) (count a) fr
 abbrev pub countsTo : List ℕ → (Point → Stamp) → ℕ → (ℕ → ℕ) → ℕ → List ℕ
 countsTo b τ n from zero = []
 countsTo b τ n from (suc x) = countsTo b τ n from x ++ advance τ n (λ y. getD (countsTo b τ n from x) y 0) (from x) (nodeAt b x) ∷ []
+
+-- what node asks of its children's counts c where it settles point i
+abbrev pub Consults : (ℕ → ℕ) → ℕ → Node → Type 0
+Consults c i (Atom r t) = Unit
+Consults c i (And a b) = (i < c a) × (i < c b)
+Consults c i (AndNot a b) = (i < c a) × (i < c b)
+Consults c i (Keep a k s) = i < c a
+Consults c i (Or a b) = (i < c a) × (i < c b)
+Consults c i (Exists a x) = i < c a
+Consults c i (Previous a w) = 0 < i → i - 1 < c a
+Consults c i (Next a w) = i + 1 < c a
+Consults c i (Since a b w) = (i < c a) × (i < c b)
+Consults c i (NotSince a b w) = (i < c a) × (i < c b)
+Consults c i (Until a b w) = i < min (c a) (c b)
+Consults c i (NotUntil a b w) = i < min (c a) (c b)
+Consults c i (Once a w) = i < c a
+Consults c i (Eventually a w) = i < c a

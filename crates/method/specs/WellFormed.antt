@@ -1,5 +1,6 @@
 -- When what is stored is well formed: the conditions of refusal 8, as docs/STATE.md lists them. What a log stores is so (proofs/Reached.antt).
-use Prim.Native.Nat.{ℕ, _-_}
+use Prim.Native.Nat.{ℕ, _-_, _≤_, _<_}
+use mathlib.Core.Path.{_≡_}
 use mathlib.Core.Bool.{Bool, true, false, _&&_}
 use mathlib.Core.List.{List, [], _∷_, _++_, map}
 use lib.ListN.{length, getD, drop}
@@ -12,6 +13,7 @@ use Rattle.meaning.specs.Formula.{free}
 use Rattle.meaning.specs.Evaluator.{cutTo, valuationOf}
 use Rattle.meaning.specs.RuleFile.{Accepted, checking, nodeCount, nodeAt, formulaAt}
 use Rattle.meaning.specs.Kept.{belowEnd, countedAge, Entry, entryOf}
+use Rattle.meaning.specs.declared.Point.{Point}
 use Rattle.meaning.specs.declared.Window.{Window}
 use Rattle.meaning.specs.declared.Node.{Node}
 use Rattle.meaning.specs.declared.Node.the-variants.{Atom, And, AndNot, Keep, Or, Exists, Previous, Next, Since, NotSince, Until, NotUntil, Once, Eventually}
@@ -93,3 +95,15 @@ module _ (s : Stored) where
       && leb (length (s .entries)) mostKept
       && sameEntries (s .entries) (gather ownEntries (range 0 (nodeCount (s .rule))))
       && all nodeFits (range 0 (nodeCount (s .rule)))
+
+-- what the parts say of a stored state
+pub record Formed (s : Stored) : Type 0 where
+  pub accepted : (a : Accepted) × (checking (s .rule) ≡ given a)
+  pub few-points : s .points ≤ mostPoints
+  pub few-times : length (s .times) ≤ mostTimes
+  pub times-many : length (s .times) ≡ s .points - firstRetained (s .points) (countsStored s)
+  pub rising : notFalling (s .times) ≡ true
+  pub few-kept : length (s .entries) ≤ mostKept
+  pub entries-own : s .entries ≡ gather (ownEntries s) (range 0 (nodeCount (s .rule)))
+  pub nodes-fit : (x : ℕ) → x < nodeCount (s .rule) → nodeFits s x ≡ true
+  pub sets-few : (x : ℕ) → x < nodeCount (s .rule) → (j : Point) → wantedFrom (s .rule) (countBefore s) x ≤ j .0 → j .0 < countBefore s x → length (held (s .entries) x j) ≤ mostRows

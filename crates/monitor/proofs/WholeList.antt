@@ -15,7 +15,7 @@ use Rattle.meaning.specs.Kept.{kept, openPoints}
 use Rattle.meaning.specs.Keeper.{newlySettled, keeper}
 use Rattle.meaning.specs.declared.Point.{Point}
 use Rattle.meaning.proofs.Accepted.{last-is-node}
-use Rattle.meaning.proofs.Agreement.{Exact}
+use Rattle.meaning.specs.Exact.{Exact}
 use Rattle.meaning.proofs.Ground.{steady-meaning, reach-promise}
 use Rattle.method.specs.Step.{keptStored, openStored}
 use Rattle.method.specs.WellFormed.{wellFormed}

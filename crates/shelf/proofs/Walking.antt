@@ -11,16 +11,11 @@ use Rattle.meaning.specs.Lists.{range, all}
 use Rattle.meaning.specs.Kept.{Entry, entryOf}
 use Rattle.meaning.proofs.Points.{Tested, passed, failed, tested, both, first, second}
 use Rattle.rowset.specs.Rows.{rowsFrom}
-use Rattle.shelf.specs.Entries.{entryAt, entriesFrom, streak, isOf, isOwned, runOf, pairRunOf}
+use Rattle.shelf.specs.Entries.{entryAt, entriesFrom, streak, isOf, isOwned, runOf, pairRunOf, hasOwner, isEntry, begins}
 use Rattle.shelf.proofs.Streaks.{streak-same}
 use Rattle.shelf.proofs.Listed.{map-twice}
 
 module _ {A : Type 0} where
-  -- the first of them passes
-  abbrev pub begins : (A → Bool) → List A → Bool
-  begins q [] = false
-  begins q (x ∷ xs) = q x
-
   -- from cursor on there are these, all of which pass, and then the rest
   pub record Walked (at : ℕ → A) (q : A → Bool) (cursor left : ℕ) (xs rest : List A) : Type 0 where
     pub fits : length xs ≤ left
@@ -51,13 +46,6 @@ module _ {A : Type 0} where
         these = ap₂ (λ y ys. y ∷ ys) e (w .these);
         behind = rw (m, n) at (w .behind);
       }
-
--- an entry has that owner, and number
-abbrev pub hasOwner : ℕ → ℕ → Entry → Bool
-hasOwner x mark e = eqb (e .node) x && eqb (e .mark) mark
-
-abbrev pub isEntry : ℕ → ℕ → ℕ → Entry → Bool
-isEntry x mark number e = hasOwner x mark e && eqb (e .number) number
 
 -- an owner in one word or in two parts
 owner-parts : (w x mark : ℕ) → mark < 2 → eqb w (x * 2 + mark) ≡ (eqb (w / 2) x && eqb (w % 2) mark)

@@ -2,8 +2,8 @@
 -- Entries of one owner and number stand together: a run.
 use Prim.Native.Nat.{ℕ, zero, suc, _-_, _*_, _/_, _%_, _≤_}
 use mathlib.Core.Path.{_≡_}
-use mathlib.Core.Bool.{Bool, cond, _&&_}
-use mathlib.Core.List.{List, _++_, map}
+use mathlib.Core.Bool.{Bool, false, cond, _&&_}
+use mathlib.Core.List.{List, [], _∷_, _++_, map}
 use lib.ListN.{length, getD}
 use lib.Dec.{eqb}
 use Rattle.meaning.specs.Outcome.{mostKept}
@@ -45,6 +45,19 @@ runOf owners numbers cursor count owner number = streak (isOf owners numbers own
 -- the same of an owner with any number
 unfoldable pub pairRunOf : List ℕ → ℕ → ℕ → ℕ → ℕ
 pairRunOf owners cursor count owner = streak (isOwned owners owner) cursor (count - cursor)
+
+-- an entry has that owner, and number
+abbrev pub hasOwner : ℕ → ℕ → Entry → Bool
+hasOwner x mark e = eqb (e .node) x && eqb (e .mark) mark
+
+abbrev pub isEntry : ℕ → ℕ → ℕ → Entry → Bool
+isEntry x mark number e = hasOwner x mark e && eqb (e .number) number
+
+module _ {A : Type 0} where
+  -- the first of them passes
+  abbrev pub begins : (A → Bool) → List A → Bool
+  begins q [] = false
+  begins q (x ∷ xs) = q x
 
 -- count entries stand in the lists, or have room there
 pub record Stands (owners numbers values : List ℕ) (count : ℕ) : Type 0 where

@@ -12,7 +12,7 @@ use Rattle.meaning.specs.Kept.{Entry, entryOf}
 use Rattle.meaning.specs.declared.Point.{Point}
 use Rattle.meaning.proofs.Lists.{gather-append}
 use Rattle.meaning.proofs.Points.{pointsFrom-append}
-use Rattle.shelf.proofs.Walking.{begins, hasOwner, isEntry}
+use Rattle.shelf.specs.Entries.{begins, hasOwner, isEntry}
 use Rattle.shelving.specs.Shelved.{setEntries}
 
 module _ (x : ℕ) (S : Point → List (List ℕ)) where

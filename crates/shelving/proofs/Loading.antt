@@ -13,11 +13,11 @@ use Rattle.meaning.specs.declared.Point.{Point}
 use Rattle.meaning.proofs.Points.{Tested, passed, failed, tested}
 use Rattle.rowset.specs.Rows.{rowsFrom}
 use Rattle.room.specs.Room.{setIn, Laid}
-use Rattle.shelf.specs.Entries.{entriesFrom, runOf}
+use Rattle.shelf.specs.Entries.{entriesFrom, runOf, begins, hasOwner}
 use Rattle.shelf.specs.Appended.{Space, Pushed}
 use Rattle.shelf.proofs.Growth.{pushed-set, extended-none, extended-as, extended-next}
 use Rattle.shelf.proofs.Packing.{run-within}
-use Rattle.shelf.proofs.Walking.{begins, hasOwner, RunAt, run-walked}
+use Rattle.shelf.proofs.Walking.{RunAt, run-walked}
 use Rattle.shelving.specs.Shelved.{setEntries, Spaces, Taken, Loaded}
 use Rattle.shelving.proofs.Gathered.{sets-first, sets-later}
 

@@ -9,12 +9,12 @@ use borrow.Author.Tests.{eq-eqb}
 use Rattle.meaning.specs.Lists.{range, all}
 use Rattle.meaning.specs.Kept.{Entry}
 use Rattle.meaning.proofs.Points.{both}
-use Rattle.meaning.proofs.Rows.{OfLength}
+use Rattle.meaning.specs.Order.{OfLength}
 use Rattle.kinds.specs.Kinds.{pairsFrom}
-use Rattle.shelf.specs.Entries.{entryAt, entriesFrom, pairRunOf}
+use Rattle.shelf.specs.Entries.{entryAt, entriesFrom, pairRunOf, hasOwner}
 use Rattle.shelf.proofs.Listed.{map-twice}
 use Rattle.shelf.proofs.Packing.{pair-run-within}
-use Rattle.shelf.proofs.Walking.{hasOwner, pairs-walked}
+use Rattle.shelf.proofs.Walking.{pairs-walked}
 use Rattle.shelving.specs.Shelved.{agedEntries, PairsEnd}
 
 pub all-owned : (x : ℕ) (pairs : List (List ℕ)) → all (hasOwner x 1) (agedEntries x pairs) ≡ true

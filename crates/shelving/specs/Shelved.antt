@@ -8,12 +8,11 @@ use Rattle.meaning.specs.Lists.{gather}
 use Rattle.meaning.specs.Log.{point, pointsFrom}
 use Rattle.meaning.specs.Kept.{Entry, entryOf}
 use Rattle.meaning.specs.declared.Point.{Point}
-use Rattle.meaning.proofs.Rows.{OfLength}
+use Rattle.meaning.specs.Order.{OfLength}
 use Rattle.kinds.specs.Kinds.{pairsFrom}
 use Rattle.room.specs.Room.{setIn, Laid}
-use Rattle.shelf.specs.Entries.{entriesFrom}
+use Rattle.shelf.specs.Entries.{entriesFrom, begins, hasOwner}
 use Rattle.shelf.specs.Appended.{Extended}
-use Rattle.shelf.proofs.Walking.{begins, hasOwner}
 
 -- the entries of node x at n points from low on, where S gives the sets
 abbrev pub setEntries : ℕ → (Point → List (List ℕ)) → ℕ → ℕ → List Entry

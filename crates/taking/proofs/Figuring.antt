@@ -13,9 +13,8 @@ use Rattle.meaning.specs.Keeper.{weighed, bufferAfter}
 use Rattle.meaning.proofs.Accepted.{nodes-most}
 use Rattle.method.specs.Stored.{Stored, baseOf, firstRetained}
 use Rattle.method.specs.Step.{countsStored, countBefore, stampsNow, countsAfter, countAfter, turn, entriesNow, storedNow, crowdedNow, reportNow}
-use Rattle.method.specs.WellFormed.{ownEntries}
+use Rattle.method.specs.WellFormed.{ownEntries, Formed}
 use Rattle.method.proofs.Counted.{counts-length}
-use Rattle.method.proofs.Formed.{Formed}
 use Rattle.method.proofs.Bounds.{new-few, before-after, after-most, after-step, wanted-before, wanted-after, wanted-grows, span}
 use Rattle.kinds.specs.Kinds.{EventThere}
 use Rattle.shelf.specs.Entries.{Stands}

@@ -16,8 +16,7 @@ use Rattle.meaning.proofs.Accepted.{no-refusal, accepted}
 use Rattle.meaning.proofs.Takings.{admitted-given}
 use Rattle.method.specs.Stored.{Stored}
 use Rattle.method.specs.Step.{latestStored, reportNow, answerNow}
-use Rattle.method.specs.WellFormed.{wellFormed}
-use Rattle.method.proofs.Formed.{Formed}
+use Rattle.method.specs.WellFormed.{wellFormed, Formed}
 use Rattle.kinds.specs.Kinds.{EventThere}
 use Rattle.events.specs.Answers.{RuleSizes, outcomeOf}
 use Rattle.events.specs.declared.Admitted.{Admitted}

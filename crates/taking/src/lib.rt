@@ -9,7 +9,7 @@ ghost use Prim.Native.Nat.{ℕ, _+_, _≤_, _<_};
 ghost use lib.ListN.{length};
 ghost use Rattle.meaning.specs.Outcome.{Outcome, mostKept};
 ghost use Rattle.meaning.specs.RuleFile.{nodeCount};
-ghost use Rattle.method.proofs.Formed.{Formed};
+ghost use Rattle.method.specs.WellFormed.{Formed};
 ghost use Rattle.kinds.specs.Kinds.{EventThere};
 ghost use Rattle.shelf.specs.Entries.{Stands};
 ghost use Rattle.formed.specs.Known.{storedIn, Known};

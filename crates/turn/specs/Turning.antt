@@ -13,10 +13,9 @@ use Rattle.meaning.specs.declared.Node.{Node}
 use Rattle.meaning.specs.declared.Window.{Window}
 use Rattle.meaning.specs.declared.Node.the-variants.{Atom, And, AndNot, Keep, Or, Exists, Previous, Next, Since, NotSince, Until, NotUntil, Once, Eventually}
 use Rattle.method.specs.Stored.{stampIn}
-use Rattle.method.specs.Counts.{advance}
+use Rattle.method.specs.Counts.{advance, Consults}
 use Rattle.method.specs.Settle.{Sight, grow, pairsNow}
 use Rattle.method.specs.Step.{firstWanted, newRows, newPairs}
-use Rattle.method.proofs.Bounds.{Consults}
 use Rattle.kinds.specs.Kinds.{inMask, EventThere, pairsFrom}
 use Rattle.kinds.specs.declared.Left.{Left}
 use Rattle.untils.specs.Until.{leftTest}

@@ -16,8 +16,7 @@ use Rattle.meaning.proofs.Points.{pointsFrom-append}
 use Rattle.method.specs.Stored.{held, heldPairs}
 use Rattle.method.specs.Step.{wantedFrom}
 use Rattle.method.proofs.Lists.{gather-points}
-use Rattle.shelf.specs.Entries.{entriesFrom}
-use Rattle.shelf.proofs.Walking.{begins, hasOwner}
+use Rattle.shelf.specs.Entries.{entriesFrom, begins, hasOwner}
 use Rattle.shelving.specs.Shelved.{setEntries, agedEntries}
 use Rattle.turns.specs.Turns.{figure, entriesIn}
 

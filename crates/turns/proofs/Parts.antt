@@ -10,7 +10,8 @@ use lib.Dec.{eqb}
 use Rattle.meaning.specs.Lists.{range}
 use Rattle.meaning.specs.Outcome.{mostKept}
 use Rattle.meaning.specs.Kept.{Entry}
-use Rattle.meaning.proofs.Rows.{OfLength, select-at}
+use Rattle.meaning.specs.Order.{OfLength}
+use Rattle.meaning.proofs.Rows.{select-at}
 use Rattle.method.specs.Stored.{heldPairs}
 use Rattle.kinds.specs.Kinds.{pairAt, pairsFrom, PairsThere}
 use Rattle.shelf.specs.Entries.{entryAt, entriesFrom}
