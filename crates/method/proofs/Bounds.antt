@@ -101,11 +101,11 @@ module _ (τ : Point → Stamp) (n : ℕ) (c : ℕ → ℕ) (from : ℕ) where
 
 module _ (b : List ℕ) (a : Accepted) (ok : checking b ≡ given a) where
   -- children are lower
-  below : (x : ℕ) → x < nodeCount b → (y : ℕ) → List·Memᴰ y (childrenOf (nodeAt b x)) → y < x
+  pub below : (x : ℕ) → x < nodeCount b → (y : ℕ) → List·Memᴰ y (childrenOf (nodeAt b x)) → y < x
   below x o = lower b (nodeCount b) (accepted b a ok .each) x o x (omega arith)
 
   -- induction over the nodes: each from its children
-  by-children : (P : ℕ → Type 0) → ((x : ℕ) → x < nodeCount b → ((y : ℕ) → List·Memᴰ y (childrenOf (nodeAt b x)) → P y) → P x) → (x : ℕ) → x < nodeCount b → P x
+  pub by-children : (P : ℕ → Type 0) → ((x : ℕ) → x < nodeCount b → ((y : ℕ) → List·Memᴰ y (childrenOf (nodeAt b x)) → P y) → P x) → (x : ℕ) → x < nodeCount b → P x
   by-children P step x o = upTo (nodeCount b) (omega arith) x o
     where
       upTo : (k : ℕ) → k ≤ nodeCount b → (x : ℕ) → x < k → P x
@@ -200,7 +200,7 @@ module _ (b : List ℕ) (a : Accepted) (ok : checking b ≡ given a) where
 module _ (s : Stored) (a : Accepted) (ok : checking (s .rule) ≡ given a)
     (few : length (s .times) ≤ mostTimes)
     (times : length (s .times) ≡ s .points - firstRetained (s .points) (countsStored s)) where
-  before-step : (x : ℕ) → x < nodeCount (s .rule) → countBefore s x ≡ advance (stampIn (baseOf s) (s .times)) (s .points) (countBefore s) (baseOf s) (nodeAt (s .rule) x)
+  pub before-step : (x : ℕ) → x < nodeCount (s .rule) → countBefore s x ≡ advance (stampIn (baseOf s) (s .times)) (s .points) (countBefore s) (baseOf s) (nodeAt (s .rule) x)
   unfolding countBefore countsStored
   before-step = count-step (s .rule) a ok (stampIn (baseOf s) (s .times)) (s .points) (λ y. baseOf s)
 

@@ -9,6 +9,8 @@ pub mod Seen
 pub mod Turns
 pub mod News
 pub mod Bounds
+pub mod Sums
+pub mod Weights
 pub mod Stepped
 pub mod Whole
 pub mod Formed

@@ -4,3 +4,4 @@ pub mod Counts
 pub mod Settle
 pub mod Step
 pub mod WellFormed
+pub mod Room

@@ -1,0 +1,72 @@
+-- How much room a walk over the rule's tree takes. Children are walked before their parent, of two the heavier first; a node's sets stand until its parent has made its own from them, and are dropped then.
+use Prim.Native.Nat.{ℕ, zero, suc, _+_, max}
+use mathlib.Core.Bool.{Bool, true, false, not, cond}
+use mathlib.Core.List.{List, [], _∷_, map}
+use lib.Dec.{ltb}
+use Rattle.meaning.specs.Lists.{total}
+use Rattle.meaning.specs.RuleFile.{nodeAt, childrenOf, oneIf}
+use Rattle.meaning.specs.declared.Node.{Node}
+use Rattle.meaning.specs.declared.Node.the-variants.{Atom, And, AndNot, Keep, Or, Exists, Previous, Next, Since, NotSince, Until, NotUntil, Once, Eventually}
+
+-- a node's figure, made from its children's, so many nodes deep; in an accepted rule children are lower, so that x + 1 deep is all of node x
+abbrev pub madeWithin : ((ℕ → ℕ) → ℕ → ℕ) → ℕ → ℕ → ℕ
+madeWithin make zero x = 0
+madeWithin make (suc depth) x = make (madeWithin make depth) x
+
+-- a figure of a whole tree: its nodes' own figures, added up
+unfoldable pub weight : List ℕ → (ℕ → ℕ) → ℕ → ℕ
+weight b own x = madeWithin (λ below y. own y + total (map below (childrenOf (nodeAt b y)))) (suc x) x
+
+abbrev pub isPrevious : Node → Bool
+isPrevious (Atom r t) = false
+isPrevious (And a b) = false
+isPrevious (AndNot a b) = false
+isPrevious (Keep a c s) = false
+isPrevious (Or a b) = false
+isPrevious (Exists a x) = false
+isPrevious (Previous a w) = true
+isPrevious (Next a w) = false
+isPrevious (Since a b w) = false
+isPrevious (NotSince a b w) = false
+isPrevious (Until a b w) = false
+isPrevious (NotUntil a b w) = false
+isPrevious (Once a w) = false
+isPrevious (Eventually a w) = false
+
+abbrev pub previousAt : List ℕ → ℕ → ℕ
+previousAt b x = oneIf (isPrevious (nodeAt b x))
+
+abbrev pub otherAt : List ℕ → ℕ → ℕ
+otherAt b x = oneIf (not (isPrevious (nodeAt b x)))
+
+-- how many nodes of a tree are "previous", and how many are others. Each "previous" adds a point to what the nodes below it newly settle, and none to the number of nodes whose sets stand at once; so they are counted apart.
+abbrev pub previousIn : List ℕ → ℕ → ℕ
+previousIn b = weight b (previousAt b)
+
+abbrev pub othersIn : List ℕ → ℕ → ℕ
+othersIn b = weight b (otherAt b)
+
+-- of two children the heavier is the one with more others in its tree, the left where they have as many
+abbrev pub leftLighter : List ℕ → ℕ → ℕ → Bool
+leftLighter b left right = ltb (othersIn b left) (othersIn b right)
+
+abbrev pub heavier : List ℕ → ℕ → ℕ → ℕ
+heavier b left right = cond (leftLighter b left right) right left
+
+abbrev pub lighter : List ℕ → ℕ → ℕ → ℕ
+lighter b left right = cond (leftLighter b left right) left right
+
+module _ (b : List ℕ) (size : ℕ → ℕ) where
+  -- the most of: the first child's tree; its sets while the second's tree is walked; the sets of both with node x's own
+  abbrev pub needOfTwo : (ℕ → ℕ) → ℕ → ℕ → ℕ → ℕ
+  needOfTwo below x first second = max (below first) (max (size first + below second) (size first + size second + size x))
+
+  -- the room of node x's tree, from the room of its children's trees; no node has more than two
+  abbrev pub needOf : (ℕ → ℕ) → ℕ → List ℕ → ℕ
+  needOf below x [] = size x
+  needOf below x (a ∷ []) = max (below a) (size a + size x)
+  needOf below x (a ∷ c ∷ cs) = needOfTwo below x (heavier b a c) (lighter b a c)
+
+  -- the room that the walk of node x's tree takes, where the sets of each node y take size y
+  unfoldable pub need : ℕ → ℕ
+  need x = madeWithin (λ below y. needOf below y (childrenOf (nodeAt b y))) (suc x) x
