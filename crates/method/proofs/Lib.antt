@@ -11,6 +11,7 @@ pub mod News
 pub mod Bounds
 pub mod Sums
 pub mod Weights
+pub mod Lags
 pub mod Stepped
 pub mod Whole
 pub mod Formed

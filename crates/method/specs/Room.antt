@@ -1,12 +1,14 @@
 -- How much room a walk over the rule's tree takes. Children are walked before their parent, of two the heavier first; a node's sets stand until its parent has made its own from them, and are dropped then.
-use Prim.Native.Nat.{ℕ, zero, suc, _+_, max}
+use Prim.Native.Nat.{ℕ, zero, suc, _+_, _-_, _≤_, _<_, max}
 use mathlib.Core.Bool.{Bool, true, false, not, cond}
 use mathlib.Core.List.{List, [], _∷_, map}
 use lib.Dec.{ltb}
 use Rattle.meaning.specs.Lists.{total}
-use Rattle.meaning.specs.RuleFile.{nodeAt, childrenOf, oneIf}
+use Rattle.meaning.specs.RuleFile.{nodeCount, nodeAt, childrenOf, oneIf}
 use Rattle.meaning.specs.declared.Node.{Node}
 use Rattle.meaning.specs.declared.Node.the-variants.{Atom, And, AndNot, Keep, Or, Exists, Previous, Next, Since, NotSince, Until, NotUntil, Once, Eventually}
+use Rattle.method.specs.Stored.{Stored}
+use Rattle.method.specs.Step.{countBefore, countAfter}
 
 -- a node's figure, made from its children's, so many nodes deep; in an accepted rule children are lower, so that x + 1 deep is all of node x
 abbrev pub madeWithin : ((ℕ → ℕ) → ℕ → ℕ) → ℕ → ℕ → ℕ
@@ -70,3 +72,13 @@ module _ (b : List ℕ) (size : ℕ → ℕ) where
   -- the room that the walk of node x's tree takes, where the sets of each node y take size y
   unfoldable pub need : ℕ → ℕ
   need x = madeWithin (λ below y. needOf below y (childrenOf (nodeAt b y))) (suc x) x
+
+-- One call on what is stored, with the event's words. "How much room a call needs is known from times alone, before any valuation"
+module _ (s : Stored) (w : List ℕ) where
+  -- how many points node x newly settles, and so has new sets
+  abbrev pub newPoints : ℕ → ℕ
+  newPoints x = countAfter s w x - countBefore s x
+
+  -- no node newly settles more than so many points
+  abbrev pub SettlesAtMost : ℕ → Type 0
+  SettlesAtMost most = (x : ℕ) → x < nodeCount (s .rule) → newPoints x ≤ most
