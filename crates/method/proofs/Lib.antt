@@ -12,6 +12,8 @@ pub mod Bounds
 pub mod Sums
 pub mod Weights
 pub mod Lags
+pub mod Room
+pub mod RoomCases
 pub mod Stepped
 pub mod Whole
 pub mod Formed

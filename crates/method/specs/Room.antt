@@ -1,14 +1,17 @@
 -- How much room a walk over the rule's tree takes. Children are walked before their parent, of two the heavier first; a node's sets stand until its parent has made its own from them, and are dropped then.
-use Prim.Native.Nat.{ℕ, zero, suc, _+_, _-_, _≤_, _<_, max}
+use Prim.Native.Nat.{ℕ, zero, suc, _+_, _-_, _*_, _^_, _≤_, _<_, max}
 use mathlib.Core.Bool.{Bool, true, false, not, cond}
 use mathlib.Core.List.{List, [], _∷_, map}
+use lib.ListN.{length}
 use lib.Dec.{ltb}
 use Rattle.meaning.specs.Lists.{total}
-use Rattle.meaning.specs.RuleFile.{nodeCount, nodeAt, childrenOf, oneIf}
+use Rattle.meaning.specs.Outcome.{mostRows, mostOpen, mostKept}
+use Rattle.meaning.specs.RuleFile.{nodeCount, nodeAt, childrenOf, lastNode, oneIf}
 use Rattle.meaning.specs.declared.Node.{Node}
 use Rattle.meaning.specs.declared.Node.the-variants.{Atom, And, AndNot, Keep, Or, Exists, Previous, Next, Since, NotSince, Until, NotUntil, Once, Eventually}
 use Rattle.method.specs.Stored.{Stored}
 use Rattle.method.specs.Step.{countBefore, countAfter}
+use Rattle.method.specs.WellFormed.{ownEntries}
 
 -- a node's figure, made from its children's, so many nodes deep; in an accepted rule children are lower, so that x + 1 deep is all of node x
 abbrev pub madeWithin : ((ℕ → ℕ) → ℕ → ℕ) → ℕ → ℕ → ℕ
@@ -79,6 +82,31 @@ module _ (s : Stored) (w : List ℕ) where
   abbrev pub newPoints : ℕ → ℕ
   newPoints x = countAfter s w x - countBefore s x
 
+  -- its rows at most: what is kept of it, and 32 in each new set
+  abbrev pub rowsMost : ℕ → ℕ
+  rowsMost x = length (ownEntries s x) + mostRows * newPoints x
+
+  -- the room that the call takes, in sets and in rows
+  abbrev pub setsNeeded : ℕ
+  setsNeeded = need (s .rule) newPoints (lastNode (s .rule))
+
+  abbrev pub rowsNeeded : ℕ
+  rowsNeeded = need (s .rule) rowsMost (lastNode (s .rule))
+
   -- no node newly settles more than so many points
   abbrev pub SettlesAtMost : ℕ → Type 0
   SettlesAtMost most = (x : ℕ) → x < nodeCount (s .rule) → newPoints x ≤ most
+
+-- the largest room, in sets: five times 33 + 17, where 17 of 32 nodes are "previous"
+abbrev pub mostSets : ℕ
+mostSets = 250
+
+-- "That the largest room is enough for every well-formed state is proved": what is claimed of a call
+pub record RoomEnough (s : Stored) (w : List ℕ) : Type 0 where
+  -- the points that may be open, the new one, and one for each "previous"
+  pub points : SettlesAtMost s w (mostOpen + 1 + previousIn (s .rule) (lastNode (s .rule)))
+  -- where each node has at most so many new sets, m times as many are room for fewer than 2 ^ m - 1 others: twice for up to 2 of them, three times for 6, four times for 14, five times for 30, six times for 62
+  pub by-points : (most m : ℕ) → SettlesAtMost s w most → othersIn (s .rule) (lastNode (s .rule)) + 1 < 2 ^ m → setsNeeded s w ≤ m * most
+  pub calm : SettlesAtMost s w 1 → setsNeeded s w ≤ 6
+  pub sets : setsNeeded s w ≤ mostSets
+  pub rows : rowsNeeded s w ≤ mostKept + mostRows * mostSets

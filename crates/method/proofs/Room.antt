@@ -1,0 +1,165 @@
+-- How much room a walk over the rule's tree needs at most: each node's sets more that the room can hold double the nodes that it is enough for.
+use Prim.Native.Nat.{ℕ, zero, suc, _+_, _*_, _^_, _≤_, _<_, max}
+use native.Mathlib.Nat.{two-pow-succ}
+use native.Mathlib.Omega.{arith}
+use mathlib.Core.Path.{_≡_, refl, ap}
+use mathlib.Core.Bool.{false}
+use mathlib.Core.List.{List, [], _∷_, List·Memᴰ}
+use lib.ListN.{length}
+use lib.Dec.{ltb}
+use borrow.Author.Tests.{ltb-true, ltb-false}
+use Rattle.meaning.specs.Lists.{range}
+use Rattle.meaning.specs.Outcome.{given, mostOpen, mostKept, mostRows}
+use Rattle.meaning.specs.RuleFile.{Accepted, checking, nodeCount, nodeAt, childrenOf, lastNode}
+use Rattle.meaning.specs.declared.Node.{Node}
+use Rattle.meaning.specs.declared.Node.the-variants.{Atom, And, AndNot, Keep, Or, Exists, Previous, Next, Since, NotSince, Until, NotUntil, Once, Eventually}
+use Rattle.meaning.proofs.Accepted.{nodes-most, last-is-node}
+use Rattle.meaning.proofs.Points.{Tested, passed, failed, tested}
+use Rattle.method.specs.Stored.{Stored}
+use Rattle.method.specs.Step.{openStored}
+use Rattle.method.specs.WellFormed.{ownEntries, Formed}
+use Rattle.method.specs.Room.{weight, isPrevious, otherAt, previousIn, othersIn, heavier, lighter, need, newPoints, rowsMost, setsNeeded, SettlesAtMost, mostSets, RoomEnough}
+use Rattle.method.proofs.Bounds.{below, by-children}
+use Rattle.method.proofs.Seen.{one, two}
+use Rattle.method.proofs.Sums.{length-gather}
+use Rattle.method.proofs.Lags.{new-points}
+use Rattle.method.proofs.Weights.{both-sides, lighter-less, weight-step, weight-two, need-step, whole-weight, nodes-split, no-shares}
+
+-- how many children a node has; a node with none or two isn't "previous"
+data Branches (n : Node) : Type 0 where
+  none : childrenOf n ≡ [] → isPrevious n ≡ false → Branches n
+  single : (a : ℕ) → childrenOf n ≡ a ∷ [] → Branches n
+  double : (a c : ℕ) → childrenOf n ≡ a ∷ c ∷ [] → isPrevious n ≡ false → Branches n
+
+branches : (n : Node) → Branches n
+branches (Atom r t) = none refl refl
+branches (And a b) = double a b refl refl
+branches (AndNot a b) = double a b refl refl
+branches (Keep a c s) = single a refl
+branches (Or a b) = double a b refl refl
+branches (Exists a x) = single a refl
+branches (Previous a w) = single a refl
+branches (Next a w) = single a refl
+branches (Since a b w) = double a b refl refl
+branches (NotSince a b w) = double a b refl refl
+branches (Until a b w) = double a b refl refl
+branches (NotUntil a b w) = double a b refl refl
+branches (Once a w) = single a refl
+branches (Eventually a w) = single a refl
+
+module _ (b : List ℕ) (a : Accepted) (ok : checking b ≡ given a) where
+  -- every tree has a node that isn't "previous"
+  some-others : (x : ℕ) → x < nodeCount b → 1 ≤ othersIn b x
+  some-others = by-children b a ok (λ x. 1 ≤ othersIn b x) (λ x o h. go x o h (branches (nodeAt b x)))
+    where
+      go : (x : ℕ) → x < nodeCount b → ((y : ℕ) → List·Memᴰ y (childrenOf (nodeAt b x)) → 1 ≤ othersIn b y) → Branches (nodeAt b x) → 1 ≤ othersIn b x
+      go x o h (none e p) = rw (weight-step b a ok _ x o, p) (omega arith)
+      go x o h (single c e) = rw (weight-step b a ok _ x o, e) (omega (arith, h c (rw e one)))
+      go x o h (double c d e p) = rw (weight-step b a ok _ x o, p) (omega arith)
+
+  -- Each node's sets take at most a fixed size beside its share.
+  module _ (size share : ℕ → ℕ) (most : ℕ) (fits : (x : ℕ) → x < nodeCount b → size x ≤ share x + most) where
+    -- the shares of a tree and m times that size are enough for fewer than 2 ^ m - 1 nodes
+    abbrev Within : ℕ → Type 0
+    Within x = (m : ℕ) → othersIn b x + 1 < 2 ^ m → need b size x ≤ weight b share x + m * most
+
+    share-within : (x : ℕ) → x < nodeCount b → size x ≤ weight b share x + most
+    share-within x o = omega (arith, fits x o, weight-step b a ok share x o)
+
+    pub need-within : (x : ℕ) → x < nodeCount b → Within x
+    need-within = by-children b a ok Within (λ x o h. go x o h (branches (nodeAt b x)))
+      where
+        go : (x : ℕ) → x < nodeCount b → ((y : ℕ) → List·Memᴰ y (childrenOf (nodeAt b x)) → Within y) → Branches (nodeAt b x) → Within x
+        go x o h t zero u = absurd (omega arith)
+        go x o h t (suc zero) u = absurd (omega (arith, some-others x o))
+        go x o h (none e p) (suc (suc m)) u =
+            let nx : need b size x ≡ size x = rw e at (need-step b a ok size x o) in
+            omega (arith, share-within x o)
+        go x o h (single c e) (suc (suc m)) u =
+            let l : c < x = below b a ok x o c (rw e one) in
+            let nx : need b size x ≡ max (need b size c) (size c + size x) = rw e at (need-step b a ok size x o) in
+            let wx = rw e at (weight-step b a ok share x o) in
+            let ox = rw e at (weight-step b a ok (otherAt b) x o) in
+            omega (arith, h c (rw e one) (suc (suc m)) (omega arith), fits x o, share-within c (omega arith))
+        go x o h (double c d e p) (suc (suc m)) u = both m u
+          where
+            H : ℕ
+            H = heavier b c d
+
+            L : ℕ
+            L = lighter b c d
+
+            low : (H < nodeCount b) × (L < nodeCount b)
+            low = both-sides b c d (λ y. y < nodeCount b) (omega (arith, below b a ok x o c (rw e one))) (omega (arith, below b a ok x o d (rw e two)))
+
+            others : othersIn b x ≡ 1 + (othersIn b H + othersIn b L)
+            others = rw p at (weight-two b a ok (otherAt b) x c d o e)
+
+            -- the lighter has less than half of the nodes, and is walked beside the heavier's sets alone
+            both : (m : ℕ) → othersIn b x + 1 < 2 ^ suc (suc m) → need b size x ≤ weight b share x + suc (suc m) * most
+            both zero u = absurd (omega (arith, others, some-others H (low .0), some-others L (low .1)))
+            both (suc m) u =
+                let (first, second) = both-sides b c d Within (h c (rw e one)) (h d (rw e two)) in
+                let nx : need b size x ≡ max (need b size H) (max (size H + need b size L) (size H + size L + size x)) = rw e at (need-step b a ok size x o) in
+                omega (
+                  arith,
+                  first (suc (suc (suc m))) (omega (arith, others)),
+                  second (suc (suc m)) (omega (arith, others, lighter-less b c d, two-pow-succ (suc (suc m)))),
+                  weight-two b a ok share x c d o e,
+                  fits x o,
+                  share-within H (low .0),
+                  share-within L (low .1),
+                )
+
+-- ---- the room of a call
+
+-- with q of 32 nodes "previous": the worst is five times 33 + 17
+worst : (k q : ℕ) → k + q ≤ 32 → (m : ℕ) × (k + 1 < 2 ^ m) × (m * (mostOpen + 1 + q) ≤ mostSets)
+worst k q u = go (tested (ltb q 2)) (tested (ltb q 18)) (tested (ltb q 30))
+  where
+    go : Tested (ltb q 2) → Tested (ltb q 18) → Tested (ltb q 30) → (m : ℕ) × (k + 1 < 2 ^ m) × (m * (mostOpen + 1 + q) ≤ mostSets)
+    go (passed c) d e = (6, omega arith, omega (arith, ltb-true))
+    go (failed c) (passed d) e = (5, omega (arith, ltb-false), omega (arith, ltb-true))
+    go (failed c) (failed d) (passed e) = (4, omega (arith, ltb-false), omega (arith, ltb-true))
+    go (failed c) (failed d) (failed e) = (3, omega (arith, ltb-false), omega arith)
+
+module _ (s : Stored) (f : Formed s) where
+  kept-shares : weight (s .rule) (λ x. length (ownEntries s x)) (lastNode (s .rule)) ≤ mostKept
+  kept-shares =
+      let (a, ok) = f .accepted in
+      omega (arith, whole-weight (s .rule) a ok (λ x. length (ownEntries s x)), length-gather (ownEntries s) (range 0 (nodeCount (s .rule))), ap length (f .entries-own), f .few-kept)
+
+  pub room-enough : openStored s ≤ mostOpen → (w : List ℕ) → RoomEnough s w
+  room-enough few w =
+      let (m, u, v) = worst (othersIn b (lastNode b)) q nodes in
+      record {
+        points = news;
+        by-points = λ most m h u. within most m h (omega arith);
+        calm = λ h. omega (arith, within 1 6 h (omega (arith, nodes)));
+        sets = omega (arith, within (mostOpen + 1 + q) m news u);
+        rows = omega (arith, kept-shares, need-within b a ok (rowsMost s w) (λ x. length (ownEntries s x)) (mostRows * (mostOpen + 1 + q)) (λ x o. omega (arith, news x o)) (lastNode b) last m u);
+      }
+    where
+      b : List ℕ
+      b = s .rule
+
+      a : Accepted
+      a = f .accepted .0
+
+      ok : checking b ≡ given a
+      ok = f .accepted .1
+
+      q : ℕ
+      q = previousIn b (lastNode b)
+
+      last : lastNode b < nodeCount b
+      last = last-is-node b a ok
+
+      nodes : othersIn b (lastNode b) + q ≤ 32
+      nodes = omega (arith, nodes-split b a ok, nodes-most b a ok)
+
+      news : SettlesAtMost s w (mostOpen + 1 + q)
+      news = new-points s f few w
+
+      within : (most m : ℕ) → SettlesAtMost s w most → othersIn b (lastNode b) + 1 < 2 ^ m → setsNeeded s w ≤ m * most
+      within most m h u = omega (arith, need-within b a ok (newPoints s w) (λ x. 0) most (λ x o. omega (arith, h x o)) (lastNode b) last m u, no-shares b a ok)
