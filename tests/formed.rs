@@ -1,6 +1,6 @@
 // The conditions of refusal 8 as docs/STATE.md lists them, worked out on a state's words.
 use crate::input::*;
-use crate::keeper::{free_variables, MOST_KEPT, MOST_POINTS, MOST_ROWS};
+use crate::keeper::{free_variables, MOST_KEPT, MOST_OPEN, MOST_POINTS, MOST_ROWS};
 use crate::library::{check, State};
 
 const MOST_TIMES: usize = 64;
@@ -128,5 +128,5 @@ pub fn well_formed(s: &State) -> bool {
     let stored = Stored { rule, free, first: points - retained, points, times: &s.times[..retained], entries };
     let counts = stored.counts();
     let least = counts.iter().copied().min().unwrap();
-    stored.first == least.saturating_sub(1) && stored.times.is_sorted() && stored.entries_fit(&counts)
+    points - counts.last().unwrap() <= MOST_OPEN && stored.first == least.saturating_sub(1) && stored.times.is_sorted() && stored.entries_fit(&counts)
 }

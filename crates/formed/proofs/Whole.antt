@@ -5,17 +5,18 @@ use mathlib.Core.Path.{_≡_, refl, sym, ap, ap₂, _∙_}
 use mathlib.Core.Bool.{Bool, true, false, _&&_}
 use mathlib.Core.List.{List, _++_}
 use lib.ListN.{length, getD, take, length-map, length-take}
+use lib.Seq.{getD-take}
 use lib.Dec.{leb, eqb}
 use borrow.Author.Tests.{le-leb, lt-leb}
 use Rattle.meaning.specs.Lists.{all, range, gather}
-use Rattle.meaning.specs.Outcome.{given, mostPoints, mostKept}
+use Rattle.meaning.specs.Outcome.{given, mostPoints, mostOpen, mostKept}
 use Rattle.meaning.specs.Log.{pointsFrom}
 use Rattle.meaning.specs.Formula.{free}
-use Rattle.meaning.specs.RuleFile.{Accepted, checking, nodeCount, nodeAt, maskOf, formulaAt}
+use Rattle.meaning.specs.RuleFile.{Accepted, checking, nodeCount, nodeAt, maskOf, formulaAt, lastNode}
 use Rattle.meaning.specs.Kept.{Entry}
 use Rattle.meaning.proofs.Lists.{range-length}
 use Rattle.method.specs.Stored.{Stored, held, heldPairs, firstRetained}
-use Rattle.method.specs.Step.{wantedFrom, countsStored, countBefore}
+use Rattle.method.specs.Step.{wantedFrom, countsStored, countBefore, openStored}
 use Rattle.method.specs.WellFormed.{mostTimes, isAccepted, notFalling, sameEntries, setFits, pairsFit, ownEntries, nodeFits, wellFormed}
 use Rattle.method.proofs.Lists.{gather-each}
 use Rattle.method.proofs.Formed.{is-accepted}
@@ -45,6 +46,10 @@ module _ {b : List ℕ} {points : ℕ} {times counts : List ℕ} (c : Counted b 
   part-exact : take (nodeCount b - 0) counts ≡ countsIn b points times
   part-exact = let e : nodeCount b - 0 ≡ nodeCount b = omega arith in rw e (c .exact)
 
+  -- the points that the last node has not settled
+  pub part-open : 0 < nodeCount b → points - getD counts (nodeCount b - 1) 0 ≡ points - getD (countsIn b points times) (lastNode b) 0
+  part-open h = ap (λ n. points - n) (sym (getD-take (nodeCount b) counts (lastNode b) 0 (omega arith)) ∙ ap (λ cs. getD cs (lastNode b) 0) (c .exact))
+
   pub part-within : points ≤ mostPoints → Within mostPoints (take (nodeCount b - 0) counts)
   part-within l y = let e : nodeCount b - 0 ≡ nodeCount b = omega arith in rw e (omega (arith, c .bounded y))
 
@@ -60,10 +65,17 @@ module _ (b : List ℕ) (points : ℕ) (times : List ℕ) where
   unfolding timesFit
   times-many m l = rw (le-leb points mostPoints m, lt-leb (length times) mostTimes l)
 
-  pub times-tested : points ≤ mostPoints → length times ≤ mostTimes → {counts : List ℕ} → Counted b points times counts
+  abbrev unsettled : ℕ
+  unsettled = points - getD (countsIn b points times) (lastNode b) 0
+
+  pub open-many : points ≤ mostPoints → length times ≤ mostTimes → mostOpen < unsettled → false ≡ timesFit b points times
+  unfolding timesFit
+  open-many m l o = rw (le-leb points mostPoints m, le-leb (length times) mostTimes l, lt-leb unsettled mostOpen o)
+
+  pub times-tested : points ≤ mostPoints → length times ≤ mostTimes → unsettled ≤ mostOpen → {counts : List ℕ} → Counted b points times counts
       → (eqb (length times) (points - firstRetained points (take (nodeCount b - 0) counts)) && notFalling times) ≡ timesFit b points times
   unfolding timesFit
-  times-tested m l c = rw (le-leb points mostPoints m, le-leb (length times) mostTimes l) (ap (λ cs. eqb (length times) (points - firstRetained points cs) && notFalling times) (part-exact c))
+  times-tested m l o c = rw (le-leb points mostPoints m, le-leb (length times) mostTimes l, le-leb unsettled mostOpen o) (ap (λ cs. eqb (length times) (points - firstRetained points cs) && notFalling times) (part-exact c))
 
 -- ---- entries
 
@@ -92,14 +104,15 @@ module _ (b counts : List ℕ) (es : List Entry) (count : ℕ) where
 
 -- ---- all
 
-regroup : (a b c d e f g h : Bool) → (a && b && c && d && e && f && g && h) ≡ (a && (b && c && d && e && (f && (g && h))))
-regroup false b c d e f g h = refl
-regroup true false c d e f g h = refl
-regroup true true false d e f g h = refl
-regroup true true true false e f g h = refl
-regroup true true true true false f g h = refl
-regroup true true true true true false g h = refl
-regroup true true true true true true g h = refl
+regroup : (a b c d e f g h i : Bool) → (a && b && c && d && e && f && g && h && i) ≡ (a && (b && c && d && e && f && (g && (h && i))))
+regroup false b c d e f g h i = refl
+regroup true false c d e f g h i = refl
+regroup true true false d e f g h i = refl
+regroup true true true false e f g h i = refl
+regroup true true true true false f g h i = refl
+regroup true true true true true false g h i = refl
+regroup true true true true true true false h i = refl
+regroup true true true true true true true h i = refl
 
 module _ (b : List ℕ) (points : ℕ) (times os ns vs : List ℕ) (count : ℕ) where
   abbrev s : Stored
@@ -110,9 +123,9 @@ module _ (b : List ℕ) (points : ℕ) (times os ns vs : List ℕ) (count : ℕ)
   entries-long = length-map (range 0 count) (entryAt os ns vs) ∙ range-length 0 count
 
   well-is : wellFormed s ≡ (isAccepted (checking b) && (timesFit b points times && keptFit b (countsIn b points times) (entriesFrom os ns vs 0 count) count))
-  unfolding wellFormed ownEntries nodeFits timesFit keptFit countsIn entriesFit ownRuns ownFit countsStored countBefore
+  unfolding wellFormed ownEntries nodeFits timesFit keptFit countsIn entriesFit ownRuns ownFit countsStored countBefore openStored
   well-is =
-      regroup (isAccepted (checking b)) (leb points mostPoints) (leb (length times) mostTimes) (eqb (length times) (points - firstRetained points (countsStored s))) (notFalling times) (leb (length (s .entries)) mostKept)
+      regroup (isAccepted (checking b)) (leb points mostPoints) (leb (length times) mostTimes) (leb (openStored s) mostOpen) (eqb (length times) (points - firstRetained points (countsStored s))) (notFalling times) (leb (length (s .entries)) mostKept)
       (sameEntries (s .entries) (gather (ownEntries s) (range 0 (nodeCount b)))) (all (nodeFits s) (range 0 (nodeCount b)))
       ∙ ap (λ n. isAccepted (checking b) && (timesFit b points times && (leb n mostKept && (sameEntries (s .entries) (gather (ownEntries s) (range 0 (nodeCount b))) && all (nodeFits s) (range 0 (nodeCount b)))))) entries-long
 

@@ -5,8 +5,8 @@ use mathlib.Core.Bool.{Bool, _&&_}
 use mathlib.Core.List.{List}
 use lib.ListN.{length, getD, take}
 use lib.Dec.{leb, eqb}
-use Rattle.meaning.specs.Outcome.{mostPoints, mostKept}
-use Rattle.meaning.specs.RuleFile.{nodeCount}
+use Rattle.meaning.specs.Outcome.{mostPoints, mostOpen, mostKept}
+use Rattle.meaning.specs.RuleFile.{nodeCount, lastNode}
 use Rattle.meaning.specs.Kept.{Entry}
 use Rattle.method.specs.Stored.{stampIn, firstRetained}
 use Rattle.method.specs.Counts.{countsTo}
@@ -24,9 +24,12 @@ pub record Counted (b : List ℕ) (points : ℕ) (times counts : List ℕ) : Typ
   pub exact : take (nodeCount b) counts ≡ countsIn b points times
   pub bounded : Within points (take (nodeCount b) counts)
 
--- few points and times, as many times as the counts ask, and none that falls
+-- few points and times, few points that the last node has not settled, as many times as the counts ask, and none that falls
 unfoldable pub timesFit : List ℕ → ℕ → List ℕ → Bool
-timesFit b points times = leb points mostPoints && leb (length times) mostTimes && eqb (length times) (points - firstRetained points (countsIn b points times)) && notFalling times
+timesFit b points times =
+    leb points mostPoints && leb (length times) mostTimes
+    && leb (points - getD (countsIn b points times) (lastNode b) 0) mostOpen
+    && eqb (length times) (points - firstRetained points (countsIn b points times)) && notFalling times
 
 -- few entries, and they are those of the nodes, where each has settled as many points as counts says
 unfoldable pub keptFit : List ℕ → List ℕ → List Entry → ℕ → Bool

@@ -349,9 +349,9 @@ fn count_points(rule: &[u8], points: u32, times: &[u32], counts: &mut [u32])
     progress::counts(rule, times, Point(base), points, &from, counts);
 }
 
-// The part of the test that goes by times: few points and times, as many times as the counts ask, and none that falls.
+// The part of the test that goes by times: few points and times, few points that the last node has not settled, as many times as the counts ask, and none that falls.
 fn times_fit(rule: &[u8], points: u32, times: &[u32], counts: &mut [u32]) -> bool
-    requires { ⌜ (length (now rule) ≡ 12 + 20 * nodeCount (now rule)) × (nodeCount (now rule) ≤ 32) × (32 ≤ length (now counts)) ⌝ }
+    requires { ⌜ (length (now rule) ≡ 12 + 20 * nodeCount (now rule)) × (0 < nodeCount (now rule)) × (nodeCount (now rule) ≤ 32) × (32 ≤ length (now counts)) ⌝ }
     ensures answer { λ r. ⌜ r ≡ timesFit (now (rule .entry)) points (now (times .entry)) ⌝ }
     ensures counted { λ r. ⌜ (r ≡ true → (points ≤ mostPoints) × Counted (now (rule .entry)) points (now (times .entry)) (now (counts .exit))) ⌝ }
 {
@@ -363,6 +363,9 @@ fn times_fit(rule: &[u8], points: u32, times: &[u32], counts: &mut [u32]) -> boo
     }
     count_points(rule, points, times, counts);
     let n = rule[2] as usize;
+    if 32 < progress::less(points, counts[n - 1]) {
+        return false;
+    }
     times_asked(points, times, &counts[0..n])
 }
 

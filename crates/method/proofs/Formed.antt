@@ -7,14 +7,14 @@ use mathlib.Core.List.{List, [], _∷_}
 use lib.ListN.{length}
 use borrow.Author.Tests.{leb-true, eqb-true, eq-eqb}
 use Rattle.meaning.specs.Lists.{range, gather}
-use Rattle.meaning.specs.Outcome.{Outcome, refused, given, mostPoints, mostRows, mostKept}
+use Rattle.meaning.specs.Outcome.{Outcome, refused, given, mostPoints, mostRows, mostOpen, mostKept}
 use Rattle.meaning.specs.RuleFile.{Accepted, checking, nodeCount}
 use Rattle.meaning.specs.Kept.{Entry}
 use Rattle.meaning.specs.declared.Point.{Point}
 use Rattle.meaning.proofs.Points.{both, first, second}
 use Rattle.meaning.proofs.Rows.{all-at, all-points, range-of, same-row}
 use Rattle.method.specs.Stored.{Stored, held, firstRetained}
-use Rattle.method.specs.Step.{wantedFrom, countsStored, countBefore}
+use Rattle.method.specs.Step.{wantedFrom, countsStored, countBefore, openStored}
 use Rattle.method.specs.WellFormed.{mostTimes, isAccepted, notFalling, sameEntry, sameEntries, setFits, ownEntries, nodeFits, wellFormed, Formed}
 
 -- two lists of entries are the same where the test says so
@@ -56,9 +56,10 @@ module _ (s : Stored) where
   formed t =
       let fits : (x : ℕ) → x < nodeCount (s .rule) → nodeFits s x ≡ true = λ x o. all-at (nodeFits s) (range-of 0 (nodeCount (s .rule)) (omega arith) (omega arith)) (search second) in
       record {
-        accepted = is-accepted (checking (s .rule)) (search (first, second) depth 8);
-        few-points = leb-true (s .points) mostPoints (search (first, second) depth 8);
-        few-times = leb-true (length (s .times)) mostTimes (search (first, second));
+        accepted = is-accepted (checking (s .rule)) (search (first, second) depth 9);
+        few-points = leb-true (s .points) mostPoints (search (first, second) depth 9);
+        few-times = leb-true (length (s .times)) mostTimes (search (first, second) depth 9);
+        few-open = leb-true (openStored s) mostOpen (search (first, second));
         times-many = eqb-true (length (s .times)) (s .points - firstRetained (s .points) (countsStored s)) (search (first, second));
         rising = search (first, second);
         few-kept = leb-true (length (s .entries)) mostKept (search (first, second));

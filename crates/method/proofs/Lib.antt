@@ -17,4 +17,5 @@ pub mod RoomCases
 pub mod Stepped
 pub mod Whole
 pub mod Formed
+pub mod Sets
 pub mod Reached

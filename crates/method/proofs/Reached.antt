@@ -36,7 +36,7 @@ use Rattle.meaning.proofs.Rows.{any-of, all-of, select-of, points-of, all-point
 use Rattle.meaning.proofs.Points.{both, first, second, Tested, passed, failed, tested}
 use Rattle.meaning.proofs.Takings.{Accepts, every-log}
 use Rattle.method.specs.Stored.{Stored, leastOf, firstRetained, storedOf}
-use Rattle.method.specs.Step.{wantedFrom, countsStored, countBefore, storedRun}
+use Rattle.method.specs.Step.{wantedFrom, countsStored, countBefore, openStored, storedRun}
 use Rattle.method.specs.WellFormed.{mostTimes, isAccepted, notFalling, rowOfNode, setFits, pairFits, pairsFit, ownEntries, nodeFits, wellFormed}
 use Rattle.method.proofs.Counted.{Counted, counted-most, count-counted, counts-length, upto-holds, upto-below}
 use Rattle.method.proofs.Lists.{gather-each, gather-none}
@@ -44,7 +44,7 @@ use Rattle.method.proofs.Formed.{same-entries}
 use Rattle.method.proofs.Parents.{has-parent}
 use Rattle.method.proofs.Keeps.{wanted-low, held-is, heldPairs-is, entries-run}
 use Rattle.method.proofs.Turns.{from-getD, gather-over, least-most, least-above, points-length}
-use Rattle.method.proofs.Stepped.{count-before, open-run, wanted-same}
+use Rattle.method.proofs.Stepped.{count-before, open-run, open-stored, wanted-same}
 use Rattle.method.proofs.Whole.{grown-ordered, no-points, whole-stored}
 
 -- ---- what holds of every log that the keeper reaches
@@ -346,14 +346,18 @@ module _ (b : List ℕ) (a : Accepted) (ok : checking b ≡ given a) (l : Log) (
   unfolding kept
   kept-few = r .few-kept
 
+  open-few : openStored s ≤ mostOpen
+  open-few = rw (open-stored b a ok l (r .ordered)) (r .few-open)
+
   -- what the log stores is well formed
   pub stored-well-formed : wellFormed s ≡ true
   unfolding wellFormed storedOf
   stored-well-formed =
-      both (both (both (both (both (both (both
+      both (both (both (both (both (both (both (both
       (ap isAccepted ok)
       (le-leb (size l) mostPoints (r .few-points)))
       (rw times-many (le-leb (size l - base) mostTimes few-times)))
+      (le-leb (openStored s) mostOpen open-few))
       (eq-eqb _ _ (times-many ∙ ap (λ cs. size l - firstRetained (size l) cs) (sym counts-are))))
       (run-rises base (size l - base) (omega (arith, base-size))))
       (le-leb (length (entries b l)) mostKept kept-few))

@@ -6,7 +6,7 @@ use mathlib.Core.List.{List, [], _∷_, _++_, map}
 use lib.ListN.{length, getD, drop}
 use lib.Dec.{leb, eqb}
 use Rattle.meaning.specs.Lists.{all, range, gather, sameRow}
-use Rattle.meaning.specs.Outcome.{Outcome, refused, given, mostPoints, mostRows, mostKept}
+use Rattle.meaning.specs.Outcome.{Outcome, refused, given, mostPoints, mostRows, mostOpen, mostKept}
 use Rattle.meaning.specs.Order.{ascending}
 use Rattle.meaning.specs.Log.{pointsFrom}
 use Rattle.meaning.specs.Formula.{free}
@@ -18,7 +18,7 @@ use Rattle.meaning.specs.declared.Window.{Window}
 use Rattle.meaning.specs.declared.Node.{Node}
 use Rattle.meaning.specs.declared.Node.the-variants.{Atom, And, AndNot, Keep, Or, Exists, Previous, Next, Since, NotSince, Until, NotUntil, Once, Eventually}
 use Rattle.method.specs.Stored.{Stored, held, heldPairs, firstRetained}
-use Rattle.method.specs.Step.{wantedFrom, countsStored, countBefore}
+use Rattle.method.specs.Step.{wantedFrom, countsStored, countBefore, openStored}
 
 -- times at most: 32 open points, one more for each step down the tree, and the last that all nodes have settled
 abbrev pub mostTimes : ℕ
@@ -90,6 +90,7 @@ module _ (s : Stored) where
       isAccepted (checking (s .rule))
       && leb (s .points) mostPoints
       && leb (length (s .times)) mostTimes
+      && leb (openStored s) mostOpen
       && eqb (length (s .times)) (s .points - firstRetained (s .points) (countsStored s))
       && notFalling (s .times)
       && leb (length (s .entries)) mostKept
@@ -101,6 +102,7 @@ pub record Formed (s : Stored) : Type 0 where
   pub accepted : (a : Accepted) × (checking (s .rule) ≡ given a)
   pub few-points : s .points ≤ mostPoints
   pub few-times : length (s .times) ≤ mostTimes
+  pub few-open : openStored s ≤ mostOpen
   pub times-many : length (s .times) ≡ s .points - firstRetained (s .points) (countsStored s)
   pub rising : notFalling (s .times) ≡ true
   pub few-kept : length (s .entries) ≤ mostKept

@@ -7,7 +7,7 @@ use borrow.Author.Tests.{not-true, not-false}
 use borrow.Author.Needs.{needs}
 use Rattle.meaning.specs.Outcome.{given, mostPoints}
 use Rattle.meaning.specs.RuleFile.{Accepted, checking}
-use Rattle.meaning.proofs.Accepted.{accepted, nodes-most}
+use Rattle.meaning.proofs.Accepted.{accepted, nodes-most, last-is-node}
 use Rattle.method.specs.WellFormed.{isAccepted}
 use Rattle.method.proofs.Formed.{is-accepted}
 use Rattle.formed.specs.Parts.{Counted}
@@ -31,7 +31,7 @@ times-fit-requires : tie.Need-times-fit-requires
 times-fit-requires c κs =
     let s = c .before .before .before .before .before .before .before .before .before .before .before .before .before .before in
     let (a, e) = rule-is (c .before) in
-    (accepted (s .args .rule .now) a e .long, nodes-most (s .args .rule .now) a e, s .pre .1 .1)
+    (accepted (s .args .rule .now) a e .long, omega (arith, last-is-node (s .args .rule .now) a e), nodes-most (s .args .rule .now) a e, s .pre .1 .1)
 
 returns-2 : tie.Need-returns-2
 returns-2 c =
