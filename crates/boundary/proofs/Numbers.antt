@@ -6,10 +6,9 @@ use mathlib.Core.List.{List}
 use lib.ListN.{length}
 use borrow.Author.Tests.{eqb-true}
 use Rattle.meaning.specs.Outcome.{Outcome, refused, given}
-use Rattle.meaning.specs.RuleFile.{Accepted, checking}
+use Rattle.meaning.specs.RuleFile.{Accepted, checking, isAccepted}
 use Rattle.meaning.proofs.Points.{first, second}
 use Rattle.method.specs.Stored.{Stored}
-use Rattle.method.specs.WellFormed.{isAccepted}
 use Rattle.rulefile.specs.Checked.{answerOf as checkedOf}
 use Rattle.weighing.specs.Weighs.{refusalOf}
 use Rattle.weighing.specs.declared.Refusal.{Refusal}

@@ -9,18 +9,18 @@ use lib.Seq.{getD-take}
 use lib.Dec.{leb, eqb}
 use borrow.Author.Tests.{le-leb, lt-leb}
 use Rattle.meaning.specs.Lists.{all, range, gather}
-use Rattle.meaning.specs.Outcome.{given, mostPoints, mostOpen, mostKept}
+use Rattle.meaning.specs.Outcome.{mostPoints, mostOpen, mostKept}
 use Rattle.meaning.specs.Log.{pointsFrom}
 use Rattle.meaning.specs.Formula.{free}
-use Rattle.meaning.specs.RuleFile.{Accepted, checking, nodeCount, nodeAt, maskOf, formulaAt, lastNode}
+use Rattle.meaning.specs.RuleFile.{checking, nodeCount, nodeAt, formulaAt, lastNode, isAccepted}
 use Rattle.meaning.specs.Kept.{Entry}
 use Rattle.meaning.proofs.Lists.{range-length}
 use Rattle.method.specs.Stored.{Stored, held, heldPairs, firstRetained}
 use Rattle.method.specs.Step.{wantedFrom, countsStored, countBefore, openStored}
-use Rattle.method.specs.WellFormed.{mostTimes, isAccepted, notFalling, sameEntries, setFits, pairsFit, ownEntries, nodeFits, wellFormed}
+use Rattle.method.specs.WellFormed.{mostTimes, notFalling, sameEntries, setFits, pairsFit, ownEntries, nodeFits, wellFormed}
 use Rattle.method.proofs.Lists.{gather-each}
-use Rattle.method.proofs.Formed.{is-accepted}
 use Rattle.progress.specs.Bounds.{Within}
+use Rattle.rulefile.specs.Weighing.{Masked}
 use Rattle.kinds.specs.Kinds.{inMask}
 use Rattle.shelf.specs.Entries.{entryAt, entriesFrom}
 use Rattle.shelving.specs.Shelved.{setEntries, agedEntries}
@@ -33,11 +33,8 @@ use Rattle.formed.proofs.Masks.{mask-has}
 -- ---- the rule
 
 -- masks of an accepted rule
-pub masks-of : (b masks : List ℕ) → ((a : Accepted) → checking b ≡ given a → (x : ℕ) → x < nodeCount b → getD masks x 0 ≡ maskOf (free (formulaAt b x)))
-    → isAccepted (checking b) ≡ true → (x : ℕ) → x < nodeCount b → MaskOf b x (getD masks x 0)
-masks-of b masks h t x o =
-    let (a, e) = is-accepted (checking b) t in
-    record { each = λ v l. ap (λ m. inMask m v) (h a e x o) ∙ mask-has (free (formulaAt b x)) v l }
+pub masks-of : (b masks : List ℕ) → Masked b masks → (x : ℕ) → x < nodeCount b → MaskOf b x (getD masks x 0)
+masks-of b masks h x o = record { each = λ v l. ap (λ m. inMask m v) (h x o) ∙ mask-has (free (formulaAt b x)) v l }
 
 -- ---- times
 

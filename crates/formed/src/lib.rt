@@ -3,7 +3,6 @@ use meaning::Node;
 use meaning::Point;
 use meaning::Window;
 use rowset::Row;
-use rulefile::Checked;
 ghost use mathlib.Core.Path.{_≡_};
 ghost use mathlib.Core.Bool.{true, _&&_};
 ghost use mathlib.Core.List.{_∷_};
@@ -11,12 +10,11 @@ ghost use Prim.Native.Nat.{ℕ, _+_, _-_, _*_, _≤_, _<_};
 ghost use lib.ListN.{length, getD};
 ghost use lib.Dec.{leb, eqb};
 ghost use Rattle.meaning.specs.Outcome.{given, mostPoints};
-ghost use Rattle.meaning.specs.RuleFile.{Accepted, checking, nodeCount, nodeAt};
+ghost use Rattle.meaning.specs.RuleFile.{Accepted, checking, isAccepted, nodeCount, nodeAt};
 ghost use Rattle.method.specs.Stored.{leastOf, firstRetained};
 ghost use Rattle.method.specs.Step.{wantedFrom};
-ghost use Rattle.method.specs.WellFormed.{mostTimes, isAccepted, notFalling, pairsFit, wellFormed};
+ghost use Rattle.method.specs.WellFormed.{mostTimes, notFalling, pairsFit, wellFormed};
 ghost use Rattle.progress.specs.Bounds.{Within};
-ghost use Rattle.rulefile.specs.Checked.{answerOf};
 ghost use Rattle.rowset.specs.Rows.{wordsOf, rowAt, rowsFrom};
 ghost use Rattle.rowset.specs.Sets.{Run};
 ghost use Rattle.kinds.specs.Kinds.{pairAt, pairsFrom};
@@ -393,29 +391,13 @@ fn kept_fit(
     entries_fit(rule, owners, numbers, values, count, masks, counts, lows)
 }
 
-// The answer of a check is no refusal.
-fn is_accepted(checked: Checked) -> bool
-    ensures { λ r. ⌜ r ≡ isAccepted (answerOf checked) ⌝ }
-{
-    match checked {
-        Checked::Accepted(_, _) => true,
-        Checked::Cut => false,
-        Checked::OtherVersion => false,
-        Checked::SizeOut => false,
-        Checked::Misshapen(_) => false,
-        Checked::WindowOut(_) => false,
-        Checked::FreeBroken(_) => false,
-        Checked::NotOneParent(_) => false,
-    }
-}
-
 // The rule is accepted; the lent bytes then hold the mask of each node's free variables.
 fn accepts(rule: &[u8], masks: &mut [u8]) -> bool
     requires { ⌜ 32 ≤ length (now masks) ⌝ }
     ensures answer { λ r. ⌜ r ≡ isAccepted (checking (now (rule .entry))) ⌝ }
     ensures known { λ r. ⌜ (r ≡ true → (x : ℕ) → x < nodeCount (now (rule .entry)) → MaskOf (now (rule .entry)) x (getD (now (masks .exit)) x 0)) ⌝ }
 {
-    is_accepted(rulefile::check_into(rule, masks))
+    rulefile::accepts(rule, masks)
 }
 
 // Whether what is stored is well formed. Where it is, the lent words hold for each node the mask of its free variables, how many points it has settled, and from which point on its rows are kept.

@@ -5,7 +5,7 @@ use mathlib.Core.List.{List, [], _∷_}
 use lib.ListN.{length, getD, drop}
 use lib.Dec.{ltb, leb, eqb}
 use Rattle.meaning.specs.Lists.{all, any, range, gather, occurrences}
-use Rattle.meaning.specs.Outcome.{Outcome, given, when, cut, otherVersion, sizeOut, misshapen, windowOut, freeBroken, notOneParent, longestWindow}
+use Rattle.meaning.specs.Outcome.{Outcome, refused, given, when, cut, otherVersion, sizeOut, misshapen, windowOut, freeBroken, notOneParent, longestWindow}
 use Rattle.meaning.specs.Formula.{Formula, atom, and, andNot, keep, or, exists, previous, next, since, notSince, until, notUntil, once, eventually, termsOf, free, reach, freeFits}
 use Rattle.meaning.specs.declared.Term.{Term}
 use Rattle.meaning.specs.declared.Term.the-variants.{Variable, Constant}
@@ -234,3 +234,8 @@ checking b =
     (weighNodes b (range 0 (nodeCount b))
     (weighParents b (range 0 (nodeCount b - 1))
     (given (record { reach = reach (pattern b); free = maskOf (free (pattern b)) })))))))
+
+-- the answer is no refusal
+abbrev pub isAccepted : Outcome Accepted → Bool
+isAccepted (refused number place) = false
+isAccepted (given a) = true

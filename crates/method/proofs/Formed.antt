@@ -8,14 +8,14 @@ use lib.ListN.{length}
 use borrow.Author.Tests.{leb-true, eqb-true, eq-eqb}
 use Rattle.meaning.specs.Lists.{range, gather}
 use Rattle.meaning.specs.Outcome.{Outcome, refused, given, mostPoints, mostRows, mostOpen, mostKept}
-use Rattle.meaning.specs.RuleFile.{Accepted, checking, nodeCount}
+use Rattle.meaning.specs.RuleFile.{Accepted, checking, nodeCount, isAccepted}
 use Rattle.meaning.specs.Kept.{Entry}
 use Rattle.meaning.specs.declared.Point.{Point}
 use Rattle.meaning.proofs.Points.{both, first, second}
 use Rattle.meaning.proofs.Rows.{all-at, all-points, range-of, same-row}
 use Rattle.method.specs.Stored.{Stored, held, firstRetained}
 use Rattle.method.specs.Step.{wantedFrom, countsStored, countBefore, openStored}
-use Rattle.method.specs.WellFormed.{mostTimes, isAccepted, notFalling, sameEntry, sameEntries, setFits, ownEntries, nodeFits, wellFormed, Formed}
+use Rattle.method.specs.WellFormed.{mostTimes, notFalling, sameEntry, sameEntries, setFits, ownEntries, nodeFits, wellFormed, Formed}
 
 -- two lists of entries are the same where the test says so
 pub same-entries : (es fs : List Entry) → es ≡ fs → sameEntries es fs ≡ true

@@ -17,7 +17,7 @@ use Rattle.meaning.specs.Formula.{Formula, free}
 use Rattle.meaning.specs.Definition2.{Valuation}
 use Rattle.meaning.specs.Evaluator.{cutTo, valuationOf, vals}
 use Rattle.meaning.specs.Settled.{settled, settledUntil, settledCount}
-use Rattle.meaning.specs.RuleFile.{Accepted, checking, nodeCount, nodeAt, childrenOf, formulaOf, formulaAt, lastNode, pattern}
+use Rattle.meaning.specs.RuleFile.{Accepted, checking, nodeCount, nodeAt, childrenOf, formulaOf, formulaAt, lastNode, pattern, isAccepted}
 use Rattle.meaning.specs.Kept.{belowEnd, countedAge, pairs, lastPairs, Entry, entryOf, pointEntries, ageEntries, entriesOf, entries, kept, openPoints}
 use Rattle.meaning.specs.Keeper.{Taking, newlySettled, crowdedAt, grown, keeperLog}
 use Rattle.meaning.specs.declared.Point.{Point}
@@ -37,7 +37,7 @@ use Rattle.meaning.proofs.Points.{both, first, second, Tested, passed, failed, 
 use Rattle.meaning.proofs.Takings.{Accepts, every-log}
 use Rattle.method.specs.Stored.{Stored, leastOf, firstRetained, storedOf}
 use Rattle.method.specs.Step.{wantedFrom, countsStored, countBefore, openStored, storedRun}
-use Rattle.method.specs.WellFormed.{mostTimes, isAccepted, notFalling, rowOfNode, setFits, pairFits, pairsFit, ownEntries, nodeFits, wellFormed}
+use Rattle.method.specs.WellFormed.{mostTimes, notFalling, rowOfNode, setFits, pairFits, pairsFit, ownEntries, nodeFits, wellFormed}
 use Rattle.method.proofs.Counted.{Counted, counted-most, count-counted, counts-length, upto-holds, upto-below}
 use Rattle.method.proofs.Lists.{gather-each, gather-none}
 use Rattle.method.proofs.Formed.{same-entries}

@@ -6,12 +6,12 @@ use mathlib.Core.List.{List, [], _∷_, _++_, map}
 use lib.ListN.{length, getD, drop}
 use lib.Dec.{leb, eqb}
 use Rattle.meaning.specs.Lists.{all, range, gather, sameRow}
-use Rattle.meaning.specs.Outcome.{Outcome, refused, given, mostPoints, mostRows, mostOpen, mostKept}
+use Rattle.meaning.specs.Outcome.{given, mostPoints, mostRows, mostOpen, mostKept}
 use Rattle.meaning.specs.Order.{ascending}
 use Rattle.meaning.specs.Log.{pointsFrom}
 use Rattle.meaning.specs.Formula.{free}
 use Rattle.meaning.specs.Evaluator.{cutTo, valuationOf}
-use Rattle.meaning.specs.RuleFile.{Accepted, checking, nodeCount, nodeAt, formulaAt}
+use Rattle.meaning.specs.RuleFile.{Accepted, checking, nodeCount, nodeAt, formulaAt, isAccepted}
 use Rattle.meaning.specs.Kept.{belowEnd, countedAge, Entry, entryOf}
 use Rattle.meaning.specs.declared.Point.{Point}
 use Rattle.meaning.specs.declared.Window.{Window}
@@ -23,10 +23,6 @@ use Rattle.method.specs.Step.{wantedFrom, countsStored, countBefore, ope
 -- times at most: 32 open points, one more for each step down the tree, and the last that all nodes have settled
 abbrev pub mostTimes : ℕ
 mostTimes = 64
-
-abbrev pub isAccepted : Outcome Accepted → Bool
-isAccepted (refused number place) = false
-isAccepted (given a) = true
 
 -- each number is at most the next
 abbrev pub notFalling : List ℕ → Bool

@@ -9,11 +9,10 @@ use lib.ListN.{length, take}
 use types.Run.{OneOf, miss}
 use denote.Enum.Declared.{tagOf}
 use Rattle.meaning.specs.Outcome.{given}
-use Rattle.meaning.specs.RuleFile.{Accepted as Answer, checking, nodeCount}
+use Rattle.meaning.specs.RuleFile.{Accepted as Answer, checking, isAccepted, nodeCount}
 use Rattle.meaning.specs.Kept.{entriesOf, entries}
 use Rattle.meaning.proofs.Accepted.{accepted, nodes-most}
 use Rattle.method.specs.Stored.{storedOf}
-use Rattle.method.specs.WellFormed.{isAccepted}
 use Rattle.method.proofs.Lists.{gather-none}
 use Rattle.method.proofs.Reached.{empty-entries}
 use Rattle.shelf.specs.Entries.{entriesFrom}

@@ -1,39 +1,42 @@
--- Sizes in range and the length that they ask are what weighing the nodes starts from; a refusal asks nothing of the masks.
-use Prim.Native.Nat.{ℕ, _+_, _*_}
+-- What is weighed tells the answer: sizes in range and the length that they ask are what weighing the nodes starts from, and the first stray node, or none, ends it.
+use Prim.Native.Nat.{ℕ, _+_, _-_, _*_}
 use native.Mathlib.Omega.{arith}
-use mathlib.Core.Path.{_≡_, _∙_}
-use mathlib.Core.Bool.{true, not}
-use mathlib.Core.List.{List, [], _∷_}
+use mathlib.Core.Path.{_≡_, refl, sym, ap, subst, _∙_}
+use mathlib.Core.Bool.{true}
+use mathlib.Core.List.{List}
 use lib.ListN.{length}
 use borrow.Author.Tests.{leb-true}
-use Rattle.meaning.specs.Lists.{range}
-use Rattle.meaning.specs.Outcome.{refused, given, misshapen, windowOut, freeBroken}
-use Rattle.meaning.specs.Formula.{freeFits}
-use Rattle.meaning.specs.RuleFile.{Accepted as Answer, nodeCount, headAt, bodyAt, bodies, formulaAt, sizesFit, shapeFits, rangeFits, weighNode, weighNodes, checking}
+use Rattle.meaning.specs.Outcome.{Outcome, given}
+use Rattle.meaning.specs.Formula.{free, reach}
+use Rattle.meaning.specs.RuleFile.{Accepted as Answer, nodeCount, sizesFit, maskOf, pattern}
 use Rattle.meaning.proofs.Points.{first, second}
-use Rattle.meaning.proofs.Accepted.{no-refusal}
-use Rattle.rulefile.specs.declared.Checked.{Checked}
-use Rattle.rulefile.specs.declared.Weighed.the-variants.{Refused}
-use Rattle.rulefile.specs.Checked.{answerOf}
-use Rattle.rulefile.specs.Weighing.{Sized, NodesWeighed, Masked}
+use Rattle.rulefile.specs.declared.Checked.the-variants.{NotOneParent}
+use Rattle.rulefile.specs.declared.Weighed.the-variants.{Free, Refused}
+use Rattle.rulefile.specs.declared.Stray.{Stray}
+use Rattle.rulefile.specs.declared.Stray.the-variants.{At, Nowhere}
+use Rattle.rulefile.specs.Weighing.{Sized, NodesPass, Tells, FirstStray, fromNodes}
+use Rattle.rulefile.proofs.Nodes.{tells-refusal}
+use Rattle.rulefile.proofs.Parents.{parents-pass, parents-stop}
 
 pub sized-from : (b : List ℕ) → sizesFit b ≡ true → length b ≡ 12 + 20 * nodeCount b → Sized b
 unfolding sizesFit
 sized-from b e long = record { long = long; some = leb-true 1 (nodeCount b) (search (first, second)); few = leb-true (nodeCount b) 32 (search (first, second)) }
 
--- nodes that are refused whatever follows give no answer
-never-given : (b xs : List ℕ) (a : Answer) → weighNodes b xs (refused 0 0) ≡ given a → ⊥
-unfolding weighNode
-never-given b [] a e = let z : _≡_ {A = ℕ} 0 1 = cc in omega arith
-never-given b (x ∷ xs) a e =
-    let s : _ × _ = no-refusal (not (shapeFits b x (headAt b x) (bodyAt (bodies b) x))) misshapen x _ a e in
-    let r : _ × _ = no-refusal (not (rangeFits (headAt b x) (bodyAt (bodies b) x))) windowOut x _ a (s .1) in
-    let f : _ × _ = no-refusal (not (freeFits (formulaAt b x))) freeBroken x _ a (r .1) in
-    never-given b xs a (f .1)
+-- where every node passes, the first stray node, or none, tells the answer
+module _ (b masks uses : List ℕ) (m : ℕ) (p : NodesPass b masks uses m) (s : Stray) (found : FirstStray uses (nodeCount b - 1) s) where
+  abbrev accepted : Outcome Answer
+  accepted = given (record { reach = reach (pattern b); free = maskOf (free (pattern b)) })
 
--- a refusal asks nothing of the masks
-pub refused-masked : (b masks : List ℕ) {n p : ℕ} → refused n p ≡ checking b → (refused n p ≡ checking b) × Masked b masks (checking b)
-refused-masked b masks e = (e, λ a h. let z : _≡_ {A = ℕ} 0 1 = cc in absurd (omega arith))
+  pub tells-free : s ≡ Nowhere → Tells b masks (fromNodes b) (Free m)
+  tells-free e = (
+    p .passed
+        ∙ parents-pass b accepted (nodeCount b - 1) 0 (λ z k l. sym (p .counted z) ∙ subst (FirstStray uses (nodeCount b - 1)) e found z (omega arith))
+        ∙ ap (λ v. given (record { reach = reach (pattern b); free = v })) (sym (p .mask)),
+    p .known,
+  )
 
-pub nodes-refused : (b masks : List ℕ) (c : Checked) → NodesWeighed b masks (Refused c) → Masked b masks (answerOf c)
-nodes-refused b masks c w a e = absurd (never-given b (range 0 (nodeCount b)) a (w (refused 0 0) ∙ e))
+  pub tells-stray : (y : ℕ) → s ≡ At y → Tells b masks (fromNodes b) (Refused (NotOneParent y))
+  tells-stray y e =
+      let h : FirstStray uses (nodeCount b - 1) (At y) = subst (FirstStray uses (nodeCount b - 1)) e found in
+      tells-refusal b masks (NotOneParent y) refl
+      (p .passed ∙ parents-stop b accepted (nodeCount b - 1) 0 y (omega arith) (omega (arith, h .0)) (λ z k l. sym (p .counted z) ∙ h .1 z l) (λ q. h .2 (p .counted y ∙ q)))

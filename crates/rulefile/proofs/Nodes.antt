@@ -8,9 +8,9 @@ use lib.ListN.{length, getD, set}
 use lib.Seq.{getD-set-same, getD-set-other}
 use borrow.Author.Count.{below-more}
 use Rattle.meaning.specs.Lists.{range}
-use Rattle.meaning.specs.Outcome.{Outcome, when, misshapen, windowOut, freeBroken}
+use Rattle.meaning.specs.Outcome.{Outcome, refused, when, misshapen, windowOut, freeBroken}
 use Rattle.meaning.specs.Formula.{free, freeFits}
-use Rattle.meaning.specs.RuleFile.{Accepted as Answer, nodeCount, arity, headAt, bodyAt, bodies, nodeOf, nodeAt, childrenOf, formulaAt, shapeFits, rangeFits, maskOf, weighNode, weighNodes}
+use Rattle.meaning.specs.RuleFile.{Accepted as Answer, nodeCount, arity, headAt, bodyAt, bodies, nodeOf, nodeAt, childrenOf, formulaAt, shapeFits, rangeFits, maskOf, timesChild, weighNode, weighNodes, isAccepted}
 use Rattle.meaning.specs.declared.Head.{Head}
 use Rattle.meaning.specs.declared.Body.{Body}
 use Rattle.meaning.specs.declared.Node.{Node}
@@ -23,14 +23,18 @@ use Rattle.rulefile.specs.declared.Checked.{Checked}
 use Rattle.rulefile.specs.declared.Weighed.{Weighed}
 use Rattle.rulefile.specs.declared.Weighed.the-variants.{Free, Refused}
 use Rattle.rulefile.specs.Checked.{answerOf}
-use Rattle.rulefile.specs.Weighing.{weighedBy, weighing, NodesPass}
+use Rattle.rulefile.specs.Weighing.{weighedBy, weighing, afterNodes, fromNodes, Tells, NodesPass}
 use Rattle.rulefile.proofs.Ranges.{range-first}
+
+-- a refusal tells the answer that it is
+pub tells-refusal : (b masks : List ℕ) (c : Checked) {o : Outcome Answer} → isAccepted (answerOf c) ≡ false → o ≡ answerOf c → Tells b masks o (Refused c)
+tells-refusal b masks c r e = (e, ap isAccepted e ∙ r)
 
 -- the first x nodes pass, their masks are in the list, and the rest are still to be weighed
 pub record WeighedTo (b masks : List ℕ) (x : ℕ) : Type 0 where
   pub each : (y : ℕ) → y < x → NodeFits b y
   pub known : (y : ℕ) → y < x → getD masks y 0 ≡ maskOf (free (formulaAt b y))
-  pub passed : (rest : Outcome Answer) → weighNodes b (range 0 (nodeCount b)) rest ≡ weighNodes b (range x (nodeCount b - x)) rest
+  pub passed : fromNodes b ≡ weighNodes b (range x (nodeCount b - x)) (afterNodes b)
 
 -- what a weighed node answers, where `rest` follows it
 abbrev after : Weighed → Outcome Answer → Outcome Answer
@@ -47,25 +51,33 @@ tests-answer true true f g x m rest h = ap (λ t. when (not t) freeBroken x rest
 tests-answer true false f g x m rest h = refl
 tests-answer false r f g x m rest h = refl
 
+tests-refuse : (s r f : Bool) (x m : ℕ) → isAccepted (after (weighedBy s r f x m) (refused 0 0)) ≡ false
+tests-refuse true true true x m = refl
+tests-refuse true true false x m = refl
+tests-refuse true false f x m = refl
+tests-refuse false r f x m = refl
+
 tests-pass : (s r f : Bool) (x m k : ℕ) → weighedBy s r f x m ≡ Free k → (s ≡ true) × (r ≡ true) × (k ≡ m)
 tests-pass true true true x m k e = (refl, refl, (cc))
 tests-pass true true false x m k e = absurd (let z : _≡_ {A = ℕ} 0 1 = cc in omega arith)
 tests-pass true false f x m k e = absurd (let z : _≡_ {A = ℕ} 0 1 = cc in omega arith)
 tests-pass false r f x m k e = absurd (let z : _≡_ {A = ℕ} 0 1 = cc in omega arith)
 
--- a node weighed step by step, as code does
-pub weighed-from : (b : List ℕ) (x : ℕ) (masks : List ℕ) (h : Head) (w : Body) (a : ℕ) (n : Node) (s r f : Bool)
-    → h ≡ headAt b x → w ≡ bodyAt (bodies b) x → a ≡ arity b (h .left) → n ≡ nodeOf a h w
-    → s ≡ shapeFits b x h w → r ≡ rangeFits h w → f ≡ nodeFits masks n
-    → weighedBy s r f x (nodeMask masks n) ≡ weighing b x masks
-unfolding weighing nodeAt
-weighed-from b x masks h w a n s r f eh ew ea en es er ef = cc
+-- node x weighed with the masks of the nodes below it
+abbrev pub weighingAt : List ℕ → ℕ → List ℕ → Weighed
+weighingAt b x masks = weighing b x (headAt b x) (bodyAt (bodies b) x) (nodeAt b x) masks
+
+-- a node that is made of its head and body, and weighed so
+pub node-read : (b : List ℕ) (x : ℕ) (masks : List ℕ) (h : Head) (w : Body) (a : ℕ) (n : Node) (v : Weighed) → h ≡ headAt b x → w ≡ bodyAt (bodies b) x → a ≡ arity b (h .left) → n ≡ nodeOf a h w
+    → v ≡ weighing b x h w n masks → (n ≡ nodeAt b x) × (v ≡ weighingAt b x masks)
+unfolding nodeAt
+node-read b x masks h w a n v eh ew ea en ev = (cc, cc)
 
 pub weighed-none : (b masks : List ℕ) → WeighedTo b masks 0
 weighed-none b masks = record {
   each = λ y l. absurd (omega arith);
   known = λ y l. absurd (omega arith);
-  passed = λ rest. let e : nodeCount b - 0 ≡ nodeCount b = omega arith in rw e;
+  passed = let e : nodeCount b - 0 ≡ nodeCount b = omega arith in rw e;
 }
 
 -- nodes up to x that pass have lower children
@@ -95,25 +107,26 @@ module _ (b masks : List ℕ) (x : ℕ) (w : WeighedTo b masks x) where
   abbrev window : Bool
   window = rangeFits (headAt b x) (bodyAt (bodies b) x)
 
-  node-answers : (rest : Outcome Answer) → weighNode b x rest ≡ after (weighing b x masks) rest
-  unfolding weighNode weighing
+  node-answers : (rest : Outcome Answer) → weighNode b x rest ≡ after (weighingAt b x masks) rest
+  unfolding weighNode
   node-answers rest =
       tests-answer shape window (nodeFits masks (nodeAt b x)) (freeFits (formulaAt b x)) x (nodeMask masks (nodeAt b x)) rest
       (λ s r. node-free (record { shape = s; range = r }))
 
   -- the nodes from x on, with node x weighed
-  nodes-answer : x < nodeCount b → (v : Weighed) → weighing b x masks ≡ v → (rest : Outcome Answer)
-      → weighNodes b (range 0 (nodeCount b)) rest ≡ after v (weighNodes b (range (x + 1) (nodeCount b - (x + 1))) rest)
-  nodes-answer l v e rest =
-      w .passed rest ∙ ap (λ s. weighNodes b s rest) (range-first x (nodeCount b) l)
-      ∙ node-answers (weighNodes b (range (x + 1) (nodeCount b - (x + 1))) rest)
-      ∙ ap (λ u. after u (weighNodes b (range (x + 1) (nodeCount b - (x + 1))) rest)) e
+  nodes-answer : x < nodeCount b → (v : Weighed) → weighingAt b x masks ≡ v → fromNodes b ≡ after v (weighNodes b (range (x + 1) (nodeCount b - (x + 1))) (afterNodes b))
+  nodes-answer l v e =
+      w .passed ∙ ap (λ s. weighNodes b s (afterNodes b)) (range-first x (nodeCount b) l)
+      ∙ node-answers (weighNodes b (range (x + 1) (nodeCount b - (x + 1))) (afterNodes b))
+      ∙ ap (λ u. after u (weighNodes b (range (x + 1) (nodeCount b - (x + 1))) (afterNodes b))) e
 
-  pub node-refused : x < nodeCount b → (c : Checked) → weighing b x masks ≡ Refused c → (rest : Outcome Answer) → weighNodes b (range 0 (nodeCount b)) rest ≡ answerOf c
-  node-refused l c e = nodes-answer l (Refused c) e
+  pub node-refused : x < nodeCount b → (c : Checked) → weighingAt b x masks ≡ Refused c → Tells b masks (fromNodes b) (Refused c)
+  node-refused l c e =
+      tells-refusal b masks c
+      (ap (λ v. isAccepted (after v (refused 0 0))) (sym e) ∙ tests-refuse shape window (nodeFits masks (nodeAt b x)) x (nodeMask masks (nodeAt b x)))
+      (nodes-answer l (Refused c) e)
 
-  pub weighed-more : x < nodeCount b → x < length masks → (m : ℕ) → weighing b x masks ≡ Free m → WeighedTo b (set masks x m) (x + 1)
-  unfolding weighing
+  pub weighed-more : x < nodeCount b → x < length masks → (m : ℕ) → weighingAt b x masks ≡ Free m → WeighedTo b (set masks x m) (x + 1)
   weighed-more l room m e =
       let t = tests-pass shape window (nodeFits masks (nodeAt b x)) x (nodeMask masks (nodeAt b x)) m e in
       let fits : NodeFits b x = record { shape = t .0; range = t .1 } in
@@ -125,10 +138,16 @@ module _ (b masks : List ℕ) (x : ℕ) (w : WeighedTo b masks x) where
         passed = nodes-answer l (Free m) e;
       }
 
-pub weighed-all : (b masks : List ℕ) (x : ℕ) → 1 ≤ nodeCount b → x ≡ nodeCount b → WeighedTo b masks x → NodesPass b masks (getD masks (nodeCount b - 1) 0)
-weighed-all b masks x some e w = record {
-  each = λ y l. w .each y (omega arith);
-  passed = λ rest. let z : nodeCount b - x ≡ 0 = omega arith in w .passed rest ∙ ap (λ k. weighNodes b (range x k) rest) z;
+  -- a node that passes has lower children
+  pub passing-lower : (m : ℕ) → weighingAt b x masks ≡ Free m → (s : List ℕ) → s ≡ childrenOf (nodeAt b x) → (c : ℕ) → List·Memᴰ c s → c < x
+  passing-lower m e s q c k =
+      let t = tests-pass shape window (nodeFits masks (nodeAt b x)) x (nodeMask masks (nodeAt b x)) m e in
+      node-sound b x (record { shape = t .0; range = t .1 }) .lower c (rw (← q) k)
+
+pub weighed-all : (b masks uses : List ℕ) (x : ℕ) → 1 ≤ nodeCount b → x ≡ nodeCount b → WeighedTo b masks x → ((y : ℕ) → getD uses y 0 ≡ timesChild b y) → NodesPass b masks uses (getD masks (nodeCount b - 1) 0)
+weighed-all b masks uses x some e w counted = record {
+  passed = let z : nodeCount b - x ≡ 0 = omega arith in w .passed ∙ ap (λ k. weighNodes b (range x k) (afterNodes b)) z;
   known = λ y l. w .known y (omega arith);
+  counted = counted;
   mask = w .known (nodeCount b - 1) (omega arith);
 }

@@ -1,8 +1,8 @@
 -- How often each node is a child, counted node by node, and that the first node whose count isn't 1 is what 7 says.
-use Prim.Native.Nat.{ℕ, zero, suc, _+_, _-_, _*_, _<_, _≤_}
+use Prim.Native.Nat.{ℕ, zero, suc, _+_, _*_, _<_, _≤_}
 use native.Mathlib.Nat.{eq-or-lt-of-le}
 use native.Mathlib.Omega.{arith}
-use mathlib.Core.Path.{_≡_, refl, sym, ap, ap₂, subst, _∙_}
+use mathlib.Core.Path.{_≡_, refl, sym, ap, _∙_}
 use mathlib.Core.Logic.{_⊎_, inl, inr}
 use mathlib.Core.Bool.{Bool, true, false, not, cond}
 use mathlib.Core.List.{List, [], _∷_, _++_, List·Memᴰ}
@@ -12,15 +12,14 @@ use lib.Dec.{eqb}
 use borrow.Author.Count.{below-more}
 use borrow.Author.Tests.{eqb-true, eqb-false, eq-eqb, ne-eqb}
 use Rattle.meaning.specs.Lists.{range, gather, occurrences}
-use Rattle.meaning.specs.Outcome.{Outcome, refused, given, when, notOneParent}
-use Rattle.meaning.specs.Formula.{free, reach}
-use Rattle.meaning.specs.RuleFile.{Accepted as Answer, nodeCount, nodeAt, childrenOf, timesChild, maskOf, pattern, weighParents}
+use Rattle.meaning.specs.Outcome.{Outcome, refused, when, notOneParent}
+use Rattle.meaning.specs.RuleFile.{Accepted as Answer, nodeCount, nodeAt, childrenOf, timesChild, weighParents}
 use Rattle.rulenodes.specs.declared.Children.{Children}
 use Rattle.rulenodes.specs.declared.Children.the-variants.{None, One, Two}
 use Rattle.rulenodes.specs.Children.{childrenIn}
 use Rattle.rulefile.specs.declared.Stray.{Stray}
 use Rattle.rulefile.specs.declared.Stray.the-variants.{At, Nowhere}
-use Rattle.rulefile.specs.Weighing.{strayOr, firstOf, FirstStray, afterNodes}
+use Rattle.rulefile.specs.Weighing.{strayOr, firstOf, FirstStray}
 use Rattle.rulefile.proofs.Ranges.{gather-last, occurrences-bound}
 use Rattle.meaning.proofs.Lists.{occurrences-append}
 
@@ -100,14 +99,14 @@ stray-more uses y found h = go found (eqb (getD uses y 0) 1) refl h
 
 module _ (b : List ℕ) (rest : Outcome Answer) where
   -- every node of the range is a child once
-  parents-pass : (k a : ℕ) → ((z : ℕ) → a ≤ z → z < a + k → timesChild b z ≡ 1) → weighParents b (range a k) rest ≡ rest
+  pub parents-pass : (k a : ℕ) → ((z : ℕ) → a ≤ z → z < a + k → timesChild b z ≡ 1) → weighParents b (range a k) rest ≡ rest
   parents-pass zero a h = refl
   parents-pass (suc k) a h =
       ap (λ t. when (not t) notOneParent a (weighParents b (range (suc a) k) rest)) (eq-eqb (timesChild b a) 1 (h a (omega arith) (omega arith)))
       ∙ parents-pass k (suc a) (λ z l m. h z (omega arith) (omega arith))
 
   -- y is the first node of the range that isn't
-  parents-stop : (k a y : ℕ) → a ≤ y → y < a + k → ((z : ℕ) → a ≤ z → z < y → timesChild b z ≡ 1) → (timesChild b y ≡ 1 → ⊥)
+  pub parents-stop : (k a y : ℕ) → a ≤ y → y < a + k → ((z : ℕ) → a ≤ z → z < y → timesChild b z ≡ 1) → (timesChild b y ≡ 1 → ⊥)
       → weighParents b (range a k) rest ≡ refused notOneParent y
   parents-stop zero a y l m h n = absurd (omega arith)
   parents-stop (suc k) a y l m h n = go (eq-or-lt-of-le l) (λ l′. parents-stop k (suc a) y l′ (omega arith) (λ z p q. h z (omega arith) q) n)
@@ -119,21 +118,6 @@ module _ (b : List ℕ) (rest : Outcome Answer) where
       go (inr less) later =
           ap (λ t. when (not t) notOneParent a (weighParents b (range (suc a) k) rest)) (eq-eqb (timesChild b a) 1 (h a (omega arith) less))
           ∙ later less
-
--- the count of the first stray node, or none, gives what follows the nodes
-module _ (b uses : List ℕ) (s : Stray) (right : (y : ℕ) → getD uses y 0 ≡ timesChild b y) (first : FirstStray uses (nodeCount b - 1) s) where
-  abbrev accepted : Outcome Answer
-  accepted = given (record { reach = reach (pattern b); free = maskOf (free (pattern b)) })
-
-  pub answer-accepted : s ≡ Nowhere → (r m : ℕ) → r ≡ reach (pattern b) → m ≡ maskOf (free (pattern b)) → given (record { reach = r; free = m }) ≡ afterNodes b
-  answer-accepted e r m p q =
-      ap₂ {C = Outcome Answer} (λ u v. given (record { reach = u; free = v })) p q
-      ∙ sym (parents-pass b accepted (nodeCount b - 1) 0 (λ z k l. sym (right z) ∙ subst (FirstStray uses (nodeCount b - 1)) e first z (omega arith)))
-
-  pub answer-stray : (y : ℕ) → s ≡ At y → refused notOneParent y ≡ afterNodes b
-  answer-stray y e =
-      let h : FirstStray uses (nodeCount b - 1) (At y) = subst (FirstStray uses (nodeCount b - 1)) e first in
-      sym (parents-stop b accepted (nodeCount b - 1) 0 y (omega arith) (omega (arith, h .0)) (λ z k l. sym (right z) ∙ h .1 z l) (λ q. h .2 (right y ∙ q)))
 
 -- a list of zeros counts nothing
 pub zeros : (n y : ℕ) → getD {A = ℕ} (replicate n 0) y 0 ≡ 0

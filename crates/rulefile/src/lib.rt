@@ -1,4 +1,6 @@
 // Check a rule: whether bytes are a rule file, and its reach and free variables.
+use meaning::Body;
+use meaning::Head;
 use meaning::Node;
 use rulefree::node_fits;
 use rulefree::node_mask;
@@ -12,16 +14,17 @@ use rulenodes::node_of;
 use ruleshape::range_fits;
 use ruleshape::shape_fits;
 ghost use mathlib.Core.Path.{_≡_};
+ghost use mathlib.Core.Bool.{true};
 ghost use mathlib.Core.List.{[], _∷_, List·Memᴰ};
 ghost use Prim.Native.Nat.{ℕ, _+_, _≤_, _<_, max};
 ghost use lib.ListN.{length, getD};
-ghost use Rattle.meaning.specs.Lists.{range, occurrences};
-ghost use Rattle.meaning.specs.Formula.{free, reach};
-ghost use Rattle.meaning.specs.RuleFile.{nodeCount, arityFits, sizesFit, maskOf, pattern, formulaAt, timesChild, weighNodes, checking};
+ghost use Rattle.meaning.specs.Lists.{occurrences};
+ghost use Rattle.meaning.specs.Formula.{reach};
+ghost use Rattle.meaning.specs.RuleFile.{nodeCount, arityFits, sizesFit, formulaAt, checking, isAccepted};
 ghost use Rattle.rulenodes.specs.Children.{childrenIn};
 ghost use Rattle.ruleshape.specs.Sound.{windowReach};
 ghost use Rattle.rulefile.specs.Checked.{answerOf};
-ghost use Rattle.rulefile.specs.Weighing.{Sized, AllFit, weighing, NodesWeighed, Masked, firstOf, FirstStray, afterNodes};
+ghost use Rattle.rulefile.specs.Weighing.{Sized, AllFit, weighing, NodesWeighed, Masked, Tells, firstOf, FirstStray, fromNodes};
 
 // The answer: the reach and the mask of free variables, or the refusal, with its node where it has one.
 pub enum Checked {
@@ -35,7 +38,7 @@ pub enum Checked {
     NotOneParent(u8),
 }
 
-// A node weighed, or all of them: the mask of free variables, or the refusal.
+// A node weighed, or a whole rule: the mask of free variables, or the refusal.
 pub enum Weighed {
     Free(u8),
     Refused(Checked),
@@ -66,14 +69,11 @@ fn sizes_fit(rule: &[u8]) -> bool
     (1 <= rule[1]) & (rule[1] <= 8) & (1 <= rule[2]) & (rule[2] <= 32) & (rule[3] == 0) & arities
 }
 
-// Refusals 4, 5 and 6 of node x, with the masks of the nodes below it.
-fn weigh_node(rule: &[u8], x: u8, masks: &[u8]) -> Weighed
-    requires { ⌜ Sized (now rule) × (x < nodeCount (now rule)) ⌝ }
-    ensures { λ r. ⌜ r ≡ weighing (now (rule .entry)) x (now (masks .entry)) ⌝ }
+// Refusals 4, 5 and 6 of node x, of this head and body, with the masks of the nodes below it.
+fn weigh_node(rule: &[u8], x: u8, h: Head, w: Body, node: Node, masks: &[u8]) -> Weighed
+    requires { ⌜ 12 ≤ length (now rule) ⌝ }
+    ensures { λ r. ⌜ r ≡ weighing (now (rule .entry)) x h w node (now (masks .entry)) ⌝ }
 {
-    let h = head_at(rule, x);
-    let w = body_of(rule, x);
-    let node = node_of(arity_at(rule, h.left), h, w);
     let shape = shape_fits(rule, x, h, w);
     let window = range_fits(h, w);
     let free = node_fits(masks, node);
@@ -87,25 +87,6 @@ fn weigh_node(rule: &[u8], x: u8, masks: &[u8]) -> Weighed
         return Weighed::Refused(Checked::FreeBroken(x));
     }
     Weighed::Free(node_mask(masks, node))
-}
-
-// All nodes, lowest first; where they pass, the lent bytes hold the mask of each.
-pub fn weigh_nodes(rule: &[u8], masks: &mut [u8]) -> Weighed
-    requires { ⌜ Sized (now rule) × (32 ≤ length (now masks)) ⌝ }
-    ensures { λ r. ⌜ NodesWeighed (now (rule .entry)) (now (masks .exit)) r ⌝ }
-{
-    let n = rule[2];
-    let mut x: u8 = 0;
-    while x < n {
-        let w = weigh_node(rule, x, masks);
-        let Weighed::Free(mask) = w else {
-            return w;
-        };
-        masks[x as usize] = mask;
-        x += 1;
-    }
-    let last = (n - 1) as usize;
-    Weighed::Free(masks[last])
 }
 
 // Counts a child.
@@ -132,18 +113,27 @@ fn count_children(uses: &mut [u8], children: Children)
     }
 }
 
-// Counts how often each node is a child.
-fn count_uses(rule: &[u8], uses: &mut [u8])
-    requires { ⌜ AllFit (now rule) × (32 ≤ length (now uses)) × ((y : ℕ) → getD (now uses) y 0 ≡ 0) ⌝ }
-    ensures { λ _. ⌜ ((y : ℕ) → getD (now (uses .exit)) y 0 ≡ timesChild (now (rule .entry)) y) ⌝ }
+// All nodes, lowest first, each read once; where they pass, the lent bytes hold the mask of each and how often it is a child.
+fn weigh_nodes(rule: &[u8], masks: &mut [u8], uses: &mut [u8]) -> Weighed
+    requires { ⌜ Sized (now rule) × (32 ≤ length (now masks)) × (32 ≤ length (now uses)) × ((y : ℕ) → getD (now uses) y 0 ≡ 0) ⌝ }
+    ensures { λ r. ⌜ NodesWeighed (now (rule .entry)) (now (masks .exit)) (now (uses .exit)) r ⌝ }
 {
     let n = rule[2];
     let mut x: u8 = 0;
     while x < n {
-        let children = children_of(node_at(rule, x));
-        count_children(uses, children);
+        let h = head_at(rule, x);
+        let w = body_of(rule, x);
+        let node = node_of(arity_at(rule, h.left), h, w);
+        let weighed = weigh_node(rule, x, h, w, node, masks);
+        let Weighed::Free(mask) = weighed else {
+            return weighed;
+        };
+        masks[x as usize] = mask;
+        count_children(uses, children_of(node));
         x += 1;
     }
+    let last = (n - 1) as usize;
+    Weighed::Free(masks[last])
 }
 
 // The stray node found so far; else node y, where its count isn't 1.
@@ -171,6 +161,54 @@ fn first_stray(uses: &[u8], n: u8) -> Stray
         y += 1;
     }
     found
+}
+
+// Refusals 4 to 7 of a file whose sizes and length are right.
+fn check_nodes(rule: &[u8], masks: &mut [u8]) -> Weighed
+    requires { ⌜ Sized (now rule) × (32 ≤ length (now masks)) ⌝ }
+    ensures { λ r. ⌜ Tells (now (rule .entry)) (now (masks .exit)) (fromNodes (now (rule .entry))) r ⌝ }
+{
+    let mut uses = [0u8; 32];
+    let weighed = weigh_nodes(rule, masks, &mut uses);
+    let Weighed::Free(mask) = weighed else {
+        return weighed;
+    };
+    let Stray::At(y) = first_stray(&uses, rule[2] - 1) else {
+        return Weighed::Free(mask);
+    };
+    Weighed::Refused(Checked::NotOneParent(y))
+}
+
+// Everything of "Check a rule" but the reach: any bytes. Where no refusal applies, the lent bytes hold the mask of each node's free variables.
+fn weigh_rule(rule: &[u8], masks: &mut [u8]) -> Weighed
+    requires { ⌜ 32 ≤ length (now masks) ⌝ }
+    ensures { λ r. ⌜ Tells (now (rule .entry)) (now (masks .exit)) (checking (now (rule .entry))) r ⌝ }
+{
+    if rule.len() < 12 {
+        return Weighed::Refused(Checked::Cut);
+    }
+    if rule[0] != 1 {
+        return Weighed::Refused(Checked::OtherVersion);
+    }
+    if !sizes_fit(rule) {
+        return Weighed::Refused(Checked::SizeOut);
+    }
+    if rule.len() != 12 + 20 * (rule[2] as usize) {
+        return Weighed::Refused(Checked::Cut);
+    }
+    check_nodes(rule, masks)
+}
+
+// Whether a rule is accepted: any bytes. Where it is, the lent bytes hold the mask of each node's free variables.
+pub fn accepts(rule: &[u8], masks: &mut [u8]) -> bool
+    requires { ⌜ 32 ≤ length (now masks) ⌝ }
+    ensures answer { λ r. ⌜ r ≡ isAccepted (checking (now (rule .entry))) ⌝ }
+    ensures known { λ r. ⌜ (r ≡ true → Masked (now (rule .entry)) (now (masks .exit))) ⌝ }
+{
+    match weigh_rule(rule, masks) {
+        Weighed::Free(_) => true,
+        Weighed::Refused(_) => false,
+    }
 }
 
 fn greater(a: u32, b: u32) -> u32
@@ -216,57 +254,13 @@ fn reach_of(rule: &[u8], x: u8) -> u32
     }
 }
 
-// Refusal 7, and the answer where nothing is refused; `mask` is the pattern's free variables.
-fn check_parents(rule: &[u8], mask: u8) -> Checked
-    requires { ⌜ AllFit (now rule) × (mask ≡ maskOf (free (pattern (now rule)))) ⌝ }
-    ensures { λ r. ⌜ answerOf r ≡ afterNodes (now (rule .entry)) ⌝ }
-{
-    let n = rule[2];
-    let mut uses = [0u8; 32];
-    count_uses(rule, &mut uses);
-    let Stray::At(y) = first_stray(&uses, n - 1) else {
-        return Checked::Accepted(reach_of(rule, n - 1), mask);
-    };
-    Checked::NotOneParent(y)
-}
-
-// Refusals 4 to 7 of a file whose sizes and length are right.
-fn check_nodes(rule: &[u8], masks: &mut [u8]) -> Checked
-    requires { ⌜ Sized (now rule) × (32 ≤ length (now masks)) ⌝ }
-    ensures { λ r. ⌜ answerOf r ≡ weighNodes (now (rule .entry)) (range 0 (nodeCount (now (rule .entry)))) (afterNodes (now (rule .entry))) ⌝ }
-    ensures { λ r. ⌜ Masked (now (rule .entry)) (now (masks .exit)) (answerOf r) ⌝ }
-{
-    match weigh_nodes(rule, masks) {
-        Weighed::Free(mask) => check_parents(rule, mask),
-        Weighed::Refused(refusal) => refusal,
-    }
-}
-
-// Checks a rule: any bytes. Where it is accepted, the lent bytes hold the mask of each node's free variables.
-pub fn check_into(rule: &[u8], masks: &mut [u8]) -> Checked
-    requires { ⌜ 32 ≤ length (now masks) ⌝ }
-    ensures { λ r. ⌜ answerOf r ≡ checking (now (rule .entry)) ⌝ }
-    ensures { λ _. ⌜ Masked (now (rule .entry)) (now (masks .exit)) (checking (now (rule .entry))) ⌝ }
-{
-    if rule.len() < 12 {
-        return Checked::Cut;
-    }
-    if rule[0] != 1 {
-        return Checked::OtherVersion;
-    }
-    if !sizes_fit(rule) {
-        return Checked::SizeOut;
-    }
-    if rule.len() != 12 + 20 * (rule[2] as usize) {
-        return Checked::Cut;
-    }
-    check_nodes(rule, masks)
-}
-
 // Checks a rule: any bytes.
 pub fn check(rule: &[u8]) -> Checked
     ensures { λ r. ⌜ answerOf r ≡ checking (now (rule .entry)) ⌝ }
 {
     let mut masks = [0u8; 32];
-    check_into(rule, &mut masks)
+    match weigh_rule(rule, &mut masks) {
+        Weighed::Free(mask) => Checked::Accepted(reach_of(rule, rule[2] - 1), mask),
+        Weighed::Refused(refusal) => refusal,
+    }
 }

@@ -48,9 +48,21 @@ fn atom_names(t: Terms, x: u32) -> bool
     ((0 < n) & names(first, x)) | (((1 < n) & names(second, x)) | later)
 }
 
+// The mask of a term's variable; 0 for a constant.
+fn term_mask(t: Term) -> u8
+    ensures { λ r. ⌜ r ≡ maskOf (λ x. isVariable x t) ⌝ }
+{
+    mask_of(names(t, 0), names(t, 1), names(t, 2), names(t, 3))
+}
+
+// Most atoms have one term, and are then asked for no other.
 fn atom_mask(t: Terms) -> u8
     ensures { λ r. ⌜ r ≡ maskOf (λ x. any (isVariable x) (termsOf t)) ⌝ }
 {
+    let first = t.first;
+    if t.count == 1 {
+        return term_mask(first);
+    }
     mask_of(
         atom_names(t, 0),
         atom_names(t, 1),

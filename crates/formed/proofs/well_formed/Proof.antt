@@ -6,9 +6,8 @@ use mathlib.Core.Bool.{true, false≢true}
 use borrow.Author.Tests.{not-true, not-false}
 use borrow.Author.Needs.{needs}
 use Rattle.meaning.specs.Outcome.{given, mostPoints}
-use Rattle.meaning.specs.RuleFile.{Accepted, checking}
+use Rattle.meaning.specs.RuleFile.{Accepted, checking, isAccepted}
 use Rattle.meaning.proofs.Accepted.{accepted, nodes-most, last-is-node}
-use Rattle.method.specs.WellFormed.{isAccepted}
 use Rattle.method.proofs.Formed.{is-accepted}
 use Rattle.formed.specs.Parts.{Counted}
 use Rattle.formed.proofs.Whole.{part-within, part-long, well-refused, well-times, well-kept, known}
