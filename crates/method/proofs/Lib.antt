@@ -9,7 +9,9 @@ pub mod Seen
 pub mod Turns
 pub mod News
 pub mod Bounds
+pub mod Newly
 pub mod Stepped
 pub mod Whole
 pub mod Formed
+pub mod Rowed
 pub mod Reached
