@@ -1,4 +1,5 @@
--- What the exported functions give, in plain numbers.
+-- What the exported functions give, in plain numbers, and the claim about a whole list of exported calls.
 pub mod Parts
 pub mod Exported
 pub mod Numbers
+pub mod ExportedList

@@ -17,10 +17,11 @@ ghost use Rattle.meaning.specs.Report.{readCount, readRows};
 ghost use Rattle.report.specs.Answer.{partOf};
 ghost use Rattle.method.specs.Step.{keptStored};
 ghost use Rattle.weighing.specs.Weighs.{refusalOf};
-ghost use Rattle.monitor.specs.State.{stateOf, stored};
+ghost use Rattle.figuring.specs.Fronts.{openAnswer};
+ghost use Rattle.monitor.specs.State.{stored};
 ghost use Rattle.lent.specs.Lent.{lent, answerOf as answered};
 ghost use Rattle.boundary.specs.Exported.{countOrNone, wordOrNone};
-ghost use Rattle.boundary.specs.Numbers.{toldOf, StartsAs, lengthsFit, TakesAs, openOf};
+ghost use Rattle.boundary.specs.Numbers.{startParts, toldOf, openParts, TakesAs};
 
 pub struct Parts {
     pub number: u32,
@@ -177,7 +178,7 @@ fn told_answer(a: Answer) -> Told
 // Starts a state: any bytes.
 #[no_mangle]
 pub extern "C" fn yokemango_start(rule: &[u8]) -> StartParts
-    ensures { λ r. ⌜ StartsAs (now (rule .entry)) r ⌝ }
+    ensures { λ r. ⌜ r ≡ startParts (now (rule .entry)) ⌝ }
 {
     let started = monitor::start(rule);
     let checked = started.checked;
@@ -190,25 +191,6 @@ pub extern "C" fn yokemango_start(rule: &[u8]) -> StartParts
         free: parts.free,
         state,
     }
-}
-
-// Whether lent slices have the lengths of a state's arrays.
-fn lengths_fit(rule: &[u8], times: &[u32], owners: &[u32], numbers: &[u32], values: &[u32]) -> bool
-    ensures { λ r. ⌜ r ≡ lengthsFit (now (rule .entry)) (now (times .entry)) (now (owners .entry)) (now (numbers .entry)) (now (values .entry)) ⌝ }
-{
-    if rule.len() != 652 {
-        return false;
-    }
-    if times.len() != 65 {
-        return false;
-    }
-    if owners.len() != 512 {
-        return false;
-    }
-    if numbers.len() != 512 {
-        return false;
-    }
-    values.len() == 2048
 }
 
 // Takes an event, in place: the parts of any state, any event words, any report buffer. Where a length isn't a state's the answer is 8.
@@ -226,11 +208,8 @@ pub extern "C" fn yokemango_take(
     event: &[u32],
     report: &mut [u32],
 ) -> Told
-    ensures { λ r. ⌜ TakesAs (stateOf (lent (now (rule .entry)) bytes (now (points .entry)) (now (times .entry)) (now (retained .entry)) (now (owners .entry)) (now (numbers .entry)) (now (values .entry)) (now (count .entry)))) (now (event .entry)) (now (report .entry)) r (stateOf (lent (now (rule .entry)) bytes (now (points .exit)) (now (times .exit)) (now (retained .exit)) (now (owners .exit)) (now (numbers .exit)) (now (values .exit)) (now (count .exit)))) (now (report .exit)) ⌝ }
+    ensures { λ r. ⌜ TakesAs (lent (now (rule .entry)) bytes (now (points .entry)) (now (times .entry)) (now (retained .entry)) (now (owners .entry)) (now (numbers .entry)) (now (values .entry)) (now (count .entry))) (now (event .entry)) (now (report .entry)) r (lent (now (rule .entry)) bytes (now (points .exit)) (now (times .exit)) (now (retained .exit)) (now (owners .exit)) (now (numbers .exit)) (now (values .exit)) (now (count .exit))) (now (report .exit)) ⌝ }
 {
-    if !lengths_fit(rule, times, owners, numbers, values) {
-        return told_refusal(Refusal::NotWellFormed);
-    }
     let left = lent::take(
         rule,
         bytes,
@@ -262,7 +241,7 @@ pub extern "C" fn yokemango_kept(state: State) -> u32
 // The figure `open` of a state.
 #[no_mangle]
 pub extern "C" fn yokemango_open_points(state: State) -> OpenParts
-    ensures { λ r. ⌜ r ≡ openOf (stored state) ⌝ }
+    ensures { λ r. ⌜ r ≡ openParts (openAnswer (stored state)) ⌝ }
 {
     match monitor::open_points(state) {
         Open::Points(n) => OpenParts {

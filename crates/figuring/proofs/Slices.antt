@@ -20,7 +20,8 @@ use Rattle.method.proofs.Formed.{formed}
 use Rattle.method.proofs.Bounds.{before-most}
 use Rattle.shelf.specs.Entries.{entryAt, entriesFrom}
 use Rattle.formed.specs.Known.{storedIn, Known}
-use Rattle.figuring.specs.Fronts.{front, storedFront}
+use Rattle.figuring.specs.Fronts.{front, storedFront, openOf, openAnswer}
+use Rattle.figuring.specs.declared.Open.the-variants.{Points, NotWellFormed}
 
 -- ---- the front of the slices
 
@@ -69,6 +70,10 @@ many-entries s h = unless s (λ f. omega (arith, f .few-kept))
 
 -- ---- the figure `open`
 
+pub not-open : (s : Stored) → wellFormed s ≡ false → openOf NotWellFormed ≡ openAnswer s
+unfolding openAnswer
+not-open s w = rw w
+
 module _ (s : Stored) {masks counts lows : List ℕ} (ok : wellFormed s ≡ true) (k : Known s masks counts lows) where
   -- what the last node has settled stands in the counts
   last-count : getD counts (lastNode (s .rule)) 0 ≡ countBefore s (lastNode (s .rule))
@@ -83,6 +88,6 @@ module _ (s : Stored) {masks counts lows : List ℕ} (ok : wellFormed s ≡ true
       let (a, good) = f .accepted in
       rw last-count (before-most s a good (f .few-times) (f .times-many) (lastNode (s .rule)) (last-is-node (s .rule) a good))
 
-  pub open-counted : s .points - getD counts (lastNode (s .rule)) 0 ≡ openStored s
-  unfolding openStored
-  open-counted = ap (λ n. s .points - n) last-count
+  pub open-counted : openOf (Points (s .points - getD counts (lastNode (s .rule)) 0)) ≡ openAnswer s
+  unfolding openAnswer openStored
+  open-counted = rw (ok, last-count)

@@ -1,10 +1,10 @@
 -- A state that stands at the front of slices, and its figure `open`.
 use Prim.Native.Nat.{ℕ}
-use mathlib.Core.Path.{_≡_}
-use mathlib.Core.Bool.{true, false}
+use mathlib.Core.Bool.{cond}
 use mathlib.Core.List.{List, map}
 use lib.ListN.{getD}
 use Rattle.meaning.specs.Lists.{range}
+use Rattle.meaning.specs.Outcome.{Outcome, refused, given, notWellFormed}
 use Rattle.method.specs.Stored.{Stored}
 use Rattle.method.specs.Step.{openStored}
 use Rattle.method.specs.WellFormed.{wellFormed}
@@ -19,7 +19,11 @@ front n xs = map (λ k. getD xs k 0) (range 0 n)
 abbrev pub storedFront : List ℕ → ℕ → ℕ → List ℕ → ℕ → List ℕ → List ℕ → List ℕ → ℕ → Stored
 storedFront rule bytes points times retained os ns vs count = storedIn (front bytes rule) points (front retained times) os ns vs count
 
--- the figure `open` of what is well formed
-abbrev pub Opens : Stored → Open → Type 0
-Opens s (Points n) = (wellFormed s ≡ true) × (n ≡ openStored s)
-Opens s NotWellFormed = wellFormed s ≡ false
+-- "For an answer that is an enum, a definition gives this paper's number and values for each of its cases": the figure, or 8
+abbrev pub openOf : Open → Outcome ℕ
+openOf (Points n) = given n
+openOf NotWellFormed = refused notWellFormed 0
+
+-- the figure `open` of what is well formed, else 8
+unfoldable pub openAnswer : Stored → Outcome ℕ
+openAnswer s = cond (wellFormed s) (given (openStored s)) (refused notWellFormed 0)

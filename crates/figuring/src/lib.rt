@@ -11,7 +11,7 @@ ghost use Rattle.method.specs.Stored.{firstRetained};
 ghost use Rattle.shelf.specs.Entries.{Stands};
 ghost use Rattle.formed.specs.Known.{storedIn};
 ghost use Rattle.figuring.specs.Figures.{bare, Counting, Figured, MostNew};
-ghost use Rattle.figuring.specs.Fronts.{storedFront, Opens};
+ghost use Rattle.figuring.specs.Fronts.{storedFront, openOf, openAnswer};
 
 // The figure `open`, or that the state isn't well formed.
 pub enum Open {
@@ -132,7 +132,7 @@ fn open_stored(
     count: usize,
 ) -> Open
     requires { ⌜ Stands (now owners) (now numbers) (now values) count ⌝ }
-    ensures { λ r. ⌜ Opens (storedIn (now (rule .entry)) points (now (times .entry)) (now (owners .entry)) (now (numbers .entry)) (now (values .entry)) count) r ⌝ }
+    ensures { λ r. ⌜ openOf r ≡ openAnswer (storedIn (now (rule .entry)) points (now (times .entry)) (now (owners .entry)) (now (numbers .entry)) (now (values .entry)) count) ⌝ }
 {
     let mut masks = [0u8; 32];
     let mut counts = [0u32; 32];
@@ -168,7 +168,7 @@ pub fn open_points<'a>(
     count: u32,
 ) -> Open
     requires { ⌜ (length (now rule) ≡ 652) × (64 ≤ length (now times)) × Stands (now owners) (now numbers) (now values) mostKept ⌝ }
-    ensures { λ r. ⌜ Opens (storedFront (now (rule .entry)) bytes points (now (times .entry)) retained (now (owners .entry)) (now (numbers .entry)) (now (values .entry)) count) r ⌝ }
+    ensures { λ r. ⌜ openOf r ≡ openAnswer (storedFront (now (rule .entry)) bytes points (now (times .entry)) retained (now (owners .entry)) (now (numbers .entry)) (now (values .entry)) count) ⌝ }
 {
     if 652 < bytes {
         return Open::NotWellFormed;

@@ -1,9 +1,13 @@
--- What a taking leaves in the memory that it was lent.
-use Prim.Native.Nat.{ℕ, _*_}
+-- What a taking leaves in the memory that it was lent: every word of it is what a definition gives.
+use Prim.Native.Nat.{ℕ, _+_, _*_}
 use mathlib.Core.Path.{_≡_}
-use mathlib.Core.List.{List}
-use lib.ListN.{length, take}
-use Rattle.meaning.specs.Outcome.{Outcome, given}
+use mathlib.Core.Bool.{Bool, cond, _&&_}
+use mathlib.Core.List.{List, _++_, map}
+use lib.ListN.{length, drop}
+use lib.Dec.{eqb}
+use Rattle.meaning.specs.Lists.{gather}
+use Rattle.meaning.specs.Outcome.{Outcome, refused, given, notWellFormed}
+use Rattle.meaning.specs.Kept.{Entry}
 use Rattle.meaning.specs.Keeper.{bufferAfter}
 use Rattle.method.specs.Stored.{Stored}
 use Rattle.method.specs.Step.{storedNow, reportNow}
@@ -28,37 +32,56 @@ pub record Lent : Type 0 where
 abbrev pub lent : List ℕ → ℕ → ℕ → List ℕ → ℕ → List ℕ → List ℕ → List ℕ → ℕ → Lent
 lent rule bytes points times retained owners numbers values count = record { rule = rule; bytes = bytes; points = points; times = times; retained = retained; owners = owners; numbers = numbers; values = values; count = count }
 
--- the lengths of the lent slices: those of a state
-pub record Sized (rule times owners numbers values : List ℕ) : Type 0 where
-  pub rule-long : length rule ≡ 652
-  pub times-long : length times ≡ 65
-  pub owners-long : length owners ≡ 512
-  pub numbers-long : length numbers ≡ 512
-  pub values-long : length values ≡ 2048
+-- whether slices have the lengths of a state's arrays
+unfoldable pub lengthsFit : List ℕ → List ℕ → List ℕ → List ℕ → List ℕ → Bool
+lengthsFit rule times owners numbers values = eqb (length rule) 652 && (eqb (length times) 65 && (eqb (length owners) 512 && (eqb (length numbers) 512 && eqb (length values) 2048)))
+
+abbrev pub fitting : Lent → Bool
+fitting m = lengthsFit (m .rule) (m .times) (m .owners) (m .numbers) (m .values)
 
 -- what is stored in it: the first bytes of the rule, the first times and the first entries, as many as its figures say
 abbrev pub stored : Lent → Stored
 stored m = storedFront (m .rule) (m .bytes) (m .points) (m .times) (m .retained) (m .owners) (m .numbers) (m .values) (m .count)
 
--- the front of each slice is copied, four values to an entry
-pub record Copies (stamps os ns vs : List ℕ) (retained kept : ℕ) (times' os' ns' vs' : List ℕ) : Type 0 where
-  pub times-copied : take retained times' ≡ take retained stamps
-  pub owners-copied : take kept os' ≡ take kept os
-  pub numbers-copied : take kept ns' ≡ take kept ns
-  pub values-copied : take (4 * kept) vs' ≡ take (4 * kept) vs
+-- words at the front of others, of which the rest stay behind them
+abbrev pub atFront : List ℕ → List ℕ → List ℕ
+atFront words old = words ++ drop (length words) old
+
+-- an entry's owner in one word: its node twice, and its mark
+abbrev pub ownerOf : Entry → ℕ
+ownerOf e = e .node * 2 + e .mark
+
+-- what is lent once s is stored in it: the times and the words of the entries at the front of their slices, and the figures; every word behind them, the rule and its length as they were
+abbrev pub lentWith : Stored → Lent → Lent
+lentWith s m =
+    record {
+      rule = m .rule;
+      bytes = m .bytes;
+      points = s .points;
+      times = atFront (s .times) (m .times);
+      retained = length (s .times);
+      owners = atFront (map ownerOf (s .entries)) (m .owners);
+      numbers = atFront (map (λ e. e .number) (s .entries)) (m .numbers);
+      values = atFront (gather (λ e. e .values) (s .entries)) (m .values);
+      count = length (s .entries);
+    }
 
 -- the words written, or 01's number and place
 abbrev pub answerOf : Answer → Outcome ℕ
 answerOf (Written words) = given words
 answerOf (Refused r) = refusalOf r
 
--- what is lent then: on a refusal as it was, every word of it
-abbrev pub Moves : Lent → List ℕ → Lent → Answer → Type 0
-Moves m w m' (Written words) = stored m' ≡ storedNow (stored m) w
-Moves m w m' (Refused r) = m' ≡ m
+-- what an event is answered: 8 where a length isn't a state's or what is stored isn't well formed, else what the method answers
+unfoldable pub answerIn : Lent → List ℕ → ℕ → Outcome ℕ
+answerIn m w room = cond (fitting m) (takeAnswer (stored m) w room) (refused notWellFormed 0)
 
--- "Take an event": 8 where what is stored isn't well formed, else what the method answers; the report at the buffer's front and the words past it as they were, or on a refusal every word as it was
+-- what is lent then: on a refusal as it was, every word of it
+abbrev pub lentAfter : Outcome ℕ → Lent → List ℕ → Lent
+lentAfter (refused number place) m w = m
+lentAfter (given words) m w = lentWith (storedNow (stored m) w) m
+
+-- "Take an event", whatever is lent: the answer; "the new state", or on a refusal every word as it was; the report at the buffer's front and "words past those stay", or on a refusal every word as it was
 pub record TakesLent (m : Lent) (w buffer : List ℕ) (a : Answer) (m' : Lent) (buffer' : List ℕ) : Type 0 where
-  pub answered : answerOf a ≡ takeAnswer (stored m) w (length buffer)
-  pub written : buffer' ≡ bufferAfter (answerOf a) (reportNow (stored m) w) buffer
-  pub moved : Moves m w m' a
+  pub answered : answerOf a ≡ answerIn m w (length buffer)
+  pub moved : m' ≡ lentAfter (answerIn m w (length buffer)) m w
+  pub written : buffer' ≡ bufferAfter (answerIn m w (length buffer)) (reportNow (stored m) w) buffer

@@ -9,6 +9,7 @@ pub mod Seen
 pub mod Turns
 pub mod News
 pub mod Bounds
+pub mod Newly
 pub mod Sums
 pub mod Weights
 pub mod Lags
@@ -18,4 +19,5 @@ pub mod Stepped
 pub mod Whole
 pub mod Formed
 pub mod Sets
+pub mod Rowed
 pub mod Reached

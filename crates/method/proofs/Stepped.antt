@@ -39,6 +39,7 @@ use Rattle.method.proofs.Keeps.{wanted-low, held-is, heldPairs-is, entr
 use Rattle.method.proofs.Seen.{Sees, pairsBefore}
 use Rattle.method.proofs.Bounds.{Placed, at-last, with-parent, placed, wanted-under, wanted-moves}
 use Rattle.method.proofs.Turns.{any-over, least-below, least-most, least-grows, drop-points, gather-over, from-getD, points-length, getD-points, map-points, map-append, Ready, new-rows, new-pairs, atom-counted, wanted-on, turns-at, turns-seen}
+use Rattle.method.proofs.Newly.{newly-run}
 
 -- no point, no time
 no-time : (l : Log) (i : Point) → size l ≤ i .0 → time l i .0 ≡ 0
@@ -401,20 +402,8 @@ module _ (b : List ℕ) (a : Accepted) (ok : checking b ≡ given a) (l : Log) (
 
     -- ---- the figures
 
-    newly-run : (x : ℕ) → x < nodeCount b → newlySettled l l' (formulaAt b x) ≡ pointsFrom (was x) (is x - was x)
-    unfolding newlySettled
-    newly-run x o =
-        select-run (λ i. settled l' (formulaAt b x) i && not (settled l (formulaAt b x) i)) (size l') (was x) (is x) (was-is x o) (counted-most l' (formulaAt b x) (is x) (is-counted x o))
-        (λ j h. rw (is-counted x o j, was-counted x o j) (ends (was x) (is x) (j .0)))
-      where
-        ends : (c d j : ℕ) → (ltb j d && not (ltb j c)) ≡ (leb c j && ltb j d)
-        ends c d j = go (tested (ltb j c)) (ltb j d)
-          where
-            go : Tested (ltb j c) → (t : Bool) → (t && not (ltb j c)) ≡ (leb c j && t)
-            go (passed e) true = rw (e, lt-leb c j (ltb-true j c e))
-            go (passed e) false = rw (lt-leb c j (ltb-true j c e))
-            go (failed e) true = rw (e, le-leb c j (ltb-false j c e))
-            go (failed e) false = rw (le-leb c j (ltb-false j c e))
+    newly : (x : ℕ) → x < nodeCount b → newlySettled l l' (formulaAt b x) ≡ pointsFrom (was x) (is x - was x)
+    newly x o = newly-run l l' (formulaAt b x) (was x) (is x) (was-is x o) (was-counted x o) (is-counted x o)
 
     new-rows-right : (x : ℕ) → x < nodeCount b → (j : Point) → was x ≤ j .0 → j .0 < was x + (is x - was x) → rowsOfTurn (turn s w x) j ≡ vals l' (formulaAt b x) j
     new-rows-right x o j u v = turns-right x o .rows j (omega (arith, wanted-low b was x)) (omega (arith, was-is x o))
@@ -422,7 +411,7 @@ module _ (b : List ℕ) (a : Accepted) (ok : checking b ≡ given a) (l : Log) (
     pub crowded-now : (x : ℕ) → x < nodeCount b → crowdedNow s w x ≡ crowdedAt b l l' x
     unfolding crowdedNow crowdedAt
     crowded-now x o =
-        rw (count-before x o, count-after x o, newly-run x o)
+        rw (count-before x o, count-after x o, newly x o)
         (any-over (λ j. ltb mostRows (length (rowsOfTurn (turn s w x) j))) (λ j. ltb mostRows (length (vals l' (formulaAt b x) j))) (was x) (is x - was x)
         (λ j u v. ap (λ rows. ltb mostRows (length rows)) (new-rows-right x o j u v)))
 
@@ -433,7 +422,7 @@ module _ (b : List ℕ) (a : Accepted) (ok : checking b ≡ given a) (l : Log) (
     pub reported-now : reportedNow s w ≡ reported l l' (pattern b)
     unfolding reported storedOf
     reported-now =
-        rw (count-before (lastNode b) last-node, count-after (lastNode b) last-node, newly-run (lastNode b) last-node)
+        rw (count-before (lastNode b) last-node, count-after (lastNode b) last-node, newly (lastNode b) last-node)
         (map-points _ _ (was (lastNode b)) (is (lastNode b) - was (lastNode b))
         (λ j u v. ap₂ (λ (t : Stamp) (rows : List (List ℕ)). entry j t (map (reportRow (free (pattern b))) rows))
         (stamps-right j (omega (arith, base-low (lastNode b) last-node)) (omega (arith, was-is (lastNode b) last-node, counted-most l' (pattern b) (is (lastNode b)) (is-counted (lastNode b) last-node))))

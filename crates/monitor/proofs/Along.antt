@@ -1,79 +1,91 @@
--- Along a list of calls: each gives what the keeper gives, and the state is that of the keeper's log.
+-- Along a list of takings: each gives what the keeper gives, and what memory stores is what the keeper's log stores.
 use Prim.Native.Nat.{ℕ}
-use mathlib.Core.Path.{_≡_, refl, sym, _∙_, ap, ap₂}
+use mathlib.Core.Path.{_≡_, refl, sym, _∙_, ap, ap₂, subst}
 use mathlib.Core.Bool.{true}
-use mathlib.Core.List.{List, [], _∷_, _++_, map}
+use mathlib.Core.List.{List, [], _∷_, _++_, append-nil, append-assoc}
 use lib.ListN.{length}
-use Rattle.meaning.specs.Outcome.{Outcome, given}
+use Rattle.meaning.specs.Outcome.{Outcome, refused, given}
 use Rattle.meaning.specs.Log.{Log}
 use Rattle.meaning.specs.RuleFile.{Accepted, checking}
 use Rattle.meaning.specs.Keeper.{Taking, Given, bufferAfter, step, answered, keeperLog, keeper}
 use Rattle.method.specs.Stored.{Stored, storedOf}
 use Rattle.method.specs.Step.{answerNow, storedAfter, reportNow, givenBy, storedBy}
-use Rattle.method.specs.WellFormed.{wellFormed}
+use Rattle.method.specs.WellFormed.{wellFormed, Formed}
 use Rattle.method.proofs.Whole.{step-stored, step-given, log-ordered}
+use Rattle.method.proofs.Formed.{formed}
 use Rattle.method.proofs.Reached.{reached, stored-well-formed}
-use Rattle.weighing.specs.Weighs.{refusalOf}
 use Rattle.taking.specs.Answers.{takeAnswer}
-use Rattle.weighing.specs.declared.Refusal.{Refusal}
-use Rattle.weighing.specs.declared.Refusal.the-variants.{NotWellFormed, NotAnEvent, RowOut, TimeFalls, LogFull, Crowded, Backlog, KeptOver, BufferShort}
-use Rattle.lent.specs.Lent.{answerOf, Moves, stored as storedIn}
-use Rattle.lent.specs.declared.Answer.{Answer}
-use Rattle.lent.specs.declared.Answer.the-variants.{Written, Refused}
-use Rattle.monitor.specs.State.{lentOf, stored}
-use Rattle.monitor.specs.Contracts.{Takes}
-use Rattle.monitor.specs.Calls.{Call, Calls, takingOf, givenOf}
-use Rattle.monitor.specs.declared.State.{State}
+use Rattle.lent.specs.Lent.{Lent, fitting, stored, lentWith, answerIn, lentAfter}
+use Rattle.lent.proofs.Stores.{stored-with, fitting-with}
+use Rattle.monitor.specs.Reports.{logOf}
 use Rattle.monitor.proofs.Logs.{log-then}
 
--- a refusal leaves what is stored
-stays : (s : Stored) (w : List ℕ) (r : Refusal) → storedAfter s w (refusalOf r) ≡ s
+-- what a taking gives back of memory m, and how it leaves m
+abbrev pub givenIn : Lent → Taking → Given
+givenIn m t = record { answer = answerIn m (t .event) (length (t .buffer)); buffer = bufferAfter (answerIn m (t .event) (length (t .buffer))) (reportNow (stored m) (t .event)) (t .buffer) }
+
+abbrev pub lentBy : Lent → Taking → Lent
+lentBy m t = lentAfter (answerIn m (t .event) (length (t .buffer))) m (t .event)
+
+abbrev pub givenAll : Lent → List Taking → List Given
+givenAll m [] = []
+givenAll m (t ∷ ts) = givenIn m t ∷ givenAll (lentBy m t) ts
+
+abbrev pub lentAll : Lent → List Taking → Lent
+lentAll m [] = m
+lentAll m (t ∷ ts) = lentAll (lentBy m t) ts
+
+-- memory of a state's lengths in which a log is stored
+pub record Stores (b : List ℕ) (l : Log) (m : Lent) : Type 0 where
+  pub fits : fitting m ≡ true
+  pub stores : stored m ≡ storedOf b l
+
+-- memory once a log is stored in it, or left as it was
+after : (b : List ℕ) (l : Log) (m : Lent) (w : List ℕ) → fitting m ≡ true → Formed (storedOf b l) → storedOf b l .rule ≡ stored m .rule → (o : Outcome ℕ) → storedAfter (stored m) w o ≡ storedOf b l → Stores b l (lentAfter o m w)
 unfolding storedAfter
-stays s w NotWellFormed = refl
-stays s w NotAnEvent = refl
-stays s w (RowOut k) = refl
-stays s w TimeFalls = refl
-stays s w LogFull = refl
-stays s w (Crowded x) = refl
-stays s w Backlog = refl
-stays s w KeptOver = refl
-stays s w (BufferShort n) = refl
-
--- a call in a well-formed state gives what the method gives
-module _ (s : State) (c : Call) (formed : wellFormed (stored s) ≡ true) (t : Takes s (c .event) (c .buffer) (c .back) (c .left)) where
-  answers : answerOf (c .back .answer) ≡ answerNow (stored s) (c .event) (length (c .buffer))
-  unfolding takeAnswer
-  answers = rw formed at (t .answered)
-
-  call-given : givenOf c ≡ givenBy (stored s) (takingOf c)
-  unfolding givenBy
-  call-given = ap₂ pair answers (t .written ∙ ap (λ o. bufferAfter o (reportNow (stored s) (c .event)) (c .buffer)) answers)
-    where
-      pair : Outcome ℕ → List ℕ → Given
-      pair o words = record { answer = o; buffer = words }
-
-  call-stored : stored (c .back .state) ≡ storedBy (stored s) (takingOf c)
-  unfolding storedBy storedAfter
-  call-stored = go (c .back .answer) (t .moved) ∙ ap (storedAfter (stored s) (c .event)) answers
-    where
-      go : (a : Answer) → Moves (lentOf s) (c .event) (lentOf (c .back .state)) a → stored (c .back .state) ≡ storedAfter (stored s) (c .event) (answerOf a)
-      go (Written words) m = m
-      go (Refused r) m = ap storedIn m ∙ sym (stays (stored s) (c .event) r)
+after b l m w fit f r (refused number place) e = record { fits = fit; stores = e }
+after b l m w fit f r (given words) e = subst (λ s. Stores b l (lentWith s m)) (sym e) (record { fits = fitting-with m (storedOf b l) f fit; stores = stored-with m (storedOf b l) f r })
 
 module _ (b : List ℕ) (a : Accepted) (ok : checking b ≡ given a) where
-  -- what the calls gave back, and what is then stored
-  pub record Kept (l : Log) (cs : List Call) (s : State) : Type 0 where
-    pub each : map givenOf cs ≡ keeper b l (map takingOf cs)
-    pub after : stored s ≡ storedOf b (keeperLog b l (map takingOf cs))
+  pub well : (ts : List Taking) → wellFormed (storedOf b (logOf b ts)) ≡ true
+  well ts = stored-well-formed b a ok (logOf b ts) (reached b a ok ts)
 
-  -- in the state of the log that some takings lead to
-  pub along : (ts : List Taking) (s : State) → stored s ≡ storedOf b (keeperLog b [] ts) → (cs : List Call) (s' : State) → Calls s cs s' → Kept (keeperLog b [] ts) cs s'
-  along ts s e [] s' r = record { each = refl; after = ap stored r ∙ e }
-  along ts s e (c ∷ cs) s' (t, r) =
-      let l : Log = keeperLog b [] ts in
-      let formed : wellFormed (stored s) ≡ true = rw e (stored-well-formed b a ok l (reached b a ok ts)) in
-      let one : givenOf c ≡ answered b l (takingOf c) = call-given s c formed t ∙ ap (λ q. givenBy q (takingOf c)) e ∙ step-given b a ok l (log-ordered b ts) (takingOf c) in
-      let next : stored (c .back .state) ≡ storedOf b (step b l (takingOf c)) = call-stored s c formed t ∙ ap (λ q. storedBy q (takingOf c)) e ∙ step-stored b a ok l (log-ordered b ts) (takingOf c) in
-      let more : keeperLog b [] (ts ++ takingOf c ∷ []) ≡ step b l (takingOf c) = log-then b [] ts (takingOf c ∷ []) in
-      let rest : Kept (step b l (takingOf c)) cs s' = rw more at (along (ts ++ takingOf c ∷ []) (c .back .state) (next ∙ ap (storedOf b) (sym more)) cs s' r) in
-      record { each = ap₂ (λ g gs. g ∷ gs) one (rest .each); after = rest .after }
+  module _ (ts : List Taking) (m : Lent) (h : Stores b (logOf b ts) m) where
+    -- a taking gives what the keeper gives, and leaves what the keeper's log stores
+    module _ (t : Taking) where
+      answers : answerIn m (t .event) (length (t .buffer)) ≡ answerNow (stored m) (t .event) (length (t .buffer))
+      unfolding answerIn takeAnswer
+      answers =
+          let w : wellFormed (stored m) ≡ true = rw (h .stores) (well ts) in
+          rw (h .fits, w)
+
+      given-by : givenIn m t ≡ givenBy (stored m) t
+      unfolding givenBy
+      given-by = rw answers
+
+      one-given : givenIn m t ≡ answered b (logOf b ts) t
+      one-given = given-by ∙ ap (λ q. givenBy q t) (h .stores) ∙ step-given b a ok (logOf b ts) (log-ordered b ts) t
+
+      stored-by : storedAfter (stored m) (t .event) (answerIn m (t .event) (length (t .buffer))) ≡ storedOf b (logOf b (ts ++ t ∷ []))
+      unfolding storedBy
+      stored-by =
+          ap (storedAfter (stored m) (t .event)) answers ∙ ap (λ q. storedBy q t) (h .stores) ∙ step-stored b a ok (logOf b ts) (log-ordered b ts) t
+          ∙ ap (storedOf b) (sym (log-then b [] ts (t ∷ [])))
+
+      one-stored : Stores b (logOf b (ts ++ t ∷ [])) (lentBy m t)
+      unfolding storedOf
+      one-stored = after b (logOf b (ts ++ t ∷ [])) m (t .event) (h .fits) (formed _ (well (ts ++ t ∷ []))) (ap (λ (q : Stored). q .rule) (sym (h .stores))) (answerIn m (t .event) (length (t .buffer))) stored-by
+
+  -- over further takings
+  pub record Along (ts : List Taking) (m : Lent) (us : List Taking) : Type 0 where
+    pub gives : givenAll m us ≡ keeper b (logOf b ts) us
+    pub leaves : Stores b (logOf b (ts ++ us)) (lentAll m us)
+
+  pub along : (ts : List Taking) (m : Lent) → Stores b (logOf b ts) m → (us : List Taking) → Along ts m us
+  along ts m h [] = record { gives = refl; leaves = rw append-nil h }
+  along ts m h (t ∷ us) =
+      let rest : Along (ts ++ t ∷ []) (lentBy m t) us = along (ts ++ t ∷ []) (lentBy m t) (one-stored ts m h t) us in
+      record {
+        gives = ap₂ (λ g gs. g ∷ gs) (one-given ts m h t) (rest .gives ∙ ap (λ l. keeper b l us) (log-then b [] ts (t ∷ [])));
+        leaves = rw append-assoc at (rest .leaves);
+      }

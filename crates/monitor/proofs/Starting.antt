@@ -1,14 +1,15 @@
--- A start: what a state of zeros with a rule in it stores, and what the answer of checking then promises.
-use Prim.Native.Nat.{ℕ, _≤_}
+-- A start: the state of a rule, that it stores the empty log, and what the answer of checking then promises.
+use Prim.Native.Nat.{ℕ, _≤_, _+_, _-_}
 use native.Mathlib.Nat.{zero-sub}
 use native.Mathlib.Omega.{arith}
 use mathlib.Core.Path.{_≡_, refl, sym, _∙_, ap}
 use mathlib.Core.Bool.{false, true≢false}
 use mathlib.Core.List.{List, [], _∷_}
-use lib.ListN.{length, take}
+use lib.ListN.{length, drop, replicate, length-append, length-replicate, replicate-append-replicate}
+use lib.Seq.{drop-at}
 use types.Run.{OneOf, miss}
 use denote.Enum.Declared.{tagOf}
-use Rattle.meaning.specs.Outcome.{given}
+use Rattle.meaning.specs.Outcome.{given, Outcome, refused}
 use Rattle.meaning.specs.RuleFile.{Accepted as Answer, checking, isAccepted, nodeCount}
 use Rattle.meaning.specs.Kept.{entriesOf, entries}
 use Rattle.meaning.proofs.Accepted.{accepted, nodes-most}
@@ -20,22 +21,37 @@ use Rattle.rulefile.specs.Checked.{answerOf}
 use Rattle.rulefile.specs.declared.Checked.{Checked}
 use Rattle.rulefile.specs.declared.Checked.the-variants.{Accepted, Cut, OtherVersion, SizeOut, Misshapen, WindowOut, FreeBroken, NotOneParent}
 use Rattle.rulefile.proofs.Checked.{the-type}
-use Rattle.figuring.specs.Fronts.{storedFront}
-use Rattle.monitor.specs.State.{stored, nothing, blank}
-use Rattle.monitor.specs.Contracts.{Starts}
+use Rattle.lent.specs.Lent.{atFront}
+use Rattle.lent.proofs.Front.{front-read}
+use Rattle.lent.proofs.Taken.{sized-fits}
+use Rattle.monitor.specs.State.{blank, lentOf, startState}
+use Rattle.monitor.specs.Contracts.{Starts, stateFor}
 use Rattle.monitor.specs.declared.State.{State}
-use Rattle.figuring.proofs.Slices.{front-take}
+use Rattle.monitor.proofs.Along.{Stores}
 
--- a state of zeros with a rule put in
-pub rule-in : (z : State) (b bytes : List ℕ) → z ≡ blank → length b ≤ length bytes → take (length b) bytes ≡ b
-    → storedFront bytes (length b) (z .points) (z .times) (z .retained) (z .owners) (z .numbers) (z .values) (z .count) ≡ nothing b
-unfolding blank entriesFrom
-rule-in z b bytes e l t = rw e (ap nothing (front-take (length b) bytes l ∙ t))
+-- the state of a rule: its bytes copied to the front of zeros
+pub rule-in : (z : State) (b bytes : List ℕ) → z ≡ blank → length b ≤ 652 → bytes ≡ atFront b (replicate 652 0)
+    → record { rule = bytes; bytes = length b; points = z .points; times = z .times; retained = z .retained; owners = z .owners; numbers = z .numbers; values = z .values; count = z .count } ≡ startState b
+unfolding startState
+rule-in z b bytes e l t =
+    let n : length b + (652 - length b) ≡ 652 = omega arith in
+    let zeros : drop {A = ℕ} (length b) (replicate 652 0) ≡ replicate (652 - length b) 0
+    = ap (drop (length b)) (ap (λ k. replicate k 0) (sym n) ∙ sym (replicate-append-replicate (length b) (652 - length b) 0)) ∙ drop-at (replicate (length b) 0) (replicate (652 - length b) 0) (length b) (length-replicate (length b) 0) in
+    rw (e, t, zeros)
 
--- what an empty log stores
-nothing-stored : (b : List ℕ) → nothing b ≡ storedOf b []
-unfolding storedOf entries
-nothing-stored b = rw (zero-sub, gather-none (entriesOf b []) 0 (nodeCount b) (λ x u o. empty-entries b x))
+-- an accepted rule has room in the state
+pub rule-fits : (b : List ℕ) (a : Answer) → checking b ≡ given a → length b ≤ 652
+rule-fits b a ok = omega (arith, accepted b a ok .long, nodes-most b a ok)
+
+-- what the start's state stores is the empty log
+pub start-stores : (b : List ℕ) (a : Answer) → checking b ≡ given a → Stores b [] (lentOf (startState b))
+unfolding startState storedOf entries entriesFrom
+start-stores b a ok =
+    let l : length b ≤ 652 = rule-fits b a ok in
+    record {
+      fits = sized-fits (record { rule-long = simp (length-append, length-replicate) (omega arith); times-long = length-replicate {A = ℕ} 65 0; owners-long = length-replicate {A = ℕ} 512 0; numbers-long = length-replicate {A = ℕ} 512 0; values-long = length-replicate {A = ℕ} 2048 0 });
+      stores = rw (front-read b (replicate (652 - length b) 0), zero-sub, gather-none (entriesOf b []) 0 (nodeCount b) (λ x u o. empty-entries b x));
+    }
 
 -- the kinds of answers of checking that are refusals
 abbrev refusals : List ℕ
@@ -51,13 +67,13 @@ not-accepted (WindowOut x) o = refl
 not-accepted (FreeBroken x) o = refl
 not-accepted (NotOneParent x) o = refl
 
+refused-state : (b : List ℕ) (o : Outcome Answer) → isAccepted o ≡ false → stateFor b o ≡ blank
+refused-state b (refused number place) none = refl
+refused-state b (given a) none = absurd (true≢false none)
+
 module _ (b : List ℕ) (k : Checked) (e : answerOf k ≡ checking b) (z : State) where
   pub start-refused : OneOf refusals (tagOf the-type k) → z ≡ blank → Starts b (record { checked = k; state = z })
-  start-refused o h = record { answered = e; started = λ a ok. absurd (true≢false (sym (ap isAccepted (e ∙ ok)) ∙ not-accepted k o)); zeros = λ number place q. h }
+  start-refused o h = record { answered = e; started = h ∙ sym (refused-state b (checking b) (ap isAccepted (sym e) ∙ not-accepted k o)) }
 
-  pub start-accepted : {r f : ℕ} → k ≡ Accepted r f → stored z ≡ nothing b → Starts b (record { checked = k; state = z })
-  start-accepted is h = record { answered = e; started = λ a ok. h ∙ nothing-stored b; zeros = λ number place q. absurd (true≢false (ap isAccepted (sym (ap answerOf is) ∙ e ∙ q))) }
-
--- an accepted rule has room in the state
-pub rule-fits : (b : List ℕ) (a : Answer) → checking b ≡ given a → length b ≤ 652
-rule-fits b a ok = omega (arith, accepted b a ok .long, nodes-most b a ok)
+  pub start-accepted : {r f : ℕ} → k ≡ Accepted r f → z ≡ startState b → Starts b (record { checked = k; state = z })
+  start-accepted is h = record { answered = e; started = h ∙ ap (stateFor b) (sym (ap answerOf is) ∙ e) }

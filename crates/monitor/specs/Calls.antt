@@ -1,9 +1,8 @@
 -- A list of takings, each of which got the state that the last handed back; known by what `take` promises alone.
 use Prim.Native.Nat.{ℕ}
 use mathlib.Core.Path.{_≡_}
-use mathlib.Core.List.{List, [], _∷_, map}
-use Rattle.meaning.specs.Log.{Log}
-use Rattle.meaning.specs.Keeper.{Taking, Given, keeperLog}
+use mathlib.Core.List.{List, [], _∷_}
+use Rattle.meaning.specs.Keeper.{Taking, Given}
 use Rattle.lent.specs.Lent.{answerOf}
 use Rattle.monitor.specs.declared.State.{State}
 use Rattle.monitor.specs.declared.Step.{Step}
@@ -27,7 +26,3 @@ takingOf c = record { event = c .event; buffer = c .buffer }
 
 abbrev pub givenOf : Call → Given
 givenOf c = record { answer = answerOf (c .back .answer); buffer = c .left }
-
--- the keeper's log after the calls
-abbrev pub logOf : List ℕ → List Call → Log
-logOf b cs = keeperLog b [] (map takingOf cs)

@@ -4,10 +4,11 @@ use lent::Answer;
 use rulefile::Checked;
 ghost use mathlib.Core.Path.{_≡_};
 ghost use Prim.Native.Nat.{_≤_};
-ghost use lib.ListN.{length, take};
+ghost use lib.ListN.{length};
 ghost use Rattle.method.specs.Step.{keptStored};
-ghost use Rattle.figuring.specs.Fronts.{Opens};
-ghost use Rattle.monitor.specs.State.{stored, nothing, blank};
+ghost use Rattle.figuring.specs.Fronts.{openOf, openAnswer};
+ghost use Rattle.lent.specs.Lent.{atFront};
+ghost use Rattle.monitor.specs.State.{stored, startState, blank};
 ghost use Rattle.monitor.specs.Contracts.{Starts, Takes};
 
 // What is kept between calls, by value: the rule's bytes and how many they are; the points accepted; the retained times and how many they are; the kept entries, each with its owner (a node twice, and 1 more for a pair), the number of its point or its age, and its four values; and their count.
@@ -36,10 +37,10 @@ pub struct Step {
     pub answer: Answer,
 }
 
-// Copies bytes to the front of others.
+// Copies bytes to the front of others; those behind them stay.
 fn copy_bytes(from: &[u8], to: &mut [u8])
     requires { ⌜ length (now from) ≤ length (now to) ⌝ }
-    ensures { λ _. ⌜ take (length (now (from .entry))) (now (to .exit)) ≡ now (from .entry) ⌝ }
+    ensures { λ _. ⌜ now (to .exit) ≡ atFront (now (from .entry)) (now (to .entry)) ⌝ }
 {
     let n = from.len();
     let mut k = 0;
@@ -69,7 +70,7 @@ fn zeros() -> State
 // A state with no points, under a rule.
 fn empty(rule: &[u8]) -> State
     requires { ⌜ length (now rule) ≤ 652 ⌝ }
-    ensures { λ r. ⌜ stored r ≡ nothing (now (rule .entry)) ⌝ }
+    ensures { λ r. ⌜ r ≡ startState (now (rule .entry)) ⌝ }
 {
     let mut bytes = [0u8; 652];
     copy_bytes(rule, &mut bytes);
@@ -142,7 +143,7 @@ pub fn kept(s: State) -> u32
 
 // How many points a state has accepted that aren't settled, where it is well formed.
 pub fn open_points(state: State) -> Open
-    ensures { λ r. ⌜ Opens (stored state) r ⌝ }
+    ensures { λ r. ⌜ openOf r ≡ openAnswer (stored state) ⌝ }
 {
     figuring::open_points(
         &state.rule,

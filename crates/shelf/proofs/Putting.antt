@@ -11,7 +11,7 @@ use Rattle.meaning.proofs.Points.{Tested, passed, failed, tested}
 use Rattle.shelf.specs.Appended.{WordsPut}
 
 pub put-none : (ws : List ℕ) (end : ℕ) (f : ℕ → ℕ) → WordsPut ws end ws 0 f
-put-none ws end f = record { long = refl; below = λ j l. refl; there = λ k l. absurd (omega arith) }
+put-none ws end f = record { long = refl; below = λ j l. refl; there = λ k l. absurd (omega arith); behind = λ j l. refl }
 
 module _ {old : List ℕ} {end : ℕ} {new : List ℕ} {k : ℕ} (f : ℕ → ℕ) (t : WordsPut old end new k f) (x : ℕ) (is : x ≡ f k) (l : end + k < length new) where
   word-there : (j : ℕ) → j < k + 1 → getD (set new (end + k) x) (end + j) 0 ≡ f j
@@ -31,4 +31,5 @@ module _ {old : List ℕ} {end : ℕ} {new : List ℕ} {k : ℕ} (f : ℕ → �
         long = length-set new (end + k) x ∙ t .long;
         below = λ j m. getD-set-other new (end + k) j x 0 (omega arith) ∙ t .below j m;
         there = word-there;
+        behind = λ j m. getD-set-other new (end + k) j x 0 (omega arith) ∙ t .behind j (omega arith);
       }

@@ -6,11 +6,12 @@ use lib.ListN.{length, getD}
 use Rattle.rowset.specs.Rows.{rowsFrom}
 use Rattle.room.specs.Room.{setIn, Laid}
 
--- count words put at word end and on, of which f says each; no word before them has changed
+-- count words put at word end and on, of which f says each; no word before or behind them has changed
 pub record WordsPut (old : List ℕ) (end : ℕ) (new : List ℕ) (count : ℕ) (f : ℕ → ℕ) : Type 0 where
   pub long : length new ≡ length old
   pub below : (j : ℕ) → j < end → getD new j 0 ≡ getD old j 0
   pub there : (k : ℕ) → k < count → getD new (end + k) 0 ≡ f k
+  pub behind : (j : ℕ) → end + count ≤ j → getD new j 0 ≡ getD old j 0
 
 -- count rows copied to row end and on; no word before them has changed
 pub record Copied (old : List ℕ) (end : ℕ) (new : List ℕ) (count : ℕ) (rows : List (List ℕ)) : Type 0 where

@@ -1,6 +1,8 @@
--- `yokemango_open_points` meets its contract by that of `open_points`.
-use Rattle.boundary.proofs.Numbers.{open-told, not-open-told}
+-- `yokemango_open_points` meets its contract by that of `open_points`, answer by answer.
+use mathlib.Core.Path.{sym, ap, _∙_}
 use borrow.Author.Needs.{needs}
+use Rattle.figuring.specs.Fronts.{openOf}
+use Rattle.boundary.specs.Numbers.{openParts}
 use Rattle.boundary.proofs.yokemango_open_points.Statement.{statement}
 use Rattle.boundary.proofs.yokemango_open_points.Tie as tie
 
@@ -14,10 +16,10 @@ enum-told : tie.Need-enum-told
 enum-told c = search needs
 
 returns : tie.Need-returns
-returns c = open-told _ (rw (c .before .n .given .1) at (c .before .before .before .open-points .ensures))
+returns c = ap openParts (ap openOf (sym (c .before .n .given .1)) ∙ c .before .before .before .open-points .ensures)
 
 returns-2 : tie.Need-returns-2
-returns-2 c = not-open-told _ (rw (c .enum-told .given .1) at (c .before .before .open-points .ensures))
+returns-2 c = ap openParts (ap openOf (sym (c .enum-told .given .1)) ∙ c .before .before .open-points .ensures)
 
 pub yokemango-open-points-spec : {M : Type 1} → statement M
 yokemango-open-points-spec =

@@ -1,4 +1,4 @@
--- `yokemango_start` meets its contract by those of `start` and `parts_of`; the lengths of the arrays are in the type of the state.
+-- `yokemango_start` meets its contract by those of `start` and `parts_of`.
 use Rattle.boundary.proofs.Numbers.{starts-told}
 use borrow.Author.Needs.{needs}
 use Rattle.boundary.proofs.yokemango_start.Statement.{statement}
@@ -11,7 +11,7 @@ parts-of-requires : tie.Need-parts-of-requires
 parts-of-requires c κs = search needs
 
 returns : tie.Need-returns
-returns c = starts-told (c .before .before .start .ensures) (c .parts-of .ensures) (search needs)
+returns c = starts-told (c .before .before .start .ensures) (c .parts-of .ensures)
 
 pub yokemango-start-spec : {M : Type 1} → statement M
 yokemango-start-spec = tie.close (tie.spec start-requires parts-of-requires returns)

@@ -1,19 +1,19 @@
 -- Figures that are out of bounds aren't of a well-formed state; else what is stored at the front is what is stored in the parts.
 use native.Mathlib.Omega.{arith}
 use denote.Ref.{now}
-use Rattle.figuring.proofs.Slices.{front-length, entries-many, front-parts, long-rule, many-times, many-entries}
+use Rattle.figuring.proofs.Slices.{front-length, entries-many, front-parts, long-rule, many-times, many-entries, not-open}
 use borrow.Author.Needs.{needs}
 use Rattle.figuring.proofs.open_points.Statement.{statement}
 use Rattle.figuring.proofs.open_points.Tie as tie
 
 returns : tie.Need-returns
-returns c = let a = c .before .before .before .before .before .before .args in long-rule _ (omega (arith, front-length (a .bytes) (now (a .rule))))
+returns c = let a = c .before .before .before .before .before .before .args in not-open _ (long-rule _ (omega (arith, front-length (a .bytes) (now (a .rule)))))
 
 returns-2 : tie.Need-returns-2
-returns-2 c = let a = c .before .before .before .before .before .before .before .args in many-times _ (omega (arith, front-length (a .retained) (now (a .times))))
+returns-2 c = let a = c .before .before .before .before .before .before .before .args in not-open _ (many-times _ (omega (arith, front-length (a .retained) (now (a .times)))))
 
 returns-3 : tie.Need-returns-3
-returns-3 c = let a = c .before .before .before .before .before .before .before .before .args in many-entries _ (omega (arith, entries-many (now (a .owners)) (now (a .numbers)) (now (a .values)) (a .count)))
+returns-3 c = let a = c .before .before .before .before .before .before .before .before .args in not-open _ (many-entries _ (omega (arith, entries-many (now (a .owners)) (now (a .numbers)) (now (a .values)) (a .count))))
 
 sub-open-stored : tie.Need-sub-open-stored
 sub-open-stored c = search needs

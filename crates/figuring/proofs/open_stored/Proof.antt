@@ -7,7 +7,7 @@ use denote.Ref.{now}
 use Rattle.method.specs.WellFormed.{wellFormed}
 use Rattle.method.proofs.Formed.{formed}
 use Rattle.formed.specs.Known.{storedIn}
-use Rattle.figuring.proofs.Slices.{node-sizes, last-most, open-counted}
+use Rattle.figuring.proofs.Slices.{node-sizes, not-open, last-most, open-counted}
 use borrow.Author.Needs.{needs}
 use Rattle.figuring.proofs.open_stored.Statement.{statement}
 use Rattle.figuring.proofs.open_stored.Tie as tie
@@ -31,7 +31,7 @@ well-formed-requires : tie.Need-well-formed-requires
 well-formed-requires c κs = (c .before .before .before .before .before .before .before .before .pre, omega arith)
 
 returns : tie.Need-returns
-returns c = sym (c .before .before .before .before .well-formed .ensures .0) ∙ not-true _ (c .if1 .taken)
+returns c = not-open _ (sym (c .before .before .before .before .well-formed .ensures .0) ∙ not-true _ (c .if1 .taken))
 
 shared-slice-read-last : tie.Need-shared-slice-read-last
 shared-slice-read-last c = omega (arith, node-sizes (formed _ (well (c .before))))
@@ -52,7 +52,7 @@ sub-t27 : tie.Need-sub-t27
 sub-t27 c = last-most _ (well (c .before)) (c .before .before .before .before .before .well-formed .ensures .1 (not-false _ (c .before .if1 .left)))
 
 returns-2 : tie.Need-returns-2
-returns-2 c = (well (c .before), open-counted _ (well (c .before)) (c .before .before .before .before .before .well-formed .ensures .1 (not-false _ (c .before .if1 .left))))
+returns-2 c = open-counted _ (well (c .before)) (c .before .before .before .before .before .well-formed .ensures .1 (not-false _ (c .before .if1 .left)))
 
 pub open-stored-spec : {M : Type 1} → statement M
 open-stored-spec =

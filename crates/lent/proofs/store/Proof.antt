@@ -1,7 +1,7 @@
 -- `store` meets its contract, copy by copy.
 use native.Mathlib.Omega.{arith}
 use borrow.Author.Needs.{needs}
-use Rattle.lent.proofs.Front.{front-copied}
+use Rattle.lent.proofs.Front.{put-front}
 use Rattle.lent.proofs.store.Statement.{statement}
 use Rattle.lent.proofs.store.Tie as tie
 
@@ -13,13 +13,16 @@ returns c =
     let t = o .before .before .before .before in
     let s = t .before .before .before .before .before .before .before .before .before .before in
     let a = s .args in
-    let p = s .pre in
-    record {
-      times-copied = front-copied (a .stamps .now) (t .copy-words .ensures) (omega (arith, p)) (omega (arith, p));
-      owners-copied = front-copied (a .out-owners .now) (o .copy-words2 .ensures) (omega (arith, p)) (omega (arith, p));
-      numbers-copied = front-copied (a .out-numbers .now) (n .copy-words3 .ensures) (omega (arith, p)) (omega (arith, p));
-      values-copied = front-copied (a .out-values .now) (d .copy-words4 .ensures) (omega (arith, p)) (omega (arith, p));
-    }
+    let p = s .pre in (
+      put-front (a .stamps .now) (t .copy-words .ensures) (omega (arith, p)) (omega (arith, p)),
+      (
+        put-front (a .out-owners .now) (o .copy-words2 .ensures) (omega (arith, p)) (omega (arith, p)),
+        (
+          put-front (a .out-numbers .now) (n .copy-words3 .ensures) (omega (arith, p)) (omega (arith, p)),
+          put-front (a .out-values .now) (d .copy-words4 .ensures) (omega (arith, p)) (omega (arith, p)),
+        ),
+      ),
+    )
 
 pub store-spec : {M : Type 1} → statement M
 store-spec =

@@ -1,8 +1,8 @@
 -- `lengths_fit` meets its contract: a length that isn't a state's makes the whole test false.
 use borrow.Author.Tests.{eq-eqb, ne-eqb}
-use Rattle.boundary.specs.Numbers.{lengthsFit}
-use Rattle.boundary.proofs.lengths_fit.Statement.{statement}
-use Rattle.boundary.proofs.lengths_fit.Tie as tie
+use Rattle.lent.specs.Lent.{lengthsFit}
+use Rattle.lent.proofs.lengths_fit.Statement.{statement}
+use Rattle.lent.proofs.lengths_fit.Tie as tie
 
 returns : tie.Need-returns
 unfolding lengthsFit
