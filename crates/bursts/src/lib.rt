@@ -29,10 +29,10 @@ pub fn settle_few(
     out_values: &mut [u32],
     report: &mut [u32],
 ) -> Weighed
-    requires { ⌜ Begun (now rule) (now owners) (now numbers) (now values) count (now before) (now after) (now times) (base .0) (now event) (now lows) (now wants) (now masks) points 4 ⌝ }
+    requires { ⌜ Begun (now rule) (now owners) (now numbers) (now values) count (now before) (now after) (now times) base (now event) (now lows) (now wants) (now masks) points 4 ⌝ }
     requires { ⌜ (nodeCount (now rule) ≤ 8) × (count ≤ 128) ⌝ }
     requires { ⌜ Stands (now «out_owners») (now «out_numbers») (now «out_values») mostKept ⌝ }
-    ensures { λ r. ⌜ SettledAll (now (rule .entry)) (now (owners .entry)) (now (numbers .entry)) (now (values .entry)) count (now (before .entry)) (now (after .entry)) (now (times .entry)) (base .0) (now (event .entry)) points (now (report .entry)) (now (report .exit)) (now («out_owners» .exit)) (now («out_numbers» .exit)) (now («out_values» .exit)) r ⌝ }
+    ensures { λ r. ⌜ SettledAll (now (rule .entry)) (now (owners .entry)) (now (numbers .entry)) (now (values .entry)) count (now (before .entry)) (now (after .entry)) (now (times .entry)) base (now (event .entry)) points (now (report .entry)) (now (report .exit)) (now («out_owners» .exit)) (now («out_numbers» .exit)) (now («out_values» .exit)) r ⌝ }
 {
     let mut rows = [0u32; 4608];
     let mut at = [0u32; 521];
@@ -92,9 +92,9 @@ fn settle_some(
     out_values: &mut [u32],
     report: &mut [u32],
 ) -> Weighed
-    requires { ⌜ Begun (now rule) (now owners) (now numbers) (now values) count (now before) (now after) (now times) (base .0) (now event) (now lows) (now wants) (now masks) points 4 ⌝ }
+    requires { ⌜ Begun (now rule) (now owners) (now numbers) (now values) count (now before) (now after) (now times) base (now event) (now lows) (now wants) (now masks) points 4 ⌝ }
     requires { ⌜ Stands (now «out_owners») (now «out_numbers») (now «out_values») mostKept ⌝ }
-    ensures { λ r. ⌜ SettledAll (now (rule .entry)) (now (owners .entry)) (now (numbers .entry)) (now (values .entry)) count (now (before .entry)) (now (after .entry)) (now (times .entry)) (base .0) (now (event .entry)) points (now (report .entry)) (now (report .exit)) (now («out_owners» .exit)) (now («out_numbers» .exit)) (now («out_values» .exit)) r ⌝ }
+    ensures { λ r. ⌜ SettledAll (now (rule .entry)) (now (owners .entry)) (now (numbers .entry)) (now (values .entry)) count (now (before .entry)) (now (after .entry)) (now (times .entry)) base (now (event .entry)) points (now (report .entry)) (now (report .exit)) (now («out_owners» .exit)) (now («out_numbers» .exit)) (now («out_values» .exit)) r ⌝ }
 {
     let mut rows = [0u32; 18432];
     let mut at = [0u32; 2081];
@@ -154,9 +154,9 @@ fn settle_burst(
     out_values: &mut [u32],
     report: &mut [u32],
 ) -> Weighed
-    requires { ⌜ Begun (now rule) (now owners) (now numbers) (now values) count (now before) (now after) (now times) (base .0) (now event) (now lows) (now wants) (now masks) points 65 ⌝ }
+    requires { ⌜ Begun (now rule) (now owners) (now numbers) (now values) count (now before) (now after) (now times) base (now event) (now lows) (now wants) (now masks) points 65 ⌝ }
     requires { ⌜ Stands (now «out_owners») (now «out_numbers») (now «out_values») mostKept ⌝ }
-    ensures { λ r. ⌜ SettledAll (now (rule .entry)) (now (owners .entry)) (now (numbers .entry)) (now (values .entry)) count (now (before .entry)) (now (after .entry)) (now (times .entry)) (base .0) (now (event .entry)) points (now (report .entry)) (now (report .exit)) (now («out_owners» .exit)) (now («out_numbers» .exit)) (now («out_values» .exit)) r ⌝ }
+    ensures { λ r. ⌜ SettledAll (now (rule .entry)) (now (owners .entry)) (now (numbers .entry)) (now (values .entry)) count (now (before .entry)) (now (after .entry)) (now (times .entry)) base (now (event .entry)) points (now (report .entry)) (now (report .exit)) (now («out_owners» .exit)) (now («out_numbers» .exit)) (now («out_values» .exit)) r ⌝ }
 {
     let mut rows = [0u32; 268288];
     let mut at = [0u32; 2081];
@@ -218,10 +218,10 @@ pub fn settle_many(
     out_values: &mut [u32],
     report: &mut [u32],
 ) -> Weighed
-    requires { ⌜ Begun (now rule) (now owners) (now numbers) (now values) count (now before) (now after) (now times) (base .0) (now event) (now lows) (now wants) (now masks) points most ⌝ }
+    requires { ⌜ Begun (now rule) (now owners) (now numbers) (now values) count (now before) (now after) (now times) base (now event) (now lows) (now wants) (now masks) points most ⌝ }
     requires { ⌜ most ≤ 65 ⌝ }
     requires { ⌜ Stands (now «out_owners») (now «out_numbers») (now «out_values») mostKept ⌝ }
-    ensures { λ r. ⌜ SettledAll (now (rule .entry)) (now (owners .entry)) (now (numbers .entry)) (now (values .entry)) count (now (before .entry)) (now (after .entry)) (now (times .entry)) (base .0) (now (event .entry)) points (now (report .entry)) (now (report .exit)) (now («out_owners» .exit)) (now («out_numbers» .exit)) (now («out_values» .exit)) r ⌝ }
+    ensures { λ r. ⌜ SettledAll (now (rule .entry)) (now (owners .entry)) (now (numbers .entry)) (now (values .entry)) count (now (before .entry)) (now (after .entry)) (now (times .entry)) base (now (event .entry)) points (now (report .entry)) (now (report .exit)) (now («out_owners» .exit)) (now («out_numbers» .exit)) (now («out_values» .exit)) r ⌝ }
 {
     if 0 < again {
         return settle_many(

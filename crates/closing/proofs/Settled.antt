@@ -34,7 +34,7 @@ use Rattle.weighing.proofs.Weighing.{not-written}
 use Rattle.closing.specs.Settles.{SettledAll, reportIn}
 
 -- a higher bound on the newly settled points
-pub begun-most : {b os ns vs : List ℕ} {count : ℕ} {before after times : List ℕ} {base : ℕ} {w lows wants masks : List ℕ} {points most : ℕ} → Begun b os ns vs count before after times base w lows wants masks points most
+pub begun-most : {b os ns vs : List ℕ} {count : ℕ} {before after times : List ℕ} {base : Point} {w lows wants masks : List ℕ} {points most : ℕ} → Begun b os ns vs count before after times base w lows wants masks points most
     → (more : ℕ) → most ≤ more → Begun b os ns vs count before after times base w lows wants masks points more
 begun-most h more o =
     record {
@@ -91,10 +91,10 @@ map-alike : {A B : Type 0} (f g : A → B) → ((x : A) → f x ≡ g x) → (xs
 map-alike f g h [] = refl
 map-alike f g h (x ∷ xs) = ap₂ (λ y ys. y ∷ ys) (h x) (map-alike f g h xs)
 
-reportedAt : Point → ℕ → List ℕ → List (List ℕ) → Reported
+reportedAt : Point → Point → List ℕ → List (List ℕ) → Reported
 reportedAt j base times rows = record { at = j; time = stampIn base times j; rows = rows }
 
-module _ {b os ns vs : List ℕ} {count : ℕ} {before after times : List ℕ} {base : ℕ} {w : List ℕ} {lows wants masks : List ℕ} {points most : ℕ}
+module _ {b os ns vs : List ℕ} {count : ℕ} {before after times : List ℕ} {base : Point} {w : List ℕ} {lows wants masks : List ℕ} {points most : ℕ}
     (h : Begun b os ns vs count before after times base w lows wants masks points most) where
   last-node : lastNode b < nodeCount b
   last-node = last-is-node b (h .accepted .0) (h .accepted .1)
@@ -113,7 +113,7 @@ module _ {b os ns vs : List ℕ} {count : ℕ} {before after times : List ℕ} {
       }
 
   module _ {firsts rows at os₀ ns₀ vs₀ os' ns' vs' : List ℕ} {k : ℕ} (t : AllTurned b os ns vs count before after times base w lows firsts rows at os₀ ns₀ vs₀ os' ns' vs' k) where
-    low-is : figure lows x ≡ wantedFrom b (figure before) x
+    low-is : figure lows x ≡ wantedFrom b (figure before) x .0
     low-is = h .low x last-node
 
     low-before : figure lows x ≤ figure before x
@@ -139,27 +139,27 @@ module _ {b os ns vs : List ℕ} {count : ℕ} {before after times : List ℕ} {
         }
 
     -- the turn's first point is the node's
-    turn-low : turnIn b os ns vs count before after times base w x .low ≡ figure lows x
+    turn-low : turnIn b os ns vs count before after times base w x .low ≡ point (figure lows x)
     unfolding turnIn turnOf
-    turn-low = ap (λ (r : Turn). r .low) (turns-at b (entriesFrom os ns vs 0 count) (stampIn base times) (figure before) (figure after) _ (nodeCount b) x last-node) ∙ sym low-is
+    turn-low = ap (λ (r : Turn). r .low) (turns-at b (entriesFrom os ns vs 0 count) (stampIn base times) (figure before) (figure after) _ (nodeCount b) x last-node) ∙ sym (ap point low-is)
 
     -- a set that is reported is the turn's
-    set-is : (j : Point) → figure before x ≤ j .0 → j .0 < figure before x + (figure after x - figure before x) → setAt rows at (figure firsts x) (figure lows x) j ≡ rowsOfTurn (turnIn b os ns vs count before after times base w x) j
+    set-is : (j : Point) → figure before x ≤ j .0 → j .0 < figure before x + (figure after x - figure before x) → setAt rows at (figure firsts x) (point (figure lows x)) j ≡ rowsOfTurn (turnIn b os ns vs count before after times base w x) j
     set-is j u o =
         t .there x last-node (j .0 - figure lows x) (omega (arith, low-before, h .before-after x last-node))
-        ∙ ap (λ n. getD (turnIn b os ns vs count before after times base w x .rows) (j .0 - n) []) (sym turn-low)
+        ∙ ap (λ (n : Point). getD (turnIn b os ns vs count before after times base w x .rows) (j .0 - n .0) []) (sym turn-low)
 
     free-is : (v : ℕ) → v < 4 → inMask (figure masks x) v ≡ free (pattern b) v
     free-is = h .mask x last-node
 
-    pub report-same : lastWords b rows at firsts lows masks before after base times ≡ reportIn b os ns vs count before after times base w
+    pub report-same : lastWords b rows at firsts lows masks before after (base .0) times ≡ reportIn b os ns vs count before after times base w
     unfolding words reportedFrom reportIn reportedAt
     report-same =
         ap₂ reportWords (count-same (inMask (figure masks x)) (free (pattern b)) free-is)
         (map-points _ _ (figure before x) (figure after x - figure before x)
-        (λ j u o. ap (reportedAt j base times) (map-alike _ _ (shown-same (inMask (figure masks x)) (free (pattern b)) free-is) (setAt rows at (figure firsts x) (figure lows x) j) ∙ ap (map (reportRow (free (pattern b)))) (set-is j u o))))
+        (λ j u o. ap (reportedAt j base times) (map-alike _ _ (shown-same (inMask (figure masks x)) (free (pattern b)) free-is) (setAt rows at (figure firsts x) (point (figure lows x)) j) ∙ ap (map (reportRow (free (pattern b)))) (set-is j u o))))
 
-    pub weighed-settles : {buffer buffer' : List ℕ} {r : Weighed} → Weighs (points - figure after x) k (lastWords b rows at firsts lows masks before after base times) buffer buffer' r
+    pub weighed-settles : {buffer buffer' : List ℕ} {r : Weighed} → Weighs (points - figure after x) k (lastWords b rows at firsts lows masks before after (base .0) times) buffer buffer' r
         → SettledAll b os ns vs count before after times base w points buffer buffer' os' ns' vs' r
     unfolding weighed entriesFrom
     weighed-settles {buffer} {buffer'} {r} s =

@@ -10,6 +10,7 @@ use Rattle.meaning.specs.Formula.{free, variables}
 use Rattle.meaning.specs.RuleFile.{nodeCount, lastNode, pattern}
 use Rattle.meaning.specs.Report.{reportWords}
 use Rattle.meaning.specs.Keeper.{reportRow, weighed, bufferAfter}
+use Rattle.meaning.specs.declared.Point.{Point}
 use Rattle.method.specs.Stored.{stampIn}
 use Rattle.method.specs.Settle.{rowsOfTurn}
 use Rattle.shelf.specs.Entries.{entriesFrom}
@@ -19,7 +20,7 @@ use Rattle.weighing.specs.declared.Weighed.the-variants.{Written}
 use Rattle.weighing.specs.Weighs.{weighedOf}
 
 -- the report of the turns of a call
-module _ (b os ns vs : List ℕ) (count : ℕ) (before after times : List ℕ) (base : ℕ) (w : List ℕ) where
+module _ (b os ns vs : List ℕ) (count : ℕ) (before after times : List ℕ) (base : Point) (w : List ℕ) where
   unfoldable pub reportIn : List ℕ
   reportIn =
       reportWords (length (select (free (pattern b)) variables))

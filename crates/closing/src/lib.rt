@@ -42,10 +42,10 @@ pub fn settle(
     out_values: &mut [u32],
     report: &mut [u32],
 ) -> Weighed
-    requires { ⌜ Begun (now rule) (now owners) (now numbers) (now values) count (now before) (now after) (now times) (base .0) (now event) (now lows) (now wants) (now masks) points most ⌝ }
+    requires { ⌜ Begun (now rule) (now owners) (now numbers) (now values) count (now before) (now after) (now times) base (now event) (now lows) (now wants) (now masks) points most ⌝ }
     requires { ⌜ Roomy (now rows) (now at) (now firsts) (now ages) (now paired) (now «spare_ages») (now «spare_paired») count most (nodeCount (now rule)) ⌝ }
     requires { ⌜ Stands (now «out_owners») (now «out_numbers») (now «out_values») mostKept ⌝ }
-    ensures { λ r. ⌜ SettledAll (now (rule .entry)) (now (owners .entry)) (now (numbers .entry)) (now (values .entry)) count (now (before .entry)) (now (after .entry)) (now (times .entry)) (base .0) (now (event .entry)) points (now (report .entry)) (now (report .exit)) (now («out_owners» .exit)) (now («out_numbers» .exit)) (now («out_values» .exit)) r ⌝ }
+    ensures { λ r. ⌜ SettledAll (now (rule .entry)) (now (owners .entry)) (now (numbers .entry)) (now (values .entry)) count (now (before .entry)) (now (after .entry)) (now (times .entry)) base (now (event .entry)) points (now (report .entry)) (now (report .exit)) (now («out_owners» .exit)) (now («out_numbers» .exit)) (now («out_values» .exit)) r ⌝ }
 {
     let turned = turns::all_turns(
         rule,

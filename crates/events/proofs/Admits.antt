@@ -4,10 +4,12 @@ use mathlib.Core.Path.{_≡_, refl, _∙_}
 use mathlib.Core.List.{List, [], _∷_}
 use lib.ListN.{getD}
 use lib.Dec.{ltb, leb}
+use Rattle.meaning.specs.Log.{stamp}
 use Rattle.meaning.specs.Lists.{range}
 use Rattle.meaning.specs.Outcome.{Outcome, when, timeFalls, logFull, mostPoints}
 use Rattle.meaning.specs.Event.{rowCount, rowFits}
 use Rattle.meaning.specs.Keeper.{weighRows, admitted}
+use Rattle.meaning.specs.declared.Stamp.{Stamp}
 use Rattle.meaning.proofs.Points.{Tested, passed, failed, tested}
 use Rattle.events.specs.declared.Form.the-variants as form
 use Rattle.events.specs.declared.Rows.{Rows}
@@ -36,40 +38,40 @@ late Falls room = TimeFalls
 late Kept Full = LogFull
 late Kept Left = Fine
 
-weighed-late : (time last points : ℕ) (rest : Outcome ℕ) → when (ltb time last) timeFalls 0 (when (leb mostPoints points) logFull 0 rest) ≡ outcomeOf (late (orderOf time last) (roomOf points)) rest
+weighed-late : (time last : Stamp) (points : ℕ) (rest : Outcome ℕ) → when (ltb (time .0) (last .0)) timeFalls 0 (when (leb mostPoints points) logFull 0 rest) ≡ outcomeOf (late (orderOf time last) (roomOf points)) rest
 unfolding orderOf roomOf
-weighed-late time last points rest = go (tested (ltb time last)) (tested (leb mostPoints points))
+weighed-late time last points rest = go (tested (ltb (time .0) (last .0))) (tested (leb mostPoints points))
   where
-    go : Tested (ltb time last) → Tested (leb mostPoints points) → when (ltb time last) timeFalls 0 (when (leb mostPoints points) logFull 0 rest) ≡ outcomeOf (late (orderOf time last) (roomOf points)) rest
+    go : Tested (ltb (time .0) (last .0)) → Tested (leb mostPoints points) → when (ltb (time .0) (last .0)) timeFalls 0 (when (leb mostPoints points) logFull 0 rest) ≡ outcomeOf (late (orderOf time last) (roomOf points)) rest
     go (passed t) u = rw t
     go (failed t) (passed u) = rw (t, u)
     go (failed t) (failed u) = rw (t, u)
 
-module _ (b w : List ℕ) (last points : ℕ) where
-  pub not-admitted : form.Not ≡ formOf w → (rest : Outcome ℕ) → admitted b w last points rest ≡ outcomeOf NotAnEvent rest
+module _ (b w : List ℕ) (last : Stamp) (points : ℕ) where
+  pub not-admitted : form.Not ≡ formOf w → (rest : Outcome ℕ) → admitted b w (last .0) points rest ≡ outcomeOf NotAnEvent rest
   unfolding admitted
   not-admitted e rest = rw (form-failed w e)
 
   module _ {m : ℕ} (event : form.Event m ≡ formOf w) where
-    by-rows : (rest : Outcome ℕ) → admitted b w last points rest ≡ outcomeOf (admittedRows (rowsOf b w (range 0 m))) (outcomeOf (late (orderOf (getD w 0 0) last) (roomOf points)) rest)
+    by-rows : (rest : Outcome ℕ) → admitted b w (last .0) points rest ≡ outcomeOf (admittedRows (rowsOf b w (range 0 m))) (outcomeOf (late (orderOf (stamp (getD w 0 0)) last) (roomOf points)) rest)
     unfolding admitted
     by-rows rest =
         let same : m ≡ rowCount w = form-rowed w event .count in
-        rw (form-passed w event, weighed-late (getD w 0 0) last points rest, same) (weighed-rows b w (range 0 (rowCount w)) (outcomeOf (late (orderOf (getD w 0 0) last) (roomOf points)) rest))
+        rw (form-passed w event, weighed-late (stamp (getD w 0 0)) last points rest, same) (weighed-rows b w (range 0 (rowCount w)) (outcomeOf (late (orderOf (stamp (getD w 0 0)) last) (roomOf points)) rest))
 
-    pub row-out : {rows : Rows} {k : ℕ} {r : Admitted} → rows ≡ Out k → rows ≡ rowsOf b w (range 0 m) → r ≡ admittedRows rows → (rest : Outcome ℕ) → admitted b w last points rest ≡ outcomeOf r rest
+    pub row-out : {rows : Rows} {k : ℕ} {r : Admitted} → rows ≡ Out k → rows ≡ rowsOf b w (range 0 m) → r ≡ admittedRows rows → (rest : Outcome ℕ) → admitted b w (last .0) points rest ≡ outcomeOf r rest
     row-out {rows} {k} {r} o e f rest =
         let out : rowsOf b w (range 0 m) ≡ Out k = cc in
         let answer : r ≡ RowOut k = cc in
         by-rows rest ∙ rw (out, answer)
 
     module _ (fit : Fit ≡ rowsOf b w (range 0 m)) where
-      pub time-falls : Falls ≡ orderOf (getD w 0 0) last → (rest : Outcome ℕ) → admitted b w last points rest ≡ outcomeOf TimeFalls rest
+      pub time-falls : Falls ≡ orderOf (stamp (getD w 0 0)) last → (rest : Outcome ℕ) → admitted b w (last .0) points rest ≡ outcomeOf TimeFalls rest
       time-falls e rest = by-rows rest ∙ rw (← fit, ← e)
 
-      module _ (kept : Kept ≡ orderOf (getD w 0 0) last) where
-        pub log-full : Full ≡ roomOf points → (rest : Outcome ℕ) → admitted b w last points rest ≡ outcomeOf LogFull rest
+      module _ (kept : Kept ≡ orderOf (stamp (getD w 0 0)) last) where
+        pub log-full : Full ≡ roomOf points → (rest : Outcome ℕ) → admitted b w (last .0) points rest ≡ outcomeOf LogFull rest
         log-full e rest = by-rows rest ∙ rw (← fit, ← kept, ← e)
 
-        pub fine : Left ≡ roomOf points → (rest : Outcome ℕ) → admitted b w last points rest ≡ outcomeOf Fine rest
+        pub fine : Left ≡ roomOf points → (rest : Outcome ℕ) → admitted b w (last .0) points rest ≡ outcomeOf Fine rest
         fine e rest = by-rows rest ∙ rw (← fit, ← kept, ← e)

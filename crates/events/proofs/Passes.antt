@@ -11,16 +11,17 @@ use Rattle.meaning.specs.Lists.{range}
 use Rattle.meaning.specs.Outcome.{Outcome, given, when, notAnEvent, rowOut, timeFalls, logFull, mostPoints}
 use Rattle.meaning.specs.Event.{rowCount, isEvent, rowFits}
 use Rattle.meaning.specs.Keeper.{weighRows, admitted}
+use Rattle.meaning.specs.declared.Stamp.{Stamp}
 use Rattle.meaning.proofs.Points.{from-first}
 use Rattle.events.specs.declared.Admitted.{Admitted}
 use Rattle.events.specs.declared.Admitted.the-variants.{Fine}
 use Rattle.events.specs.Answers.{Rowed, outcomeOf}
 use Rattle.events.proofs.Forms.{rowed}
 
-pub record Passed (b w : List ℕ) (last points : ℕ) : Type 0 where
+pub record Passed (b w : List ℕ) (last : Stamp) (points : ℕ) : Type 0 where
   pub form : Rowed w (rowCount w)
   pub rows : (k : ℕ) → k < rowCount w → rowFits b w k ≡ true
-  pub order : last ≤ getD w 0 0
+  pub order : last .0 ≤ getD w 0 0
   pub room : points < mostPoints
 
 -- where a test and what follows refuse nothing, the test failed and what follows refuses nothing
@@ -37,23 +38,23 @@ rows-passed b w a (suc n) rest e =
     let later : ((k : ℕ) → suc a ≤ k → k < suc a + n → rowFits b w k ≡ true) × (rest ≡ given 0) = rows-passed b w (suc a) n rest (here .1) in
     (from-first (λ k. rowFits b w k ≡ true) a n (not-false (rowFits b w a) (here .0)) (later .0), later .1)
 
-module _ (b w : List ℕ) (last points : ℕ) where
+module _ (b w : List ℕ) (last : Stamp) (points : ℕ) where
   late : Outcome ℕ
   late = when (leb mostPoints points) logFull 0 (given 0)
 
-  event-passed : admitted b w last points (given 0) ≡ given 0 → Passed b w last points
+  event-passed : admitted b w (last .0) points (given 0) ≡ given 0 → Passed b w last points
   unfolding admitted late
   event-passed e =
-      let form : (not (isEvent w) ≡ false) × (weighRows b w (range 0 (rowCount w)) (when (ltb (getD w 0 0) last) timeFalls 0 late) ≡ given 0) = when-passed (not (isEvent w)) notAnEvent 0 (weighRows b w (range 0 (rowCount w)) (when (ltb (getD w 0 0) last) timeFalls 0 late)) e in
-      let rows : ((k : ℕ) → 0 ≤ k → k < 0 + rowCount w → rowFits b w k ≡ true) × (when (ltb (getD w 0 0) last) timeFalls 0 late ≡ given 0) = rows-passed b w 0 (rowCount w) (when (ltb (getD w 0 0) last) timeFalls 0 late) (form .1) in
-      let order : (ltb (getD w 0 0) last ≡ false) × (late ≡ given 0) = when-passed (ltb (getD w 0 0) last) timeFalls 0 late (rows .1) in
+      let form : (not (isEvent w) ≡ false) × (weighRows b w (range 0 (rowCount w)) (when (ltb (getD w 0 0) (last .0)) timeFalls 0 late) ≡ given 0) = when-passed (not (isEvent w)) notAnEvent 0 (weighRows b w (range 0 (rowCount w)) (when (ltb (getD w 0 0) (last .0)) timeFalls 0 late)) e in
+      let rows : ((k : ℕ) → 0 ≤ k → k < 0 + rowCount w → rowFits b w k ≡ true) × (when (ltb (getD w 0 0) (last .0)) timeFalls 0 late ≡ given 0) = rows-passed b w 0 (rowCount w) (when (ltb (getD w 0 0) (last .0)) timeFalls 0 late) (form .1) in
+      let order : (ltb (getD w 0 0) (last .0) ≡ false) × (late ≡ given 0) = when-passed (ltb (getD w 0 0) (last .0)) timeFalls 0 late (rows .1) in
       record {
         form = rowed w (not-false (isEvent w) (form .0));
         rows = λ k h. rows .0 k (omega arith) (omega arith);
-        order = ltb-false (getD w 0 0) last (order .0);
+        order = ltb-false (getD w 0 0) (last .0) (order .0);
         room = leb-false mostPoints points (when-passed (leb mostPoints points) logFull 0 (given 0) (order .1) .0);
       }
 
   -- from what `admit` ensures, where it answers that the event is fine
-  pub fine-passed : {r : Admitted} → ((rest : Outcome ℕ) → admitted b w last points rest ≡ outcomeOf r rest) → r ≡ Fine → Passed b w last points
+  pub fine-passed : {r : Admitted} → ((rest : Outcome ℕ) → admitted b w (last .0) points rest ≡ outcomeOf r rest) → r ≡ Fine → Passed b w last points
   fine-passed h e = event-passed (h (given 0) ∙ ap (λ r. outcomeOf r (given 0)) e)

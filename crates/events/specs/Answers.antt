@@ -8,6 +8,7 @@ use lib.Dec.{ltb, leb}
 use Rattle.meaning.specs.Outcome.{Outcome, refused, notAnEvent, rowOut, timeFalls, logFull, mostRows, mostPoints}
 use Rattle.meaning.specs.RuleFile.{relationCount}
 use Rattle.meaning.specs.Event.{rowCount, isEvent, rowFits}
+use Rattle.meaning.specs.declared.Stamp.{Stamp}
 use Rattle.events.specs.declared.Form.{Form}
 use Rattle.events.specs.declared.Form.the-variants as form
 use Rattle.events.specs.declared.Rows.{Rows}
@@ -38,8 +39,8 @@ abbrev pub rowsOf : List ℕ → List ℕ → List ℕ → Rows
 rowsOf b w [] = Fit
 rowsOf b w (k ∷ ks) = cond (rowFits b w k) (rowsOf b w ks) (Out k)
 
-unfoldable pub orderOf : ℕ → ℕ → Order
-orderOf time last = cond (ltb time last) Falls Kept
+unfoldable pub orderOf : Stamp → Stamp → Order
+orderOf time last = cond (ltb (time .0) (last .0)) Falls Kept
 
 unfoldable pub roomOf : ℕ → Room
 roomOf points = cond (leb mostPoints points) Full Left

@@ -118,7 +118,7 @@ pub fn rows_of(rule: &[u8], event: &[u32], m: u32) -> Rows
 
 // The order by two time stamps, the event's and the last point's.
 fn order_of(time: Stamp, last: Stamp) -> Order
-    ensures { λ r. ⌜ r ≡ orderOf (time .0) (last .0) ⌝ }
+    ensures { λ r. ⌜ r ≡ orderOf time last ⌝ }
 {
     if time.0 < last.0 {
         Order::Falls

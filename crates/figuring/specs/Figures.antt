@@ -18,14 +18,14 @@ pub record Counting (s : Stored) (before : List ℕ) : Type 0 where
   pub accepted : (a : Accepted) × (checking (s .rule) ≡ given a)
   pub few-points : s .points ≤ mostPoints
   pub few-times : length (s .times) ≤ mostTimes
-  pub times-many : length (s .times) ≡ s .points - firstRetained (s .points) (countsStored s)
+  pub times-many : length (s .times) ≡ s .points - firstRetained (s .points) (countsStored s) .0
   pub counts : before ≡ countsStored s
 
 -- the retained times with the event's behind them, how many points each node has settled after the call, and from which point on its rows are then kept
 pub record Figured (s : Stored) (w stamps after wants : List ℕ) : Type 0 where
   pub times-now : take (length (s .times) + 1) stamps ≡ s .times ++ getD w 0 0 ∷ []
   pub counts-now : take (nodeCount (s .rule)) after ≡ countsAfter s w
-  pub wants-now : (x : ℕ) → x < nodeCount (s .rule) → getD wants x 0 ≡ wantedFrom (s .rule) (countAfter s w) x
+  pub wants-now : (x : ℕ) → x < nodeCount (s .rule) → getD wants x 0 ≡ wantedFrom (s .rule) (countAfter s w) x .0
 
 -- no node's count has grown by more than the figure, and it is no more than any bound that says so
 pub record MostNew (before after : List ℕ) (n most : ℕ) : Type 0 where

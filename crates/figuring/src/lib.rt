@@ -5,6 +5,7 @@ ghost use mathlib.Core.Path.{_≡_};
 ghost use mathlib.Core.List.{[], _∷_, _++_};
 ghost use Prim.Native.Nat.{_+_, _-_, _≤_, _<_, max};
 ghost use lib.ListN.{length, getD, take, drop};
+ghost use Rattle.meaning.specs.Log.{stamp};
 ghost use Rattle.meaning.specs.Outcome.{mostKept};
 ghost use Rattle.meaning.specs.RuleFile.{nodeCount};
 ghost use Rattle.method.specs.Stored.{firstRetained};
@@ -28,9 +29,9 @@ pub fn node_total(rule: &[u8]) -> usize
 }
 
 // The times with one more behind them, put to the front.
-fn put_times(times: &[u32], time: u32, out: &mut [u32])
+fn put_times(times: &[u32], time: Stamp, out: &mut [u32])
     requires { ⌜ length (now times) + 1 ≤ length (now out) ⌝ }
-    ensures { λ _. ⌜ take (length (now (times .entry)) + 1) (now (out .exit)) ≡ now (times .entry) ++ time ∷ [] ⌝ }
+    ensures { λ _. ⌜ take (length (now (times .entry)) + 1) (now (out .exit)) ≡ now (times .entry) ++ time .0 ∷ [] ⌝ }
 {
     let n = times.len();
     let mut k = 0;
@@ -38,7 +39,7 @@ fn put_times(times: &[u32], time: u32, out: &mut [u32])
         out[k] = times[k];
         k += 1;
     }
-    out[n] = time;
+    out[n] = time.0;
 }
 
 // The figures of a call with the event, from how many points each node has settled before it.
@@ -57,7 +58,7 @@ pub fn figures(
     ensures { λ _. ⌜ Figured (bare (now (rule .entry)) points (now (times .entry))) (now (event .entry)) (now (stamps .exit)) (now (after .exit)) (now (wants .exit)) ⌝ }
 {
     let k = times.len();
-    put_times(times, event[0], stamps);
+    put_times(times, Stamp(event[0]), stamps);
     let base = Point(progress::less(points, k as u32));
     progress::counts(rule, &stamps[0..k + 1], base, points + 1, before, after);
     let n = node_total(rule);
@@ -100,19 +101,19 @@ fn move_front(words: &mut [u32], from: usize, to: usize)
 }
 
 // Moves the times that are retained to the front of the k ones, of which the first is point base's; how many they are.
-pub fn retain(after: &[u32], points: u32, base: u32, stamps: &mut [u32], k: usize) -> u32
-    requires { ⌜ (points ≤ base + k) × (k ≤ length (now stamps)) × (k < 4294967296) ⌝ }
-    ensures { λ r. ⌜ (take r (now (stamps .exit)) ≡ drop (firstRetained points (now (after .entry)) - base) (take k (now (stamps .entry)))) × (r ≤ k) ⌝ }
+pub fn retain(after: &[u32], points: u32, base: Point, stamps: &mut [u32], k: usize) -> u32
+    requires { ⌜ (points ≤ base .0 + k) × (k ≤ length (now stamps)) × (k < 4294967296) ⌝ }
+    ensures { λ r. ⌜ (take r (now (stamps .exit)) ≡ drop (firstRetained points (now (after .entry)) .0 - base .0) (take k (now (stamps .entry)))) × (r ≤ k) ⌝ }
 {
     let first = formed::first_retained(points, after);
-    let from = progress::less(first, base) as usize;
+    let from = progress::less(first.0, base.0) as usize;
     move_front(stamps, from, k);
     (k - from) as u32
 }
 
 // The last of the times, 0 where there is none.
 pub fn latest(times: &[u32]) -> Stamp
-    ensures { λ r. ⌜ r .0 ≡ getD (now (times .entry)) (length (now (times .entry)) - 1) 0 ⌝ }
+    ensures { λ r. ⌜ r ≡ stamp (getD (now (times .entry)) (length (now (times .entry)) - 1) 0) ⌝ }
 {
     let n = times.len();
     if 0 < n {

@@ -47,9 +47,9 @@ pub fn finish_turn(
     values: &mut [u32],
     kept: usize,
 ) -> Ended
-    requires { ⌜ Finishable (now rule) (now event) (now rows) (now at) (now firsts) (now lows) (now masks) (now counts) (now times) (base .0) points sets first (low .0) (start .0) (end .0) (from .0) node (now «old_ages») (now «old_values») old (now ages) (now paired) (now «spare_ages») (now «spare_paired») ⌝ }
+    requires { ⌜ Finishable (now rule) (now event) (now rows) (now at) (now firsts) (now lows) (now masks) (now counts) (now times) base points sets first low start end from node (now «old_ages») (now «old_values») old (now ages) (now paired) (now «spare_ages») (now «spare_paired») ⌝ }
     requires { ⌜ Stands (now owners) (now numbers) (now values) mostKept × (kept < 2147483648) ⌝ }
-    ensures { λ r. ⌜ FinishesNew (now (rule .entry)) (now (event .entry)) (now (rows .entry)) (now (at .entry)) (now (firsts .entry)) (now (lows .entry)) (now (masks .entry)) (now (counts .entry)) (now (times .entry)) (base .0) x first (low .0) (start .0) (end .0) (from .0) node (pairsFrom (now («old_ages» .entry)) (now («old_values» .entry)) 0 old) (now (rows .exit)) (now (at .exit)) sets (now (owners .entry)) (now (numbers .entry)) (now (values .entry)) kept (now (owners .exit)) (now (numbers .exit)) (now (values .exit)) r ⌝ }
+    ensures { λ r. ⌜ FinishesNew (now (rule .entry)) (now (event .entry)) (now (rows .entry)) (now (at .entry)) (now (firsts .entry)) (now (lows .entry)) (now (masks .entry)) (now (counts .entry)) (now (times .entry)) base x first low start end from node (pairsFrom (now («old_ages» .entry)) (now («old_values» .entry)) 0 old) (now (rows .exit)) (now (at .exit)) sets (now (owners .entry)) (now (numbers .entry)) (now (values .entry)) kept (now (owners .exit)) (now (numbers .exit)) (now (values .exit)) r ⌝ }
 {
     let n = (end.0 - from.0) as usize;
     if start.0 < end.0 {

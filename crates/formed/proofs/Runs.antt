@@ -78,17 +78,17 @@ module _ (os ns vs : List ℕ) (count cursor x : ℕ) (l : cursor ≤ count) whe
 
 -- ---- the runs of a node, up to point number
 
-pub record SetsGoing (os ns vs : List ℕ) (count cursor x low last mask next number : ℕ) : Type 0 where
-  pub begun : low ≤ number
-  pub reached : number ≤ low + (last - low)
-  pub done : SetsTo os ns vs count cursor x low (number - low) mask next
+pub record SetsGoing (os ns vs : List ℕ) (count cursor x : ℕ) (low : Point) (last mask next number : ℕ) : Type 0 where
+  pub begun : low .0 ≤ number
+  pub reached : number ≤ low .0 + (last - low .0)
+  pub done : SetsTo os ns vs count cursor x low (number - low .0) mask next
 
-pub going-none : (os ns vs : List ℕ) (count cursor x low last mask : ℕ) → cursor ≤ count → SetsGoing os ns vs count cursor x low last mask cursor low
+pub going-none : (os ns vs : List ℕ) (count cursor x : ℕ) (low : Point) (last mask : ℕ) → cursor ≤ count → SetsGoing os ns vs count cursor x low last mask cursor (low .0)
 going-none os ns vs count cursor x low last mask l =
-    let z : low - low ≡ 0 = omega arith in
+    let z : low .0 - low .0 ≡ 0 = omega arith in
     record { begun = omega arith; reached = omega arith; done = rw z (record { within = l; rest = refl; fit = λ j u o. absurd (omega arith) }) }
 
-module _ {os ns vs : List ℕ} {count cursor x low last mask next number : ℕ} (t : SetsGoing os ns vs count cursor x low last mask next number) where
+module _ {os ns vs : List ℕ} {count cursor x : ℕ} {low : Point} {last mask next number : ℕ} (t : SetsGoing os ns vs count cursor x low last mask next number) where
   module _ {r : ℕ} (l : number < last) (f : RunFound os ns vs count next x number r) where
     -- the run found is that of the point
     here : rowsFound x low (restAt os ns vs count cursor) (point number) ≡ rowsFrom vs next (r - next)
@@ -96,8 +96,8 @@ module _ {os ns vs : List ℕ} {count cursor x low last mask next number : ℕ} 
 
     pub going-more : rowsFit mask (rowsFrom vs next (r - next)) ≡ true → SetsGoing os ns vs count cursor x low last mask r (number + 1)
     going-more fit =
-        let e : number + 1 - low ≡ suc (number - low) = omega (arith, t .begun) in
-        let g : low + (number - low) ≡ number = omega (arith, t .begun) in
+        let e : number + 1 - low .0 ≡ suc (number - low .0) = omega (arith, t .begun) in
+        let g : low .0 + (number - low .0) ≡ number = omega (arith, t .begun) in
         record {
           begun = omega (arith, t .begun);
           reached = omega (arith, t .begun);
@@ -108,31 +108,31 @@ module _ {os ns vs : List ℕ} {count cursor x low last mask next number : ℕ} 
           });
         }
       where
-        go : (j : Point) → low ≤ j .0 → (j .0 ≡ number) ⊎ (j .0 < number) → rowsFit mask (rowsFound x low (restAt os ns vs count cursor) j) ≡ true
+        go : (j : Point) → low .0 ≤ j .0 → (j .0 ≡ number) ⊎ (j .0 < number) → rowsFit mask (rowsFound x low (restAt os ns vs count cursor) j) ≡ true
         go j u (inl e) = ap (λ k. rowsFit mask (rowsFound x low (restAt os ns vs count cursor) (point k))) e ∙ ap (rowsFit mask) here ∙ fit
         go j u (inr o) = t .done .fit j u (omega (arith, t .begun))
 
-    pub going-stuck : rowsFit mask (rowsFrom vs next (r - next)) ≡ false → SetStuck os ns vs count cursor x low (last - low) mask
+    pub going-stuck : rowsFit mask (rowsFrom vs next (r - next)) ≡ false → SetStuck os ns vs count cursor x low (last - low .0) mask
     going-stuck fit = record { at = point number; from = t .begun; before = omega (arith, t .begun); unfit = ap (rowsFit mask) here ∙ fit }
 
-  pub going-all : last ≤ number → SetsTo os ns vs count cursor x low (last - low) mask next
+  pub going-all : last ≤ number → SetsTo os ns vs count cursor x low (last - low .0) mask next
   going-all l =
-      let e : number - low ≡ last - low = omega (arith, t .begun, t .reached) in
+      let e : number - low .0 ≡ last - low .0 = omega (arith, t .begun, t .reached) in
       rw e at (t .done)
 
 -- ---- a node: its sets and its pairs
 
-module _ {os ns vs : List ℕ} {count cursor x low n mask : ℕ} {b : List ℕ} (m : MaskOf b x mask) where
+module _ {os ns vs : List ℕ} {count cursor x : ℕ} {low : Point} {n mask : ℕ} {b : List ℕ} (m : MaskOf b x mask) where
   pub set-stuck : SetStuck os ns vs count cursor x low n mask → runsFit b x low n (restAt os ns vs count cursor) ≡ false
   unfolding runsFit
-  set-stuck s = ap (λ t. t && pairsFit b x (nodeAt b x) (pairsFound x (setsRest x low n (restAt os ns vs count cursor)))) (go (tested (all fits (pointsFrom low n))))
+  set-stuck s = ap (λ t. t && pairsFit b x (nodeAt b x) (pairsFound x (setsRest x low n (restAt os ns vs count cursor)))) (go (tested (all fits (pointsFrom (low .0) n))))
     where
       fits : Point → Bool
       fits j = setFits b x (rowsFound x low (restAt os ns vs count cursor) j)
 
-      go : Tested (all fits (pointsFrom low n)) → all fits (pointsFrom low n) ≡ false
+      go : Tested (all fits (pointsFrom (low .0) n)) → all fits (pointsFrom (low .0) n) ≡ false
       go (failed t) = t
-      go (passed t) = absurd (true≢false (sym (all-points fits low n .0 t (s .at) (s .from) (s .before)) ∙ sym (rows-same m (rowsFound x low (restAt os ns vs count cursor) (s .at))) ∙ s .unfit))
+      go (passed t) = absurd (true≢false (sym (all-points fits (low .0) n .0 t (s .at) (s .from) (s .before)) ∙ sym (rows-same m (rowsFound x low (restAt os ns vs count cursor) (s .at))) ∙ s .unfit))
 
   module _ {next r : ℕ} (s : SetsTo os ns vs count cursor x low n mask next) (f : PairsFound os ns vs count next x r) where
     runs-are : runsFit b x low n (restAt os ns vs count cursor) ≡ pairsFit b x (nodeAt b x) (pairsFrom ns vs next (r - next))
@@ -140,7 +140,7 @@ module _ {os ns vs : List ℕ} {count cursor x low n mask : ℕ} {b : List ℕ} 
     runs-are =
         let rows : Point → List (List ℕ) = rowsFound x low (restAt os ns vs count cursor) in
         ap₂ (λ t ps. t && pairsFit b x (nodeAt b x) ps)
-        (all-points (λ j. setFits b x (rows j)) low n .1 (λ j u o. sym (rows-same m (rows j)) ∙ s .fit j u o))
+        (all-points (λ j. setFits b x (rows j)) (low .0) n .1 (λ j u o. sym (rows-same m (rows j)) ∙ s .fit j u o))
         (ap (pairsFound x) (sym (s .rest)) ∙ f .pairs)
 
     pub node-to : pairsFit b x (nodeAt b x) (pairsFrom ns vs next (r - next)) ≡ true → NodeTo os ns vs count cursor b x low n r
@@ -155,27 +155,27 @@ not-so : (t : Bool) → (t ≡ true → ⊥) → false ≡ t
 not-so true h = absurd (h refl)
 not-so false h = refl
 
-pub record NodesGoing (os ns vs : List ℕ) (count : ℕ) (b : List ℕ) (low end : ℕ → ℕ) (next x : ℕ) : Type 0 where
+pub record NodesGoing (os ns vs : List ℕ) (count : ℕ) (b : List ℕ) (low : ℕ → Point) (end : ℕ → ℕ) (next x : ℕ) : Type 0 where
   pub within : next ≤ count
   pub rest : restAt os ns vs count next ≡ nodesRest low end (entriesFrom os ns vs 0 count) x
-  pub fit : (y : ℕ) → y < x → runsFit b y (low y) (end y - low y) (nodesRest low end (entriesFrom os ns vs 0 count) y) ≡ true
+  pub fit : (y : ℕ) → y < x → runsFit b y (low y) (end y - low y .0) (nodesRest low end (entriesFrom os ns vs 0 count) y) ≡ true
 
-module _ (os ns vs : List ℕ) (count : ℕ) (b : List ℕ) (low end : ℕ → ℕ) where
+module _ (os ns vs : List ℕ) (count : ℕ) (b : List ℕ) (low : ℕ → Point) (end : ℕ → ℕ) where
   pub nodes-none : NodesGoing os ns vs count b low end 0 0
   nodes-none = let z : count - 0 ≡ count = omega arith in record { within = omega arith; rest = ap (entriesFrom os ns vs 0) z; fit = λ y l. absurd (omega arith) }
 
   module _ {next x : ℕ} (g : NodesGoing os ns vs count b low end next x) where
-    pub nodes-more : {r : ℕ} → NodeTo os ns vs count next b x (low x) (end x - low x) r → NodesGoing os ns vs count b low end r (x + 1)
+    pub nodes-more : {r : ℕ} → NodeTo os ns vs count next b x (low x) (end x - low x .0) r → NodesGoing os ns vs count b low end r (x + 1)
     nodes-more s =
         record {
           within = s .within;
-          rest = s .rest ∙ ap (λ es. behind (hasOwner x 1) (setsRest x (low x) (end x - low x) es)) (g .rest) ∙ ap (nodesRest low end (entriesFrom os ns vs 0 count)) (sym (add-one x));
-          fit = below-more (λ y. runsFit b y (low y) (end y - low y) (nodesRest low end (entriesFrom os ns vs 0 count) y) ≡ true) x (g .fit) (ap (runsFit b x (low x) (end x - low x)) (sym (g .rest)) ∙ s .fit);
+          rest = s .rest ∙ ap (λ es. behind (hasOwner x 1) (setsRest x (low x) (end x - low x .0) es)) (g .rest) ∙ ap (nodesRest low end (entriesFrom os ns vs 0 count)) (sym (add-one x));
+          fit = below-more (λ y. runsFit b y (low y) (end y - low y .0) (nodesRest low end (entriesFrom os ns vs 0 count) y) ≡ true) x (g .fit) (ap (runsFit b x (low x) (end x - low x .0)) (sym (g .rest)) ∙ s .fit);
         }
 
-    pub nodes-stuck : (nodes : ℕ) → x < nodes → runsFit b x (low x) (end x - low x) (restAt os ns vs count next) ≡ false → false ≡ entriesFit b low end (entriesFrom os ns vs 0 count) nodes
+    pub nodes-stuck : (nodes : ℕ) → x < nodes → runsFit b x (low x) (end x - low x .0) (restAt os ns vs count next) ≡ false → false ≡ entriesFit b low end (entriesFrom os ns vs 0 count) nodes
     nodes-stuck nodes o s =
-        not-so (entriesFit b low end (entriesFrom os ns vs 0 count) nodes) (λ t. true≢false (sym (walk-fits b low end (entriesFrom os ns vs 0 count) nodes t x o) ∙ ap (runsFit b x (low x) (end x - low x)) (sym (g .rest)) ∙ s))
+        not-so (entriesFit b low end (entriesFrom os ns vs 0 count) nodes) (λ t. true≢false (sym (walk-fits b low end (entriesFrom os ns vs 0 count) nodes t x o) ∙ ap (runsFit b x (low x) (end x - low x .0)) (sym (g .rest)) ∙ s))
 
     -- behind the last node the cursor is at the end, or there are entries left
     nodes-done : next ≡ count → restAt os ns vs count next ≡ []

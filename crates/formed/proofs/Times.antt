@@ -7,6 +7,7 @@ use mathlib.Core.List.{List, [], _∷_, _++_}
 use lib.ListN.{length, getD, drop, replicate, length-drop, getD-replicate}
 use lib.Seq.{drop-length, drop-cons}
 use borrow.Author.Tests.{le-leb, lt-leb}
+use Rattle.meaning.specs.Log.{point}
 use Rattle.meaning.specs.RuleFile.{nodeCount, nodeAt}
 use Rattle.meaning.specs.declared.Point.{Point}
 use Rattle.meaning.specs.declared.Stamp.{Stamp}
@@ -79,12 +80,12 @@ all-most zero v y = omega arith
 all-most (suc n) v zero = omega arith
 all-most (suc n) v (suc y) = all-most n v y
 
-pub counted : (b : List ℕ) (points : ℕ) (times : List ℕ) {base : ℕ} {before counts : List ℕ} → nodeCount b ≤ 32 → base ≡ points - length times
-    → Filled b (stampIn base times) points (replicate 32 base) before counts → Counted b points times counts
+pub counted : (b : List ℕ) (points : ℕ) (times : List ℕ) {base : Point} {before counts : List ℕ} → nodeCount b ≤ 32 → base .0 ≡ points - length times
+    → Filled b (stampIn base times) points (replicate 32 (base .0)) before counts → Counted b points times counts
 unfolding countsIn
 counted b points times {base} few e f =
     record {
-      exact = f .exact ∙ counts-same b (stampIn base times) points (λ x. getD (replicate 32 base) x 0) (λ x. base) (nodeCount b) (λ x l. getD-replicate 32 x base 0 (omega arith))
-          ∙ ap (λ k. countsTo b (stampIn k times) points (λ x. k) (nodeCount b)) e;
-      bounded = f .bounded (λ y. omega (arith, all-most 32 base y));
+      exact = f .exact ∙ counts-same b (stampIn base times) points (λ x. getD (replicate 32 (base .0)) x 0) (λ x. base .0) (nodeCount b) (λ x l. getD-replicate 32 x (base .0) 0 (omega arith))
+          ∙ ap (λ k. countsTo b (stampIn (point k) times) points (λ x. k) (nodeCount b)) e;
+      bounded = f .bounded (λ y. omega (arith, all-most 32 (base .0) y));
     }

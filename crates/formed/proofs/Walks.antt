@@ -53,18 +53,18 @@ module _ (x : ℕ) where
       map-map (λ p. entryOf x 1 (getD p 0 0) (drop 1 p)) pairOf (front (hasOwner x 1) es)
       ∙ map-id (λ e. entryOf x 1 (e .number) (e .values)) (front (hasOwner x 1) es) (λ e m. entry-parts e 1 (e .number) (all-at (hasOwner x 1) m (front-passes (hasOwner x 1) es)) refl)
 
-  sets-whole : (low n : ℕ) (es : List Entry) → setEntries x (rowsFound x low es) low n ++ setsRest x low n es ≡ es
+  sets-whole : (low : Point) (n : ℕ) (es : List Entry) → setEntries x (rowsFound x low es) low n ++ setsRest x low n es ≡ es
   sets-whole low zero es = refl
   sets-whole low (suc n) es =
       let S = rowsFound x low es in
-      let q = isEntry x 0 (low + n) in
+      let q = isEntry x 0 (low .0 + n) in
       let r : List Entry = setsRest x low n es in
-      let z : low + n - low ≡ n = omega arith in
-      let here : map (entryOf x 0 (low + n)) (S (point (low + n))) ≡ front q r = ap (λ k. map (entryOf x 0 (low + n)) (map (λ e. e .values) (front q (setsRest x low k es)))) z ∙ rows-back (low + n) r in
+      let z : low .0 + n - low .0 ≡ n = omega arith in
+      let here : map (entryOf x 0 (low .0 + n)) (S (point (low .0 + n))) ≡ front q r = ap (λ k. map (entryOf x 0 (low .0 + n)) (map (λ e. e .values) (front q (setsRest x low k es)))) z ∙ rows-back (low .0 + n) r in
       let one-more : setEntries x S low (suc n) ≡ setEntries x S low n ++ front q r = ap (setEntries x S low) (sym (add-one n)) ∙ sets-more x S low n ∙ ap (λ ys. setEntries x S low n ++ ys) here in
       ap (λ ys. ys ++ behind q r) one-more ∙ append-assoc (setEntries x S low n) (front q r) (behind q r) ∙ ap (λ ys. setEntries x S low n ++ ys) (two-parts q r) ∙ sets-whole low n es
 
-  node-whole : (low n : ℕ) (es : List Entry)
+  node-whole : (low : Point) (n : ℕ) (es : List Entry)
       → (setEntries x (rowsFound x low es) low n ++ agedEntries x (pairsFound x (setsRest x low n es))) ++ behind (hasOwner x 1) (setsRest x low n es) ≡ es
   node-whole low n es =
       let A : List Entry = setEntries x (rowsFound x low es) low n in
@@ -74,31 +74,31 @@ module _ (x : ℕ) where
 
 -- ---- a walk through sets and pairs
 
-module _ (x : ℕ) (S : Point → List (List ℕ)) (low n : ℕ) (rest : List Entry) (other : begins (hasOwner x 0) rest ≡ false) where
-  through-some : (k : ℕ) → k ≤ n → setsRest x low k (setEntries x S low n ++ rest) ≡ setEntries x S (low + k) (n - k) ++ rest
+module _ (x : ℕ) (S : Point → List (List ℕ)) (low : Point) (n : ℕ) (rest : List Entry) (other : begins (hasOwner x 0) rest ≡ false) where
+  through-some : (k : ℕ) → k ≤ n → setsRest x low k (setEntries x S low n ++ rest) ≡ setEntries x S (point (low .0 + k)) (n - k) ++ rest
   through-some zero l =
-      let e : low + 0 ≡ low = omega arith in
+      let e : low .0 + 0 ≡ low .0 = omega arith in
       let f : n - 0 ≡ n = omega arith in
       rw (e, f)
   through-some (suc k) l =
-      ap (behind (isEntry x 0 (low + k))) (through-some k (omega arith) ∙ sets-first x S rest low k n l)
-      ∙ behind-these (isEntry x 0 (low + k)) (map (entryOf x 0 (low + k)) (S (point (low + k)))) (setEntries x S (low + (k + 1)) (n - (k + 1)) ++ rest)
-      (all-are x 0 (low + k) (S (point (low + k)))) (sets-later x S rest other (low + k) (low + (k + 1)) (n - (k + 1)) (omega arith))
-      ∙ ap (λ m. setEntries x S (low + m) (n - m) ++ rest) (add-one k)
+      ap (behind (isEntry x 0 (low .0 + k))) (through-some k (omega arith) ∙ sets-first x S rest low k n l)
+      ∙ behind-these (isEntry x 0 (low .0 + k)) (map (entryOf x 0 (low .0 + k)) (S (point (low .0 + k)))) (setEntries x S (point (low .0 + (k + 1))) (n - (k + 1)) ++ rest)
+      (all-are x 0 (low .0 + k) (S (point (low .0 + k)))) (sets-later x S rest other (point (low .0 + k)) (point (low .0 + (k + 1))) (n - (k + 1)) (omega arith))
+      ∙ ap (λ m. setEntries x S (point (low .0 + m)) (n - m) ++ rest) (add-one k)
 
   through-sets : setsRest x low n (setEntries x S low n ++ rest) ≡ rest
   through-sets =
       let z : n - n ≡ 0 = omega arith in
-      through-some n (omega arith) ∙ ap (λ m. setEntries x S (low + n) m ++ rest) z
+      through-some n (omega arith) ∙ ap (λ m. setEntries x S (point (low .0 + n)) m ++ rest) z
 
 -- a node's pairs don't begin with an entry of its sets
 pairs-other : (x : ℕ) (pairs : List (List ℕ)) (rest : List Entry) → begins (hasOwner x 0) rest ≡ false → begins (hasOwner x 0) (agedEntries x pairs ++ rest) ≡ false
 pairs-other x [] rest b = b
 pairs-other x (p ∷ pairs) rest b = rw (eq-eqb x x refl)
 
-module _ (low end : ℕ → ℕ) (sets : ℕ → Point → List (List ℕ)) (pairs : ℕ → List (List ℕ)) where
+module _ (low : ℕ → Point) (end : ℕ → ℕ) (sets : ℕ → Point → List (List ℕ)) (pairs : ℕ → List (List ℕ)) where
   abbrev runs : ℕ → List Entry
-  runs = nodeOf low (λ x. end x - low x) sets pairs
+  runs = nodeOf low (λ x. end x - low x .0) sets pairs
 
   -- the entries of later nodes don't begin with one of node x
   later-other : (x mark m : ℕ) → begins (hasOwner x mark) (gather runs (range (suc x) m)) ≡ false
@@ -107,14 +107,14 @@ module _ (low end : ℕ → ℕ) (sets : ℕ → Point → List (List ℕ)) (pai
       (λ e k.
       let (y, i, h) = gather-at runs (range (suc x) m) k in
       let r = range-at (suc x) m i in
-      let z : e .node ≡ y = of-node low (λ x. end x - low x) sets pairs y e h in
+      let z : e .node ≡ y = of-node low (λ x. end x - low x .0) sets pairs y e h in
       rw (ne-eqb (e .node) x (λ d. omega arith)))
 
   through-nodes : (nodes k : ℕ) → k ≤ nodes → nodesRest low end (gather runs (range 0 nodes)) k ≡ gather runs (range k (nodes - k))
   through-nodes nodes zero l = let e : nodes - 0 ≡ nodes = omega arith in rw e
   through-nodes nodes (suc k) l =
       let later : List Entry = gather runs (range (suc k) (nodes - suc k)) in
-      let n : ℕ = end k - low k in
+      let n : ℕ = end k - low k .0 in
       let e : nodes - k ≡ suc (nodes - suc k) = omega arith in
       let there : nodesRest low end (gather runs (range 0 nodes)) k ≡ setEntries k (sets k) (low k) n ++ (agedEntries k (pairs k) ++ later)
       = through-nodes nodes k (omega arith) ∙ ap (λ m. gather runs (range k m)) e ∙ append-assoc (setEntries k (sets k) (low k) n) (agedEntries k (pairs k)) later in
@@ -124,9 +124,9 @@ module _ (low end : ℕ → ℕ) (sets : ℕ → Point → List (List ℕ)) (pai
 
 -- ---- the walk and the entries that are read off
 
-module _ (b : List ℕ) (low end : ℕ → ℕ) (es : List Entry) (nodes : ℕ) where
+module _ (b : List ℕ) (low : ℕ → Point) (end : ℕ → ℕ) (es : List Entry) (nodes : ℕ) where
   abbrev many : ℕ → ℕ
-  many x = end x - low x
+  many x = end x - low x .0
 
   abbrev setsIn : ℕ → Point → List (List ℕ)
   setsIn x = rowsFound x (low x) (nodesRest low end es x)
@@ -158,7 +158,7 @@ module _ (b : List ℕ) (low end : ℕ → ℕ) (es : List Entry) (nodes : ℕ) 
         rw (sym d)
 
     module _ (x : ℕ) (o : x < nodes) where
-      sets-held : (j : Point) → low x ≤ j .0 → j .0 < low x + many x → setsIn x j ≡ held es x j
+      sets-held : (j : Point) → low x .0 ≤ j .0 → j .0 < low x .0 + many x → setsIn x j ≡ held es x j
       sets-held j u l = sym (ap (λ ys. held ys x j) all-found ∙ held-is low many setsIn pairsIn nodes x o j u l)
 
       pairs-held : pairsIn x ≡ heldPairs es x
@@ -168,14 +168,14 @@ module _ (b : List ℕ) (low end : ℕ → ℕ) (es : List Entry) (nodes : ℕ) 
       unfolding ownRuns
       found-own =
           ap₂ (λ s t. s ++ t)
-          (gather-over (λ j. map (entryOf x 0 (j .0)) (setsIn x j)) (λ j. map (entryOf x 0 (j .0)) (held es x j)) (low x) (many x) (λ j u l. ap (map (entryOf x 0 (j .0))) (sets-held j u l)))
+          (gather-over (λ j. map (entryOf x 0 (j .0)) (setsIn x j)) (λ j. map (entryOf x 0 (j .0)) (held es x j)) (low x .0) (many x) (λ j u l. ap (map (entryOf x 0 (j .0))) (sets-held j u l)))
           (ap (agedEntries x) pairs-held)
 
       fit-same : runsFit b x (low x) (many x) (nodesRest low end es x) ≡ ownFit b low end es x
       unfolding runsFit ownFit
       fit-same =
           ap₂ (λ s t. s && t)
-          (all-same (λ j. setFits b x (setsIn x j)) (λ j. setFits b x (held es x j)) (low x) (many x) (λ j u l. ap (setFits b x) (sets-held j u l)))
+          (all-same (λ j. setFits b x (setsIn x j)) (λ j. setFits b x (held es x j)) (low x .0) (many x) (λ j u l. ap (setFits b x) (sets-held j u l)))
           (ap (pairsFit b x (nodeAt b x)) pairs-held)
 
     own-whole : es ≡ gather (ownRuns b low end es) (range 0 nodes)

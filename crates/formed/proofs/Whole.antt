@@ -10,10 +10,11 @@ use lib.Dec.{leb, eqb}
 use borrow.Author.Tests.{le-leb, lt-leb}
 use Rattle.meaning.specs.Lists.{all, range, gather}
 use Rattle.meaning.specs.Outcome.{mostPoints, mostOpen, mostKept}
-use Rattle.meaning.specs.Log.{pointsFrom}
+use Rattle.meaning.specs.Log.{pointsFrom, point}
 use Rattle.meaning.specs.Formula.{free}
 use Rattle.meaning.specs.RuleFile.{checking, nodeCount, nodeAt, formulaAt, lastNode, isAccepted}
 use Rattle.meaning.specs.Kept.{Entry}
+use Rattle.meaning.specs.declared.Point.{Point}
 use Rattle.meaning.proofs.Lists.{range-length}
 use Rattle.method.specs.Stored.{Stored, held, heldPairs, firstRetained}
 use Rattle.method.specs.Step.{wantedFrom, countsStored, countBefore, openStored}
@@ -70,9 +71,9 @@ module _ (b : List ℕ) (points : ℕ) (times : List ℕ) where
   open-many m l o = rw (le-leb points mostPoints m, le-leb (length times) mostTimes l, lt-leb unsettled mostOpen o)
 
   pub times-tested : points ≤ mostPoints → length times ≤ mostTimes → unsettled ≤ mostOpen → {counts : List ℕ} → Counted b points times counts
-      → (eqb (length times) (points - firstRetained points (take (nodeCount b - 0) counts)) && notFalling times) ≡ timesFit b points times
+      → (eqb (length times) (points - firstRetained points (take (nodeCount b - 0) counts) .0) && notFalling times) ≡ timesFit b points times
   unfolding timesFit
-  times-tested m l o c = rw (le-leb points mostPoints m, le-leb (length times) mostTimes l, le-leb unsettled mostOpen o) (ap (λ cs. eqb (length times) (points - firstRetained points cs) && notFalling times) (part-exact c))
+  times-tested m l o c = rw (le-leb points mostPoints m, le-leb (length times) mostTimes l, le-leb unsettled mostOpen o) (ap (λ cs. eqb (length times) (points - firstRetained points cs .0) && notFalling times) (part-exact c))
 
 -- ---- entries
 
@@ -81,23 +82,23 @@ all-each p q a zero h = refl
 all-each p q a (suc n) h = ap₂ (λ s t. s && t) (h a (omega arith) (omega arith)) (all-each p q (suc a) n (λ y u o. h y (omega arith) (omega arith)))
 
 -- the first kept points by another name
-module _ (b : List ℕ) (low low' end : ℕ → ℕ) (es : List Entry) (nodes : ℕ) (same : (x : ℕ) → x < nodes → low x ≡ low' x) where
+module _ (b : List ℕ) (low low' : ℕ → Point) (end : ℕ → ℕ) (es : List Entry) (nodes : ℕ) (same : (x : ℕ) → x < nodes → low x ≡ low' x) where
   entries-same : entriesFit b low end es nodes ≡ entriesFit b low' end es nodes
   unfolding entriesFit ownRuns ownFit
   entries-same =
       ap₂ (λ ys t. sameEntries es ys && t)
-      (gather-each (ownRuns b low end es) (ownRuns b low' end es) 0 nodes (λ x u o. ap (λ k. setEntries x (held es x) k (end x - k) ++ agedEntries x (heldPairs es x)) (same x (omega arith))))
-      (all-each (ownFit b low end es) (ownFit b low' end es) 0 nodes (λ x u o. ap (λ k. all (λ j. setFits b x (held es x j)) (pointsFrom k (end x - k)) && pairsFit b x (nodeAt b x) (heldPairs es x)) (same x (omega arith))))
+      (gather-each (ownRuns b low end es) (ownRuns b low' end es) 0 nodes (λ x u o. ap (λ (k : Point). setEntries x (held es x) k (end x - k .0) ++ agedEntries x (heldPairs es x)) (same x (omega arith))))
+      (all-each (ownFit b low end es) (ownFit b low' end es) 0 nodes (λ x u o. ap (λ (k : Point). all (λ j. setFits b x (held es x j)) (pointsFrom (k .0) (end x - k .0)) && pairsFit b x (nodeAt b x) (heldPairs es x)) (same x (omega arith))))
 
 module _ (b counts : List ℕ) (es : List Entry) (count : ℕ) where
   pub kept-many : mostKept < count → false ≡ keptFit b counts es count
   unfolding keptFit
   kept-many l = rw (lt-leb count mostKept l)
 
-  pub kept-tested : (lows : List ℕ) → count ≤ mostKept → ((x : ℕ) → x < nodeCount b → getD lows x 0 ≡ wantedFrom b (λ y. getD counts y 0) x)
-      → entriesFit b (λ y. getD lows y 0) (λ y. getD counts y 0) es (nodeCount b) ≡ keptFit b counts es count
+  pub kept-tested : (lows : List ℕ) → count ≤ mostKept → ((x : ℕ) → x < nodeCount b → getD lows x 0 ≡ wantedFrom b (λ y. getD counts y 0) x .0)
+      → entriesFit b (λ y. point (getD lows y 0)) (λ y. getD counts y 0) es (nodeCount b) ≡ keptFit b counts es count
   unfolding keptFit
-  kept-tested lows l h = rw (le-leb count mostKept l) (entries-same b (λ y. getD lows y 0) (wantedFrom b (λ y. getD counts y 0)) (λ y. getD counts y 0) es (nodeCount b) h)
+  kept-tested lows l h = rw (le-leb count mostKept l) (entries-same b (λ y. point (getD lows y 0)) (wantedFrom b (λ y. getD counts y 0)) (λ y. getD counts y 0) es (nodeCount b) (λ x o. ap point (h x o)))
 
 -- ---- all
 
@@ -122,7 +123,7 @@ module _ (b : List ℕ) (points : ℕ) (times os ns vs : List ℕ) (count : ℕ)
   well-is : wellFormed s ≡ (isAccepted (checking b) && (timesFit b points times && keptFit b (countsIn b points times) (entriesFrom os ns vs 0 count) count))
   unfolding wellFormed ownEntries nodeFits timesFit keptFit countsIn entriesFit ownRuns ownFit countsStored countBefore openStored
   well-is =
-      regroup (isAccepted (checking b)) (leb points mostPoints) (leb (length times) mostTimes) (leb (openStored s) mostOpen) (eqb (length times) (points - firstRetained points (countsStored s))) (notFalling times) (leb (length (s .entries)) mostKept)
+      regroup (isAccepted (checking b)) (leb points mostPoints) (leb (length times) mostTimes) (leb (openStored s) mostOpen) (eqb (length times) (points - firstRetained points (countsStored s) .0)) (notFalling times) (leb (length (s .entries)) mostKept)
       (sameEntries (s .entries) (gather (ownEntries s) (range 0 (nodeCount b)))) (all (nodeFits s) (range 0 (nodeCount b)))
       ∙ ap (λ n. isAccepted (checking b) && (timesFit b points times && (leb n mostKept && (sameEntries (s .entries) (gather (ownEntries s) (range 0 (nodeCount b))) && all (nodeFits s) (range 0 (nodeCount b)))))) entries-long
 
@@ -137,11 +138,11 @@ module _ (b : List ℕ) (points : ℕ) (times os ns vs : List ℕ) (count : ℕ)
     well-kept t c = ap (λ cs. keptFit b cs (entriesFrom os ns vs 0 count) count) (part-exact c) ∙ sym (well-is ∙ rw (ok, t))
 
   pub known : (masks counts lows : List ℕ) → ((x : ℕ) → x < nodeCount b → MaskOf b x (getD masks x 0)) → Counted b points times counts
-      → ((x : ℕ) → x < nodeCount b → getD lows x 0 ≡ wantedFrom b (λ y. getD (take (nodeCount b - 0) counts) y 0) x) → Known s masks counts lows
+      → ((x : ℕ) → x < nodeCount b → getD lows x 0 ≡ wantedFrom b (λ y. getD (take (nodeCount b - 0) counts) y 0) x .0) → Known s masks counts lows
   unfolding countsIn countsStored countBefore
   known masks counts lows m c l =
       record {
         masks-free = λ x o. m x o .each;
         counts-stored = c .exact;
-        lows-wanted = λ x o. l x o ∙ ap (λ cs. wantedFrom b (λ y. getD cs y 0) x) (part-exact c);
+        lows-wanted = λ x o. l x o ∙ ap (λ cs. wantedFrom b (λ y. getD cs y 0) x .0) (part-exact c);
       }

@@ -17,4 +17,4 @@ storedIn b points times os ns vs count = record { rule = b; points = points; tim
 pub record Known (s : Stored) (masks counts lows : List ℕ) : Type 0 where
   pub masks-free : (x : ℕ) → x < nodeCount (s .rule) → (v : ℕ) → v < 4 → inMask (getD masks x 0) v ≡ free (formulaAt (s .rule) x) v
   pub counts-stored : take (nodeCount (s .rule)) counts ≡ countsStored s
-  pub lows-wanted : (x : ℕ) → x < nodeCount (s .rule) → getD lows x 0 ≡ wantedFrom (s .rule) (countBefore s) x
+  pub lows-wanted : (x : ℕ) → x < nodeCount (s .rule) → getD lows x 0 ≡ wantedFrom (s .rule) (countBefore s) x .0

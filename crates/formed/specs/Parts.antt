@@ -7,6 +7,7 @@ use lib.ListN.{length, getD, take}
 use lib.Dec.{leb, eqb}
 use Rattle.meaning.specs.Outcome.{mostPoints, mostOpen, mostKept}
 use Rattle.meaning.specs.RuleFile.{nodeCount, lastNode}
+use Rattle.meaning.specs.Log.{point}
 use Rattle.meaning.specs.Kept.{Entry}
 use Rattle.method.specs.Stored.{stampIn, firstRetained}
 use Rattle.method.specs.Counts.{countsTo}
@@ -17,7 +18,7 @@ use Rattle.formed.specs.Walk.{entriesFit}
 
 -- how many points each node has settled, from the retained times
 unfoldable pub countsIn : List ℕ → ℕ → List ℕ → List ℕ
-countsIn b points times = countsTo b (stampIn (points - length times) times) points (λ x. points - length times) (nodeCount b)
+countsIn b points times = countsTo b (stampIn (point (points - length times)) times) points (λ x. points - length times) (nodeCount b)
 
 -- these counts stand in front, and none is above the number of points
 pub record Counted (b : List ℕ) (points : ℕ) (times counts : List ℕ) : Type 0 where
@@ -29,7 +30,7 @@ unfoldable pub timesFit : List ℕ → ℕ → List ℕ → Bool
 timesFit b points times =
     leb points mostPoints && leb (length times) mostTimes
     && leb (points - getD (countsIn b points times) (lastNode b) 0) mostOpen
-    && eqb (length times) (points - firstRetained points (countsIn b points times)) && notFalling times
+    && eqb (length times) (points - firstRetained points (countsIn b points times) .0) && notFalling times
 
 -- few entries, and they are those of the nodes, where each has settled as many points as counts says
 unfoldable pub keptFit : List ℕ → List ℕ → List Entry → ℕ → Bool

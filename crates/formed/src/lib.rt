@@ -11,6 +11,7 @@ ghost use lib.ListN.{length, getD};
 ghost use lib.Dec.{leb, eqb};
 ghost use Rattle.meaning.specs.Outcome.{given, mostPoints};
 ghost use Rattle.meaning.specs.RuleFile.{Accepted, checking, isAccepted, nodeCount, nodeAt};
+ghost use Rattle.meaning.specs.Log.{point};
 ghost use Rattle.method.specs.Stored.{leastOf, firstRetained};
 ghost use Rattle.method.specs.Step.{wantedFrom};
 ghost use Rattle.method.specs.WellFormed.{mostTimes, notFalling, pairsFit, wellFormed};
@@ -205,14 +206,14 @@ fn sets_end(
     mask: u8,
 ) -> Walked
     requires { ⌜ (cursor ≤ count) × Stands (now owners) (now numbers) (now values) count ⌝ }
-    ensures { λ r. ⌜ SetsWalked (now (owners .entry)) (now (numbers .entry)) (now (values .entry)) count cursor x (low .0) (end .0 - low .0) mask r ⌝ }
+    ensures { λ r. ⌜ SetsWalked (now (owners .entry)) (now (numbers .entry)) (now (values .entry)) count cursor x low (end .0 - low .0) mask r ⌝ }
 {
     let owner = (x as u32) * 2;
     let last = end.0;
     let mut next = cursor;
     let mut number = low.0;
     while number < last {
-        let to = shelf::run_end(owners, numbers, next, count, owner, number);
+        let to = shelf::run_end(owners, numbers, next, count, owner, Point(number));
         if !rows_fit(values, next, to, mask) {
             return Walked::Stuck;
         }
@@ -237,7 +238,7 @@ fn node_end(
 ) -> Walked
     requires { ⌜ (length (now rule) ≡ 12 + 20 * nodeCount (now rule)) × (x < nodeCount (now rule)) × MaskOf (now rule) x mask ⌝ }
     requires { ⌜ (cursor ≤ count) × Stands (now owners) (now numbers) (now values) count ⌝ }
-    ensures { λ r. ⌜ NodeWalked (now (owners .entry)) (now (numbers .entry)) (now (values .entry)) count cursor (now (rule .entry)) x (low .0) (end .0 - low .0) r ⌝ }
+    ensures { λ r. ⌜ NodeWalked (now (owners .entry)) (now (numbers .entry)) (now (values .entry)) count cursor (now (rule .entry)) x low (end .0 - low .0) r ⌝ }
 {
     let Walked::To(next) = sets_end(owners, numbers, values, cursor, count, x, low, end, mask)
     else {
@@ -263,7 +264,7 @@ fn entries_fit(
 ) -> bool
     requires { ⌜ (length (now rule) ≡ 12 + 20 * nodeCount (now rule)) × Stands (now owners) (now numbers) (now values) count ⌝ }
     requires { ⌜ (nodeCount (now rule) ≤ length (now masks)) × (nodeCount (now rule) ≤ length (now counts)) × (nodeCount (now rule) ≤ length (now lows)) × ((x : ℕ) → x < nodeCount (now rule) → MaskOf (now rule) x (getD (now masks) x 0)) ⌝ }
-    ensures { λ r. ⌜ r ≡ entriesFit (now (rule .entry)) (λ y. getD (now (lows .entry)) y 0) (λ y. getD (now (counts .entry)) y 0) (entriesFrom (now (owners .entry)) (now (numbers .entry)) (now (values .entry)) 0 count) (nodeCount (now (rule .entry))) ⌝ }
+    ensures { λ r. ⌜ r ≡ entriesFit (now (rule .entry)) (λ y. point (getD (now (lows .entry)) y 0)) (λ y. getD (now (counts .entry)) y 0) (entriesFrom (now (owners .entry)) (now (numbers .entry)) (now (values .entry)) 0 count) (nodeCount (now (rule .entry))) ⌝ }
 {
     let n = rule[2];
     let mut next = 0;
@@ -304,10 +305,10 @@ fn least(points: u32, counts: &[u32]) -> u32
 }
 
 // The first point whose time is retained, from the counts of settled points.
-pub fn first_retained(points: u32, counts: &[u32]) -> u32
+pub fn first_retained(points: u32, counts: &[u32]) -> Point
     ensures { λ r. ⌜ r ≡ firstRetained points (now (counts .entry)) ⌝ }
 {
-    progress::less(least(points, counts), 1)
+    Point(progress::less(least(points, counts), 1))
 }
 
 // No time is below the one before it.
@@ -328,10 +329,10 @@ fn not_falling(times: &[u32]) -> bool
 // As many times are retained as the counts of settled points ask, and they don't fall.
 fn times_asked(points: u32, times: &[u32], counts: &[u32]) -> bool
     requires { ⌜ length (now times) ≤ mostTimes ⌝ }
-    ensures { λ r. ⌜ r ≡ (eqb (length (now (times .entry))) (points - firstRetained points (now (counts .entry))) && notFalling (now (times .entry))) ⌝ }
+    ensures { λ r. ⌜ r ≡ (eqb (length (now (times .entry))) (points - firstRetained points (now (counts .entry)) .0) && notFalling (now (times .entry))) ⌝ }
 {
     let first = first_retained(points, counts);
-    if times.len() as u32 == progress::less(points, first) {
+    if times.len() as u32 == progress::less(points, first.0) {
         return not_falling(times);
     }
     false
@@ -342,9 +343,9 @@ fn count_points(rule: &[u8], points: u32, times: &[u32], counts: &mut [u32])
     requires { ⌜ (length (now rule) ≡ 12 + 20 * nodeCount (now rule)) × (nodeCount (now rule) ≤ 32) × (32 ≤ length (now counts)) × (length (now times) ≤ mostTimes) ⌝ }
     ensures { λ _. ⌜ Counted (now (rule .entry)) points (now (times .entry)) (now (counts .exit)) ⌝ }
 {
-    let base = progress::less(points, times.len() as u32);
-    let from = [base; 32];
-    progress::counts(rule, times, Point(base), points, &from, counts);
+    let base = Point(progress::less(points, times.len() as u32));
+    let from = [base.0; 32];
+    progress::counts(rule, times, base, points, &from, counts);
 }
 
 // The part of the test that goes by times: few points and times, few points that the last node has not settled, as many times as the counts ask, and none that falls.
@@ -382,7 +383,7 @@ fn kept_fit(
     requires { ⌜ Stands (now owners) (now numbers) (now values) count × (32 ≤ length (now masks)) × ((x : ℕ) → x < nodeCount (now rule) → MaskOf (now rule) x (getD (now masks) x 0)) ⌝ }
     requires { ⌜ (nodeCount (now rule) ≤ length (now counts)) × Within mostPoints (now counts) × (32 ≤ length (now lows)) ⌝ }
     ensures answer { λ r. ⌜ r ≡ keptFit (now (rule .entry)) (now (counts .entry)) (entriesFrom (now (owners .entry)) (now (numbers .entry)) (now (values .entry)) 0 count) count ⌝ }
-    ensures wanted { λ r. ⌜ (r ≡ true → (x : ℕ) → x < nodeCount (now (rule .entry)) → getD (now (lows .exit)) x 0 ≡ wantedFrom (now (rule .entry)) (λ y. getD (now (counts .entry)) y 0) x) ⌝ }
+    ensures wanted { λ r. ⌜ (r ≡ true → (x : ℕ) → x < nodeCount (now (rule .entry)) → getD (now (lows .exit)) x 0 ≡ wantedFrom (now (rule .entry)) (λ y. getD (now (counts .entry)) y 0) x .0) ⌝ }
 {
     if 512 < count {
         return false;

@@ -9,7 +9,7 @@ use lib.Dec.{ltb, leb, eqb}
 use borrow.Author.Tests.{eqb-false, ne-eqb}
 use Rattle.meaning.specs.Lists.{range}
 use Rattle.meaning.specs.Outcome.{given}
-use Rattle.meaning.specs.Log.{point}
+use Rattle.meaning.specs.Log.{point, pointAfter}
 use Rattle.meaning.specs.RuleFile.{Accepted, checking, nodeCount, nodeAt, childrenOf, lastNode}
 use Rattle.meaning.specs.declared.Point.{Point}
 use Rattle.meaning.specs.declared.Stamp.{Stamp}
@@ -31,18 +31,18 @@ use Rattle.method.proofs.Turns.{least-below, least-most, from-getD, wan
 
 module _ (τ : Point → Stamp) where
   -- a scan goes on from where it starts, by at most its steps
-  scan-within : (d bound i steps : ℕ) → (i ≤ scan τ d bound i steps) × (scan τ d bound i steps ≤ i + steps)
+  scan-within : (d : ℕ) (bound : Stamp) (i : Point) (steps : ℕ) → (i .0 ≤ scan τ d bound i steps .0) × (scan τ d bound i steps .0 ≤ i .0 + steps)
   scan-within d bound i zero = omega arith
-  scan-within d bound i (suc steps) = go (leb (τ (point i) .0 + d) bound) (scan-within d bound (suc i) steps)
+  scan-within d bound i (suc steps) = go (leb (τ i .0 + d) (bound .0)) (scan-within d bound (pointAfter i) steps)
     where
-      go : (t : Bool) → (suc i ≤ scan τ d bound (suc i) steps) × (scan τ d bound (suc i) steps ≤ suc i + steps)
-          → (i ≤ cond t (scan τ d bound (suc i) steps) i) × (cond t (scan τ d bound (suc i) steps) i ≤ i + suc steps)
+      go : (t : Bool) → (suc (i .0) ≤ scan τ d bound (pointAfter i) steps .0) × (scan τ d bound (pointAfter i) steps .0 ≤ suc (i .0) + steps)
+          → (i .0 ≤ cond t (scan τ d bound (pointAfter i) steps) i .0) × (cond t (scan τ d bound (pointAfter i) steps) i .0 ≤ i .0 + suc steps)
       go true h = omega arith
       go false h = omega arith
 
   until-within : (n d m from : ℕ) → (from ≤ untilCount τ n d m from) × (untilCount τ n d m from ≤ from + (m - from))
   unfolding untilCount
-  until-within n d m from = scan-within d (τ (point (cond (ltb m n) m (n - 1))) .0) from (m - from)
+  until-within n d m from = scan-within d (τ (point (cond (ltb m n) m (n - 1)))) (point from) (m - from)
 
 module _ (τ : Point → Stamp) (n : ℕ) (c : ℕ → ℕ) (from : ℕ) where
   -- it follows from the counts of the children alone
@@ -136,7 +136,7 @@ module _ (b : List ℕ) (a : Accepted) (ok : checking b ≡ given a) where
 -- ---- the first wanted point
 
 -- a child is wanted from at most one point before the parent's first unsettled point
-wanted-near : (n : Node) (p : ℕ) → p ≤ firstWanted n p + 1
+wanted-near : (n : Node) (p : ℕ) → p ≤ firstWanted n p .0 + 1
 wanted-near (Atom r t) p = omega arith
 wanted-near (And a b) p = omega arith
 wanted-near (AndNot a b) p = omega arith
@@ -154,8 +154,8 @@ wanted-near (Eventually a w) p = omega arith
 
 -- the first wanted point of node x: x is the last node, or has a parent
 pub data Placed (b : List ℕ) (x : ℕ) : Type 0 where
-  at-last : ((c : ℕ → ℕ) → wantedFrom b c x ≡ c x) → Placed b x
-  with-parent : (p : ℕ) → p < nodeCount b → ((c : ℕ → ℕ) → wantedFrom b c x ≡ min (c x) (firstWanted (nodeAt b p) (c p))) → Placed b x
+  at-last : ((c : ℕ → ℕ) → wantedFrom b c x ≡ point (c x)) → Placed b x
+  with-parent : (p : ℕ) → p < nodeCount b → ((c : ℕ → ℕ) → wantedFrom b c x ≡ point (min (c x) (firstWanted (nodeAt b p) (c p) .0))) → Placed b x
 
 module _ (b : List ℕ) (a : Accepted) (ok : checking b ≡ given a) where
   pub placed : (x : ℕ) → x < nodeCount b → Placed b x
@@ -171,7 +171,7 @@ module _ (b : List ℕ) (a : Accepted) (ok : checking b ≡ given a) where
 
   module _ (c : ℕ → ℕ) where
     -- a child is wanted from no later than its parent's first unsettled point consults it
-    pub wanted-under : (x : ℕ) → x < nodeCount b → (y : ℕ) → List·Memᴰ y (childrenOf (nodeAt b x)) → wantedFrom b c y ≤ firstWanted (nodeAt b x) (c x)
+    pub wanted-under : (x : ℕ) → x < nodeCount b → (y : ℕ) → List·Memᴰ y (childrenOf (nodeAt b x)) → wantedFrom b c y .0 ≤ firstWanted (nodeAt b x) (c x) .0
     unfolding wantedFrom
     wanted-under x o y m =
         let under : y < x = below b a ok x o y m in
@@ -179,18 +179,18 @@ module _ (b : List ℕ) (a : Accepted) (ok : checking b ≡ given a) where
         rw (e, parent-is b a ok x o y m) (omega arith)
 
     -- it moves on with the counts
-    pub wanted-moves : (c' : ℕ → ℕ) → ((y : ℕ) → y < nodeCount b → c y ≤ c' y) → (x : ℕ) → x < nodeCount b → wantedFrom b c x ≤ wantedFrom b c' x
+    pub wanted-moves : (c' : ℕ → ℕ) → ((y : ℕ) → y < nodeCount b → c y ≤ c' y) → (x : ℕ) → x < nodeCount b → wantedFrom b c x .0 ≤ wantedFrom b c' x .0
     wanted-moves c' h x o = go (placed x o)
       where
-        go : Placed b x → wantedFrom b c x ≤ wantedFrom b c' x
+        go : Placed b x → wantedFrom b c x .0 ≤ wantedFrom b c' x .0
         go (at-last e) = rw (e c, e c') (h x o)
         go (with-parent p n e) = rw (e c, e c') (omega (arith, h x o, wanted-on (nodeAt b p) (c p) (c' p) (h p n)))
 
     -- it is no earlier than the last point that all nodes have settled
-    wanted-late : (v : ℕ) → ((y : ℕ) → y < nodeCount b → v ≤ c y - 1) → (x : ℕ) → x < nodeCount b → v ≤ wantedFrom b c x
+    wanted-late : (v : ℕ) → ((y : ℕ) → y < nodeCount b → v ≤ c y - 1) → (x : ℕ) → x < nodeCount b → v ≤ wantedFrom b c x .0
     wanted-late v h x o = go (placed x o)
       where
-        go : Placed b x → v ≤ wantedFrom b c x
+        go : Placed b x → v ≤ wantedFrom b c x .0
         go (at-last e) = rw (e c) (omega (arith, h x o))
         go (with-parent p n e) = rw (e c) (omega (arith, h x o, h p n, wanted-near (nodeAt b p) (c p)))
 
@@ -199,40 +199,40 @@ module _ (b : List ℕ) (a : Accepted) (ok : checking b ≡ given a) where
 -- What is stored of an accepted rule, with the times that the counts ask for.
 module _ (s : Stored) (a : Accepted) (ok : checking (s .rule) ≡ given a)
     (few : length (s .times) ≤ mostTimes)
-    (times : length (s .times) ≡ s .points - firstRetained (s .points) (countsStored s)) where
-  pub before-step : (x : ℕ) → x < nodeCount (s .rule) → countBefore s x ≡ advance (stampIn (baseOf s) (s .times)) (s .points) (countBefore s) (baseOf s) (nodeAt (s .rule) x)
+    (times : length (s .times) ≡ s .points - firstRetained (s .points) (countsStored s) .0) where
+  pub before-step : (x : ℕ) → x < nodeCount (s .rule) → countBefore s x ≡ advance (stampIn (baseOf s) (s .times)) (s .points) (countBefore s) (baseOf s .0) (nodeAt (s .rule) x)
   unfolding countBefore countsStored
-  before-step = count-step (s .rule) a ok (stampIn (baseOf s) (s .times)) (s .points) (λ y. baseOf s)
+  before-step = count-step (s .rule) a ok (stampIn (baseOf s) (s .times)) (s .points) (λ y. baseOf s .0)
 
   pub before-most : (x : ℕ) → x < nodeCount (s .rule) → countBefore s x ≤ s .points
   unfolding countBefore countsStored
-  before-most = count-most (s .rule) a ok (stampIn (baseOf s) (s .times)) (s .points) (λ y. baseOf s) (λ y o. omega arith)
+  before-most = count-most (s .rule) a ok (stampIn (baseOf s) (s .times)) (s .points) (λ y. baseOf s .0) (λ y o. omega arith)
 
   counts-are : countsStored s ≡ map (countBefore s) (range 0 (nodeCount (s .rule)))
   unfolding countBefore countsStored
   counts-are =
       from-getD (countsStored s) (nodeCount (s .rule)) (countBefore s)
-      (counts-length (s .rule) (stampIn (baseOf s) (s .times)) (s .points) (λ y. baseOf s) (nodeCount (s .rule))) (λ k o. refl)
+      (counts-length (s .rule) (stampIn (baseOf s) (s .times)) (s .points) (λ y. baseOf s .0) (nodeCount (s .rule))) (λ k o. refl)
 
   -- the last point that a node has settled is no earlier than the first retained
-  pub base-low : (x : ℕ) → x < nodeCount (s .rule) → baseOf s ≤ countBefore s x - 1
+  pub base-low : (x : ℕ) → x < nodeCount (s .rule) → baseOf s .0 ≤ countBefore s x - 1
   base-low x o =
       let h : leastOf (s .points) (countsStored s) ≤ countBefore s x = rw counts-are (least-below (s .points) (countBefore s) 0 (nodeCount (s .rule)) x (omega arith) (omega arith)) in
       omega (arith, least-most (s .points) (countsStored s))
 
   -- neither is any wanted point
-  pub wanted-retained : (x : ℕ) → x < nodeCount (s .rule) → baseOf s ≤ wantedFrom (s .rule) (countBefore s) x
-  wanted-retained = wanted-late (s .rule) a ok (countBefore s) (baseOf s) base-low
+  pub wanted-retained : (x : ℕ) → x < nodeCount (s .rule) → baseOf s .0 ≤ wantedFrom (s .rule) (countBefore s) x .0
+  wanted-retained = wanted-late (s .rule) a ok (countBefore s) (baseOf s .0) base-low
 
   -- few points are retained
-  pub retained : s .points - baseOf s ≤ mostTimes
+  pub retained : s .points - baseOf s .0 ≤ mostTimes
   retained = omega arith
 
-  pub wanted-before : (x : ℕ) → wantedFrom (s .rule) (countBefore s) x ≤ countBefore s x
+  pub wanted-before : (x : ℕ) → wantedFrom (s .rule) (countBefore s) x .0 ≤ countBefore s x
   wanted-before = wanted-low (s .rule) (countBefore s)
 
   -- a child's rows are there from where its parent's first unsettled point consults them
-  pub wanted-child : (x : ℕ) → x < nodeCount (s .rule) → (y : ℕ) → List·Memᴰ y (childrenOf (nodeAt (s .rule) x)) → wantedFrom (s .rule) (countBefore s) y ≤ firstWanted (nodeAt (s .rule) x) (countBefore s x)
+  pub wanted-child : (x : ℕ) → x < nodeCount (s .rule) → (y : ℕ) → List·Memᴰ y (childrenOf (nodeAt (s .rule) x)) → wantedFrom (s .rule) (countBefore s) y .0 ≤ firstWanted (nodeAt (s .rule) x) (countBefore s x) .0
   wanted-child = wanted-under (s .rule) a ok (countBefore s)
 
   -- one call, with the event's words
@@ -250,24 +250,24 @@ module _ (s : Stored) (a : Accepted) (ok : checking (s .rule) ≡ given a)
         by-children (s .rule) a ok (λ x. countBefore s x ≤ countAfter s w x)
         (λ x o grown.
         rw (after-step x o, before-step x o)
-        (advance-grows (stampIn (baseOf s) (s .times)) (s .points) (countBefore s) (baseOf s) (stampsNow s w) (s .points + 1) (countAfter s w) (nodeAt (s .rule) x) (omega arith) grown))
+        (advance-grows (stampIn (baseOf s) (s .times)) (s .points) (countBefore s) (baseOf s .0) (stampsNow s w) (s .points + 1) (countAfter s w) (nodeAt (s .rule) x) (omega arith) grown))
 
     pub new-few : (x : ℕ) → x < nodeCount (s .rule) → countAfter s w x - countBefore s x ≤ 65
     new-few x o = omega (arith, retained, base-low x o, after-most x o)
 
-    pub wanted-after : (x : ℕ) → wantedFrom (s .rule) (countAfter s w) x ≤ countAfter s w x
+    pub wanted-after : (x : ℕ) → wantedFrom (s .rule) (countAfter s w) x .0 ≤ countAfter s w x
     wanted-after = wanted-low (s .rule) (countAfter s w)
 
-    pub wanted-grows : (x : ℕ) → x < nodeCount (s .rule) → wantedFrom (s .rule) (countBefore s) x ≤ wantedFrom (s .rule) (countAfter s w) x
+    pub wanted-grows : (x : ℕ) → x < nodeCount (s .rule) → wantedFrom (s .rule) (countBefore s) x .0 ≤ wantedFrom (s .rule) (countAfter s w) x .0
     wanted-grows = wanted-moves (s .rule) a ok (countBefore s) (countAfter s w) before-after
 
     -- a call looks at few points of a node: those it newly settles and those still wanted
-    pub span : (x : ℕ) → x < nodeCount (s .rule) → countAfter s w x - wantedFrom (s .rule) (countBefore s) x ≤ 65
+    pub span : (x : ℕ) → x < nodeCount (s .rule) → countAfter s w x - wantedFrom (s .rule) (countBefore s) x .0 ≤ 65
     span x o = omega (arith, retained, wanted-retained x o, after-most x o)
 
 -- ---- what a newly settled point consults is settled
 
-pub consults : (τ : Point → Stamp) (n : ℕ) (c : ℕ → ℕ) (start : ℕ) (node : Node) (i : ℕ) → start ≤ i → i < advance τ n c start node → Consults c i node
+pub consults : (τ : Point → Stamp) (n : ℕ) (c : ℕ → ℕ) (start : ℕ) (node : Node) (i : Point) → start ≤ i .0 → i .0 < advance τ n c start node → Consults c i node
 consults τ n c start (Atom r t) i h u = tt
 consults τ n c start (And a b) i h u = omega arith
 consults τ n c start (AndNot a b) i h u = omega arith

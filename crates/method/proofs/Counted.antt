@@ -125,20 +125,20 @@ module _ (p : Point → Bool) (m : ℕ) (h : Upto p m) where
       back i u (failed e) = let z : i .0 ≡ 0 → ⊥ = eqb-false (i .0) 0 e in orRight (eqb (i .0) 0) (p (pointBefore i)) (upto-holds p m h (pointBefore i) (omega arith))
 
 -- A scan stops at the count of a test that passes before it starts and, at the points scanned, says what the scan asks.
-scanned : (p : Point → Bool) → Down p → (τ : Point → Stamp) (d bound from steps : ℕ)
-    → ((i : Point) → i .0 < from → p i ≡ true)
-    → ((i : Point) → from ≤ i .0 → i .0 < from + steps → p i ≡ leb (τ i .0 + d) bound)
-    → ((i : Point) → p i ≡ true → i .0 < from + steps)
-    → Upto p (scan τ d bound from steps)
-scanned p down τ d bound from zero before each most = upto-of p from (λ i e. omega (arith, most i e)) before
+scanned : (p : Point → Bool) → Down p → (τ : Point → Stamp) (d : ℕ) (bound : Stamp) (from : Point) (steps : ℕ)
+    → ((i : Point) → i .0 < from .0 → p i ≡ true)
+    → ((i : Point) → from .0 ≤ i .0 → i .0 < from .0 + steps → p i ≡ leb (τ i .0 + d) (bound .0))
+    → ((i : Point) → p i ≡ true → i .0 < from .0 + steps)
+    → Upto p (scan τ d bound from steps .0)
+scanned p down τ d bound from zero before each most = upto-of p (from .0) (λ i e. omega (arith, most i e)) before
 scanned p down τ d bound from (suc steps) before each most =
-    let here : p (point from) ≡ leb (τ (point from) .0 + d) bound = each (point from) (omega arith) (omega arith) in
-    go (leb (τ (point from) .0 + d) bound) here
-    (λ e. scanned p down τ d bound (suc from) steps (λ i u. down (point from) i (omega arith) e) (λ i u v. each i (omega arith) (omega arith)) (λ i s. omega (arith, most i s)))
+    let here : p from ≡ leb (τ from .0 + d) (bound .0) = each from (omega arith) (omega arith) in
+    go (leb (τ from .0 + d) (bound .0)) here
+    (λ e. scanned p down τ d bound (pointAfter from) steps (λ i u. down from i (omega arith) e) (λ i u v. each i (omega arith) (omega arith)) (λ i s. omega (arith, most i s)))
   where
-    go : (t : Bool) → p (point from) ≡ t → (p (point from) ≡ true → Upto p (scan τ d bound (suc from) steps)) → Upto p (cond t (scan τ d bound (suc from) steps) from)
+    go : (t : Bool) → p from ≡ t → (p from ≡ true → Upto p (scan τ d bound (pointAfter from) steps .0)) → Upto p (cond t (scan τ d bound (pointAfter from) steps) from .0)
     go true e rest = rest e
-    go false e rest = upto-of p from (stops p from down e) before
+    go false e rest = upto-of p (from .0) (stops p (from .0) down e) before
 
 -- the point by whose time a window has to end, where the children have settled m points and the test says whether there is a point m
 abbrev ending : Log → ℕ → Bool → Point
@@ -182,7 +182,7 @@ module _ (l : Log) (o : Ordered l) (w : Window) (pos : 0 < w .end) (p : Point �
       → Upto (settledUntil l w p) (untilCount τ (size l) (w .end) m from)
   unfolding untilCount
   upto-until down from known τ stamps =
-      scanned (settledUntil l w p) down τ (w .end) (τ (ending l m (ltb m (size l))) .0) from (m - from) known
+      scanned (settledUntil l w p) down τ (w .end) (τ (ending l m (ltb m (size l)))) (point from) (m - from) known
       (λ i a b.
       let (u, v) = ending-within (ltb m (size l)) refl (omega arith) in
       rw (stamps i a (omega arith), stamps (ending l m (ltb m (size l))) (omega arith) v) (until-at i (omega arith)))

@@ -44,10 +44,10 @@ is-accepted (refused n p) t = absurd (false≢true t)
 is-accepted (given a) t = (a, refl)
 
 module _ (s : Stored) where
-  set-few : (x : ℕ) → nodeFits s x ≡ true → (j : Point) → wantedFrom (s .rule) (countBefore s) x ≤ j .0 → j .0 < countBefore s x → length (held (s .entries) x j) ≤ mostRows
+  set-few : (x : ℕ) → nodeFits s x ≡ true → (j : Point) → wantedFrom (s .rule) (countBefore s) x .0 ≤ j .0 → j .0 < countBefore s x → length (held (s .entries) x j) ≤ mostRows
   unfolding nodeFits
   set-few x t j u o =
-      let w = wantedFrom (s .rule) (countBefore s) x in
+      let w = wantedFrom (s .rule) (countBefore s) x .0 in
       let fits : setFits (s .rule) x (held (s .entries) x j) ≡ true = all-points (λ j. setFits (s .rule) x (held (s .entries) x j)) w (countBefore s x - w) .0 (search first) j u (omega arith) in
       leb-true (length (held (s .entries) x j)) mostRows (search (first, second))
 
@@ -60,7 +60,7 @@ module _ (s : Stored) where
         few-points = leb-true (s .points) mostPoints (search (first, second) depth 9);
         few-times = leb-true (length (s .times)) mostTimes (search (first, second) depth 9);
         few-open = leb-true (openStored s) mostOpen (search (first, second));
-        times-many = eqb-true (length (s .times)) (s .points - firstRetained (s .points) (countsStored s)) (search (first, second));
+        times-many = eqb-true (length (s .times)) (s .points - firstRetained (s .points) (countsStored s) .0) (search (first, second));
         rising = search (first, second);
         few-kept = leb-true (length (s .entries)) mostKept (search (first, second));
         entries-own = entries-same (s .entries) (gather (ownEntries s) (range 0 (nodeCount (s .rule)))) (search (first, second));

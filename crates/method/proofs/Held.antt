@@ -18,9 +18,9 @@ use Rattle.method.specs.Stored.{held, heldPairs}
 use Rattle.method.proofs.Lists.{select-no, select-yes, map-same, map-id, select-gather, select-map, map-map, gather-one, gather-none, gather-points}
 
 -- node x has sets at points from low x on, as many as n x says, and pairs
-module _ (low n : ℕ → ℕ) (sets : ℕ → Point → List (List ℕ)) (pairs : ℕ → List (List ℕ)) where
+module _ (low : ℕ → Point) (n : ℕ → ℕ) (sets : ℕ → Point → List (List ℕ)) (pairs : ℕ → List (List ℕ)) where
   abbrev pub setsOf : ℕ → List Entry
-  setsOf x = gather (λ j. map (entryOf x 0 (j .0)) (sets x j)) (pointsFrom (low x) (n x))
+  setsOf x = gather (λ j. map (entryOf x 0 (j .0)) (sets x j)) (pointsFrom (low x .0) (n x))
 
   abbrev pub pairsOf : ℕ → List Entry
   pairsOf x = map (λ p. entryOf x 1 (getD p 0 0) (drop 1 p)) (pairs x)
@@ -33,7 +33,7 @@ module _ (low n : ℕ → ℕ) (sets : ℕ → Point → List (List ℕ)) (pairs
     where
       go : List·Memᴰ e (setsOf y) ⊎ List·Memᴰ e (pairsOf y) → e .node ≡ y
       go (inl k) =
-          let (j, i, h) = gather-at (λ j. map (entryOf y 0 (j .0)) (sets y j)) (pointsFrom (low y) (n y)) k in
+          let (j, i, h) = gather-at (λ j. map (entryOf y 0 (j .0)) (sets y j)) (pointsFrom (low y .0) (n y)) k in
           let (u, p, d) = Memᴰ·of-map (entryOf y 0 (j .0)) (sets y j) h in
           ap (λ (z : Entry). z .node) (sym d)
       go (inr k) =
@@ -49,7 +49,7 @@ module _ (low n : ℕ → ℕ) (sets : ℕ → Point → List (List ℕ)) (pairs
         (λ y u v d. select-no q (nodeOf y) (λ e m. elim (tested (q e)) [ passed t ↦ absurd (d (sym (of-node y e m) ∙ only e t)) | failed t ↦ t ]))
         ∙ select-append q (setsOf x) (pairsOf x)
 
-    pub held-is : (j : Point) → low x ≤ j .0 → j .0 < low x + n x → held (gather nodeOf (range 0 nodes)) x j ≡ sets x j
+    pub held-is : (j : Point) → low x .0 ≤ j .0 → j .0 < low x .0 + n x → held (gather nodeOf (range 0 nodes)) x j ≡ sets x j
     unfolding held
     held-is j u l =
         ap (map (λ e. e .values)) (from-node asked (λ e t. eqb-true (e .node) x (search (first, second))) ∙ ap (λ es. select asked (setsOf x) ++ es) none ∙ append-nil (select asked (setsOf x)) ∙ here)
@@ -72,9 +72,9 @@ module _ (low n : ℕ → ℕ) (sets : ℕ → Point → List (List ℕ)) (pairs
 
         here : select asked (setsOf x) ≡ map (entryOf x 0 (j .0)) (sets x j)
         here =
-            select-gather asked (λ k. map (entryOf x 0 (k .0)) (sets x k)) (pointsFrom (low x) (n x))
-            ∙ gather-points (λ k. select asked (map (entryOf x 0 (k .0)) (sets x k))) (low x) (n x)
-            ∙ gather-one rowsAt (j .0) (low x) (n x) u l (λ k p q d. other k d) ∙ same
+            select-gather asked (λ k. map (entryOf x 0 (k .0)) (sets x k)) (pointsFrom (low x .0) (n x))
+            ∙ gather-points (λ k. select asked (map (entryOf x 0 (k .0)) (sets x k))) (low x .0) (n x)
+            ∙ gather-one rowsAt (j .0) (low x .0) (n x) u l (λ k p q d. other k d) ∙ same
 
     pub heldPairs-is : ((p : List ℕ) → List·Memᴰ p (pairs x) → getD p 0 0 ∷ drop 1 p ≡ p) → heldPairs (gather nodeOf (range 0 nodes)) x ≡ pairs x
     unfolding heldPairs
@@ -87,9 +87,9 @@ module _ (low n : ℕ → ℕ) (sets : ℕ → Point → List (List ℕ)) (pairs
 
         none : select asked (setsOf x) ≡ []
         none =
-            select-gather asked (λ k. map (entryOf x 0 (k .0)) (sets x k)) (pointsFrom (low x) (n x))
-            ∙ gather-points (λ k. select asked (map (entryOf x 0 (k .0)) (sets x k))) (low x) (n x)
-            ∙ gather-none _ (low x) (n x)
+            select-gather asked (λ k. map (entryOf x 0 (k .0)) (sets x k)) (pointsFrom (low x .0) (n x))
+            ∙ gather-points (λ k. select asked (map (entryOf x 0 (k .0)) (sets x k))) (low x .0) (n x)
+            ∙ gather-none _ (low x .0) (n x)
             (λ k u v. select-map asked (entryOf x 0 k) (sets x (point k)) ∙ ap (map (entryOf x 0 k)) (select-no _ (sets x (point k)) (λ p m. rw (eq-eqb x x refl))))
 
         here : select asked (pairsOf x) ≡ pairsOf x

@@ -66,7 +66,7 @@ module _ (l : Log) (φ : Formula) (p : ℕ) (counted : Counted l φ p) (j : ℕ)
   consult-same = consult-one (eqb j) j (omega arith) (λ k e. sym (eqb-true j k e)) (eq-eqb j j refl)
 
 -- what the parent's kind says
-pub consulted-from : (l : Log) (F : ℕ → Formula) (n : Node) (p : ℕ) → Counted l (formulaOf F n) p → (y : ℕ) → List·Memᴰ y (childrenOf n) → (j : Point) → consulted l (formulaOf F n) j ≡ leb (firstWanted n p) (j .0)
+pub consulted-from : (l : Log) (F : ℕ → Formula) (n : Node) (p : ℕ) → Counted l (formulaOf F n) p → (y : ℕ) → List·Memᴰ y (childrenOf n) → (j : Point) → consulted l (formulaOf F n) j ≡ leb (firstWanted n p .0) (j .0)
 unfolding consulted
 consulted-from l F (Atom r t) p c y m j = absurd (List·Memᴰ·not-nil m)
 consulted-from l F (And a b) p c y m j = consult-same l (formulaOf F (And a b)) p c (j .0)
@@ -116,7 +116,7 @@ pair-parts l (eventually a w) f i p m = absurd (List·Memᴰ·not-nil m)
 -- ---- a node's entries as runs
 
 -- a node's rows are wanted from no later than its first unsettled point
-pub wanted-low : (b : List ℕ) (c : ℕ → ℕ) (x : ℕ) → wantedFrom b c x ≤ c x
+pub wanted-low : (b : List ℕ) (c : ℕ → ℕ) (x : ℕ) → wantedFrom b c x .0 ≤ c x
 unfolding wantedFrom
 wanted-low b c x = go (eqb x (lastNode b)) _
   where
@@ -133,19 +133,19 @@ module _ (b : List ℕ) (a : Accepted) (ok : checking b ≡ given a) (l : Log) (
 
   -- the points at which a node that isn't the last keeps its rows
   kept-run : (x : ℕ) → x < nodeCount b - 1
-      → select (λ j. settled l (formulaAt b x) j && consulted l (formulaAt b (parentOf b x)) j) (pointsOf l) ≡ pointsFrom (wantedFrom b countIn x) (countIn x - wantedFrom b countIn x)
+      → select (λ j. settled l (formulaAt b x) j && consulted l (formulaAt b (parentOf b x)) j) (pointsOf l) ≡ pointsFrom (wantedFrom b countIn x .0) (countIn x - wantedFrom b countIn x .0)
   unfolding wantedFrom
   kept-run x o =
       let (p, n, m) = has-parent b a ok x o in
       let e : parentOf b x ≡ p = parent-is b a ok p n x m in
-      let lo : ℕ = min (countIn x) (firstWanted (nodeAt b p) (countIn p)) in
+      let lo : ℕ = min (countIn x) (firstWanted (nodeAt b p) (countIn p) .0) in
       let z : eqb x (lastNode b) ≡ false = ne-eqb x (lastNode b) (λ d. omega arith) in
       rw (z, e)
       (select-run (λ j. settled l (formulaAt b x) j && consulted l (formulaAt b p) j) (size l) lo (countIn x) (omega arith)
       (counted-most l (formulaAt b x) (countIn x) (count-of x (omega arith)))
-      (λ j h. rw (count-of x (omega arith) j, asked p n m j) (ends (countIn x) (firstWanted (nodeAt b p) (countIn p)) (j .0))))
+      (λ j h. rw (count-of x (omega arith) j, asked p n m j) (ends (countIn x) (firstWanted (nodeAt b p) (countIn p) .0) (j .0))))
     where
-      asked : (p : ℕ) → p < nodeCount b → List·Memᴰ x (childrenOf (nodeAt b p)) → (j : Point) → consulted l (formulaAt b p) j ≡ leb (firstWanted (nodeAt b p) (countIn p)) (j .0)
+      asked : (p : ℕ) → p < nodeCount b → List·Memᴰ x (childrenOf (nodeAt b p)) → (j : Point) → consulted l (formulaAt b p) j ≡ leb (firstWanted (nodeAt b p) (countIn p) .0) (j .0)
       asked p n m j =
           let step : formulaAt b p ≡ formulaOf (formulaAt b) (nodeAt b p) = formula-step b p (lower b (nodeCount b) (accepted b a ok .each) p n) in
           ap (λ φ. consulted l φ j) step ∙ consulted-from l (formulaAt b) (nodeAt b p) (countIn p) (subst (λ φ. Counted l φ (countIn p)) step (count-of p n)) x m j
@@ -156,12 +156,12 @@ module _ (b : List ℕ) (a : Accepted) (ok : checking b ≡ given a) (l : Log) (
           (λ e. let u : j < c = ltb-true j c (second (leb (min c f) j) (ltb j c) e) in both (second (leb (min c f) j) (ltb j c) e) (le-leb f j (omega (arith, leb-true (min c f) j (first (leb (min c f) j) (ltb j c) e)))))
 
   -- the last node keeps no rows
-  last-wanted : (x : ℕ) → eqb x (lastNode b) ≡ true → countIn x - wantedFrom b countIn x ≡ 0
+  last-wanted : (x : ℕ) → eqb x (lastNode b) ≡ true → countIn x - wantedFrom b countIn x .0 ≡ 0
   unfolding wantedFrom
   last-wanted x e = rw e (omega arith)
 
   abbrev pub rowEntries : ℕ → List Entry
-  rowEntries x = gather (λ j. map (entryOf x 0 (j .0)) (vals l (formulaAt b x) j)) (pointsFrom (wantedFrom b countIn x) (countIn x - wantedFrom b countIn x))
+  rowEntries x = gather (λ j. map (entryOf x 0 (j .0)) (vals l (formulaAt b x) j)) (pointsFrom (wantedFrom b countIn x .0) (countIn x - wantedFrom b countIn x .0))
 
   abbrev pub pairEntries : ℕ → List Entry
   pairEntries x = map (λ p. entryOf x 1 (getD p 0 0) (drop 1 p)) (lastPairs l (formulaAt b x))
@@ -175,7 +175,7 @@ module _ (b : List ℕ) (a : Accepted) (ok : checking b ≡ given a) (l : Log) (
   entries-run x o = ap (λ es. es ++ pairEntries x) (go (tested (eqb x (lastNode b))))
     where
       none : eqb x (lastNode b) ≡ true → [] ≡ rowEntries x
-      none e = ap (λ k. gather (λ j. map (entryOf x 0 (j .0)) (vals l (formulaAt b x) j)) (pointsFrom (wantedFrom b countIn x) k)) (sym (last-wanted x e))
+      none e = ap (λ k. gather (λ j. map (entryOf x 0 (j .0)) (vals l (formulaAt b x) j)) (pointsFrom (wantedFrom b countIn x .0) k)) (sym (last-wanted x e))
 
       go : Tested (eqb x (lastNode b)) → cond (eqb x (lastNode b)) [] (pointEntries b l x) ≡ rowEntries x
       go (passed e) = rw e (none e)
@@ -200,9 +200,9 @@ module _ (b : List ℕ) (a : Accepted) (ok : checking b ≡ given a) (l : Log) (
   entries-runs = gather-each (entriesOf b l) (λ x. rowEntries x ++ pairEntries x) 0 (nodeCount b) (λ x u o. entries-run x (omega arith))
 
   abbrev runs : ℕ → ℕ
-  runs x = countIn x - wantedFrom b countIn x
+  runs x = countIn x - wantedFrom b countIn x .0
 
-  pub held-is : (x : ℕ) → x < nodeCount b → (j : Point) → wantedFrom b countIn x ≤ j .0 → j .0 < countIn x → held (entries b l) x j ≡ vals l (formulaAt b x) j
+  pub held-is : (x : ℕ) → x < nodeCount b → (j : Point) → wantedFrom b countIn x .0 ≤ j .0 → j .0 < countIn x → held (entries b l) x j ≡ vals l (formulaAt b x) j
   held-is x o j u n =
       ap (λ es. held es x j) entries-runs
       ∙ Held.held-is (wantedFrom b countIn) runs (λ y. vals l (formulaAt b y)) (λ y. lastPairs l (formulaAt b y)) (nodeCount b) x o j u (omega arith)

@@ -8,6 +8,7 @@ use lib.Dec.{ltb}
 use borrow.Author.Tests.{ltb-true, ltb-false}
 use Rattle.meaning.specs.Lists.{range}
 use Rattle.meaning.specs.Outcome.{given, mostOpen}
+use Rattle.meaning.specs.Log.{point}
 use Rattle.meaning.specs.RuleFile.{Accepted, checking, nodeCount, nodeAt, childrenOf, lastNode, oneIf}
 use Rattle.meaning.specs.declared.Node.{Node}
 use Rattle.meaning.specs.declared.Node.the-variants.{Atom, And, AndNot, Keep, Or, Exists, Previous, Next, Since, NotSince, Until, NotUntil, Once, Eventually}
@@ -32,7 +33,7 @@ module _ (c : ℕ → ℕ) (i y : ℕ) where
   under-two : (a b : ℕ) → i < c a → i < c b → List·Memᴰ y (a ∷ b ∷ []) → i < c y + 0
   under-two a b h k m = elim (List·Memᴰ·cases-cons m) [ inl e ↦ omega (arith, ap c e) | inr q ↦ under-one b k q ]
 
-  consulted : (n : Node) → Consults c i n → List·Memᴰ y (childrenOf n) → i < c y + oneIf (isPrevious n)
+  consulted : (n : Node) → Consults c (point i) n → List·Memᴰ y (childrenOf n) → i < c y + oneIf (isPrevious n)
   consulted (Atom r t) h m = absurd (List·Memᴰ·not-nil m)
   consulted (And a b) h m = under-two a b (h .0) (h .1) m
   consulted (AndNot a b) h m = under-two a b (h .0) (h .1) m
@@ -80,9 +81,9 @@ module _ (s : Stored) (f : Formed s) where
       node : Node
       node = nodeAt (s .rule) x
 
-      go : (k : ℕ) → baseOf s ≤ k - 1 → k ≡ advance (stampIn (baseOf s) (s .times)) (s .points) (countBefore s) (baseOf s) node → k ≤ countBefore s y + oneIf (isPrevious node)
+      go : (k : ℕ) → baseOf s .0 ≤ k - 1 → k ≡ advance (stampIn (baseOf s) (s .times)) (s .points) (countBefore s) (baseOf s .0) node → k ≤ countBefore s y + oneIf (isPrevious node)
       go zero u e = omega arith
-      go (suc i) u e = consulted (countBefore s) i y node (consults (stampIn (baseOf s) (s .times)) (s .points) (countBefore s) (baseOf s) node i (omega arith) (rw (← e) (omega arith))) m
+      go (suc i) u e = consulted (countBefore s) i y node (consults (stampIn (baseOf s) (s .times)) (s .points) (countBefore s) (baseOf s .0) node (point i) (omega arith) (rw (← e) (omega arith))) m
 
   -- how many "previous" nodes stand after node x in the file, where its parents are
   abbrev after : ℕ → ℕ
@@ -98,12 +99,13 @@ module _ (s : Stored) (f : Formed s) where
       let all : suc y + (nodeCount (s .rule) - suc y) ≡ nodeCount (s .rule) = omega arith in
       omega (arith, child-lags x o y m, rw all at (sum-after (previousAt (s .rule)) x (suc y) (nodeCount (s .rule) - suc y) (omega arith) (omega arith))))
 
-  pub new-points : openStored s ≤ mostOpen → (w : List ℕ) → SettlesAtMost s w (mostOpen + 1 + previousIn (s .rule) (lastNode (s .rule)))
-  new-points few w x o =
+  pub new-points : (w : List ℕ) → SettlesAtMost s w (mostOpen + 1 + previousIn (s .rule) (lastNode (s .rule)))
+  new-points w x o =
       let (a, ok) = f .accepted in
       let all : 0 + nodeCount (s .rule) ≡ nodeCount (s .rule) = omega arith in
       omega (
         arith,
+        f .few-open,
         lags x o,
         rw all at (sum-after (previousAt (s .rule)) x 0 (nodeCount (s .rule)) (omega arith) (omega arith)),
         whole-weight (s .rule) a ok (previousAt (s .rule)),

@@ -272,7 +272,7 @@ module _ (b : List ℕ) (a : Accepted) (ok : checking b ≡ given a) (l : Log) (
   counts-are : countsStored s ≡ map was (range 0 (nodeCount b))
   counts-are = from-getD (countsStored s) (nodeCount b) was counts-many count-entry
 
-  few-times : size l - firstRetained (size l) (map was (range 0 (nodeCount b))) ≤ mostTimes
+  few-times : size l - firstRetained (size l) (map was (range 0 (nodeCount b))) .0 ≤ mostTimes
   few-times =
       let h : size l - 63 ≤ leastOf (size l) (map was (range 0 (nodeCount b))) =
       least-above (size l - 63) (size l) was 0 (nodeCount b) (omega arith)
@@ -310,7 +310,7 @@ module _ (b : List ℕ) (a : Accepted) (ok : checking b ≡ given a) (l : Log) (
   node-fits x o =
       rw (wanted-now x o, count-before b a ok l (r .ordered) x o, heldPairs-is b a ok l (r .ordered) x o)
       (both
-      (all-points _ (wantedFrom b was x) (was x - wantedFrom b was x) .1
+      (all-points _ (wantedFrom b was x .0) (was x - wantedFrom b was x .0) .1
       (λ j u v. rw (held-is b a ok l (r .ordered) x o j u (omega (arith, wanted-low b was x)))
       (set-fits x o j (upto-holds (settled l (formulaAt b x)) (was x) (was-counted x o) j (omega (arith, wanted-low b was x))))))
       (last-pairs-fit x o))
@@ -322,7 +322,7 @@ module _ (b : List ℕ) (a : Accepted) (ok : checking b ≡ given a) (l : Log) (
       ∙ sym
       (rw (wanted-now x o, count-before b a ok l (r .ordered) x o, heldPairs-is b a ok l (r .ordered) x o)
       (ap (λ es. es ++ map (λ p. entryOf x 1 (getD p 0 0) (drop 1 p)) (lastPairs l (formulaAt b x)))
-      (gather-over _ (λ j. map (entryOf x 0 (j .0)) (vals l (formulaAt b x) j)) (wantedFrom b was x) (was x - wantedFrom b was x)
+      (gather-over _ (λ j. map (entryOf x 0 (j .0)) (vals l (formulaAt b x) j)) (wantedFrom b was x .0) (was x - wantedFrom b was x .0)
       (λ j u v. ap (map (entryOf x 0 (j .0))) (held-is b a ok l (r .ordered) x o j u (omega (arith, wanted-low b was x)))))))
 
   entries-own : entries b l ≡ gather (ownEntries s) (range 0 (nodeCount b))
@@ -333,14 +333,14 @@ module _ (b : List ℕ) (a : Accepted) (ok : checking b ≡ given a) (l : Log) (
   all-nodes-fit k zero h = refl
   all-nodes-fit k (suc n) h = both (node-fits k (omega arith)) (all-nodes-fit (suc k) n (omega arith))
 
-  abbrev base : ℕ
+  abbrev base : Point
   base = firstRetained (size l) (map was (range 0 (nodeCount b)))
 
-  base-size : base ≤ size l
+  base-size : base .0 ≤ size l
   base-size = let h : leastOf (size l) (map was (range 0 (nodeCount b))) ≤ size l = least-most (size l) (map was (range 0 (nodeCount b))) in omega arith
 
-  times-many : length (map (λ i. time l i .0) (pointsFrom base (size l - base))) ≡ size l - base
-  times-many = length-map (pointsFrom base (size l - base)) _ ∙ points-length base (size l - base)
+  times-many : length (map (λ i. time l i .0) (pointsFrom (base .0) (size l - base .0))) ≡ size l - base .0
+  times-many = length-map (pointsFrom (base .0) (size l - base .0)) _ ∙ points-length (base .0) (size l - base .0)
 
   kept-few : length (entries b l) ≤ mostKept
   unfolding kept
@@ -356,10 +356,10 @@ module _ (b : List ℕ) (a : Accepted) (ok : checking b ≡ given a) (l : Log) (
       both (both (both (both (both (both (both (both
       (ap isAccepted ok)
       (le-leb (size l) mostPoints (r .few-points)))
-      (rw times-many (le-leb (size l - base) mostTimes few-times)))
+      (rw times-many (le-leb (size l - base .0) mostTimes few-times)))
       (le-leb (openStored s) mostOpen open-few))
-      (eq-eqb _ _ (times-many ∙ ap (λ cs. size l - firstRetained (size l) cs) (sym counts-are))))
-      (run-rises base (size l - base) (omega (arith, base-size))))
+      (eq-eqb _ _ (times-many ∙ ap (λ cs. size l - firstRetained (size l) cs .0) (sym counts-are))))
+      (run-rises (base .0) (size l - base .0) (omega (arith, base-size))))
       (le-leb (length (entries b l)) mostKept kept-few))
       (same-entries (entries b l) (gather (ownEntries s) (range 0 (nodeCount b))) entries-own))
       (all-nodes-fit 0 (nodeCount b) (omega arith))

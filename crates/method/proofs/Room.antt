@@ -16,7 +16,6 @@ use Rattle.meaning.specs.declared.Node.the-variants.{Atom, And, AndNot, Keep, O
 use Rattle.meaning.proofs.Accepted.{nodes-most, last-is-node}
 use Rattle.meaning.proofs.Points.{Tested, passed, failed, tested}
 use Rattle.method.specs.Stored.{Stored}
-use Rattle.method.specs.Step.{openStored}
 use Rattle.method.specs.WellFormed.{ownEntries, Formed}
 use Rattle.method.specs.Room.{weight, isPrevious, otherAt, previousIn, othersIn, heavier, lighter, need, newPoints, rowsMost, setsNeeded, SettlesAtMost, mostSets, RoomEnough}
 use Rattle.method.proofs.Bounds.{below, by-children}
@@ -129,8 +128,8 @@ module _ (s : Stored) (f : Formed s) where
       let (a, ok) = f .accepted in
       omega (arith, whole-weight (s .rule) a ok (λ x. length (ownEntries s x)), length-gather (ownEntries s) (range 0 (nodeCount (s .rule))), ap length (f .entries-own), f .few-kept)
 
-  pub room-enough : openStored s ≤ mostOpen → (w : List ℕ) → RoomEnough s w
-  room-enough few w =
+  pub room-enough : (w : List ℕ) → RoomEnough s w
+  room-enough w =
       let (m, u, v) = worst (othersIn b (lastNode b)) q nodes in
       record {
         points = news;
@@ -159,7 +158,7 @@ module _ (s : Stored) (f : Formed s) where
       nodes = omega (arith, nodes-split b a ok, nodes-most b a ok)
 
       news : SettlesAtMost s w (mostOpen + 1 + q)
-      news = new-points s f few w
+      news = new-points s f w
 
       within : (most m : ℕ) → SettlesAtMost s w most → othersIn b (lastNode b) + 1 < 2 ^ m → setsNeeded s w ≤ m * most
       within most m h u = omega (arith, need-within b a ok (newPoints s w) (λ x. 0) most (λ x o. omega (arith, h x o)) (lastNode b) last m u, no-shares b a ok)

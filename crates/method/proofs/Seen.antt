@@ -37,7 +37,7 @@ pub record Sees (v : Sight) (l : Log) (F : ℕ → Formula) (n : Node) (i : Poin
   pub variables : v .free ≡ (λ y. free (F y))
   pub counts : (y : ℕ) → List·Memᴰ y (childrenOf n) → Counted l (F y) (v .count y)
   pub fine : (y : ℕ) → List·Memᴰ y (childrenOf n) → Fine (F y)
-  pub rows : (y : ℕ) → List·Memᴰ y (childrenOf n) → (j : Point) → firstWanted n (i .0) ≤ j .0 → j .0 < v .count y → v .rows y j ≡ vals l (F y) j
+  pub rows : (y : ℕ) → List·Memᴰ y (childrenOf n) → (j : Point) → firstWanted n (i .0) .0 ≤ j .0 → j .0 < v .count y → v .rows y j ≡ vals l (F y) j
 
 -- a child's rows, asked for a row
 found-among : (v : Sight) (l : Log) (F : ℕ → Formula) (a : ℕ) (k : Point) → Fine (F a) → v .free ≡ (λ y. free (F y)) → v .rows a k ≡ vals l (F a) k → (u : List ℕ) → found v a u k ≡ among (free (F a)) (vals l (F a)) u k
@@ -137,11 +137,11 @@ grows-at {l} {w} {left} {right} {pairsAt} g i n = go (i .0) refl
 
 module _ (v : Sight) (l : Log) (ordered : Ordered l) (F : ℕ → Formula) (i : Point) where
   -- the rows of a child at a point that is consulted and settled
-  seen : (n : Node) → Sees v l F n i → (y : ℕ) → List·Memᴰ y (childrenOf n) → (j : Point) → firstWanted n (i .0) ≤ j .0 → settled l (F y) j ≡ true → v .rows y j ≡ vals l (F y) j
+  seen : (n : Node) → Sees v l F n i → (y : ℕ) → List·Memᴰ y (childrenOf n) → (j : Point) → firstWanted n (i .0) .0 ≤ j .0 → settled l (F y) j ≡ true → v .rows y j ≡ vals l (F y) j
   seen n s y m j u e = s .rows y m j u (below l (F y) (v .count y) (s .counts y m) j e)
 
   -- until over two children, with a test of left that is the same
-  settle-two : (n : Node) → Sees v l F n i → (a b : ℕ) → List·Memᴰ a (childrenOf n) → List·Memᴰ b (childrenOf n) → firstWanted n (i .0) ≡ i .0 → (w : Window) → 0 < w .end
+  settle-two : (n : Node) → Sees v l F n i → (a b : ℕ) → List·Memᴰ a (childrenOf n) → List·Memᴰ b (childrenOf n) → firstWanted n (i .0) .0 ≡ i .0 → (w : Window) → 0 < w .end
       → settledUntil l w (twin l (F a) (F b)) i ≡ true → (left left' : List ℕ → Point → Bool)
       → ((j : Point) → v .rows a j ≡ vals l (F a) j → (u : List ℕ) → left u j ≡ left' u j)
       → untilRows (v .stamps) (min (v .count a) (v .count b)) w left (v .rows b) i ≡ untilRows (time l) (size l) w left' (vals l (F b)) i

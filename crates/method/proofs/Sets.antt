@@ -125,13 +125,13 @@ module _ (F : ℕ → Formula) (v : Sight) (same : v .free ≡ (λ y. free (F y)
   unfolding settle
   settle-rows n f s ps c i = record { ascends = setOf-ascends (candidates v ps i n); cut = λ u m. candidates-cut n f s ps c i u (set-at (candidates v ps i n) m) }
 
-  new-rows : (n : Node) → Fine (formulaOf F n) → Children n → (i count : ℕ) (ps : List (List ℕ)) → PairsOf (free (formulaOf F n)) ps → (rows : List (List ℕ)) → List·Memᴰ rows (newRows v n i count ps) → RowsOf (free (formulaOf F n)) rows
+  new-rows : (n : Node) → Fine (formulaOf F n) → Children n → (i : Point) (count : ℕ) (ps : List (List ℕ)) → PairsOf (free (formulaOf F n)) ps → (rows : List (List ℕ)) → List·Memᴰ rows (newRows v n i count ps) → RowsOf (free (formulaOf F n)) rows
   new-rows n f s i zero ps c rows m = absurd (List·Memᴰ·not-nil m)
   new-rows n f s i (suc count) ps c rows m =
-      let d : PairsOf (free (formulaOf F n)) (pairsNow v ps (point i) n) = pairs-cut n s ps c (point i) in
+      let d : PairsOf (free (formulaOf F n)) (pairsNow v ps i n) = pairs-cut n s ps c i in
       elim (List·Memᴰ·cases-cons m) [
-        | inl e ↦ subst (RowsOf (free (formulaOf F n))) (sym e) (settle-rows n f s (pairsNow v ps (point i) n) d (point i))
-        | inr k ↦ new-rows n f s (suc i) count (pairsNow v ps (point i) n) d rows k
+        | inl e ↦ subst (RowsOf (free (formulaOf F n))) (sym e) (settle-rows n f s (pairsNow v ps i n) d i)
+        | inr k ↦ new-rows n f s (pointAfter i) count (pairsNow v ps i n) d rows k
       ]
 
 -- ---- what is held
@@ -187,13 +187,13 @@ module _ (s : Stored) (f : Formed s) (w : List ℕ) where
   -- the rows of node x that are held, and those of its newly settled points
   module _ (x : ℕ) (o : x < nodeCount b) where
     abbrev points : List Point
-    points = pointsFrom (wantedFrom b (countBefore s) x) (countBefore s x - wantedFrom b (countBefore s) x)
+    points = pointsFrom (wantedFrom b (countBefore s) x .0) (countBefore s x - wantedFrom b (countBefore s) x .0)
 
     abbrev old : List (List (List ℕ))
     old = map (held (s .entries) x) points
 
     abbrev new : List (List (List ℕ))
-    new = newRows (sight x) (nodeAt b x) (countBefore s x) (countAfter s w x - countBefore s x) (heldPairs (s .entries) x)
+    new = newRows (sight x) (nodeAt b x) (point (countBefore s x)) (countAfter s w x - countBefore s x) (heldPairs (s .entries) x)
 
     fits : nodeFits s x ≡ true
     fits = f .nodes-fit x o
@@ -220,7 +220,7 @@ module _ (s : Stored) (f : Formed s) (w : List ℕ) where
           rw step
           (new-rows (formulaAt b) (sight x) refl (nodeAt b x) (subst Fine step (fine b (f .accepted .0) (f .accepted .1) x o))
           (λ y m j. subst (λ g. Own y (g j)) (sym (seen x y (low x (omega arith) y m) o)) (under y m j))
-          (countBefore s x) (countAfter s w x - countBefore s x) (heldPairs (s .entries) x) (rw step at pairs-own))
+          (point (countBefore s x)) (countAfter s w x - countBefore s x) (heldPairs (s .entries) x) (rw step at pairs-own))
 
       turn-own : (j : Point) → Own x (rowsOfTurn (turn s w x) j)
       unfolding turnOf
@@ -228,7 +228,7 @@ module _ (s : Stored) (f : Formed s) (w : List ℕ) where
           rw (turn-is x o)
           (at-place (Own x) (record { ascends = refl; cut = λ u m. absurd (List·Memᴰ·not-nil m) }) (old ++ new)
           (λ rows m. elim (List·Memᴰ·append-cases old m) [ inl k ↦ old-own rows k | inr k ↦ new-own rows k ])
-          (j .0 - wantedFrom b (countBefore s) x))
+          (j .0 - wantedFrom b (countBefore s) x .0))
 
   -- whatever the event, what a node's turn gives at a point are rows of the node
   pub turn-rows : (x : ℕ) → x < nodeCount b → (j : Point) → RowsOf (free (formulaAt b x)) (rowsOfTurn (turn s w x) j)

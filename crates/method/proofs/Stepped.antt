@@ -56,54 +56,54 @@ module _ (b : List ℕ) (a : Accepted) (ok : checking b ≡ given a) (l : Log) (
   was-counted : (x : ℕ) → x < nodeCount b → Counted l (formulaAt b x) (was x)
   was-counted x o = count-counted l (formulaAt b x) ordered (fine b a ok x o)
 
-  abbrev base : ℕ
+  abbrev base : Point
   base = firstRetained (size l) (map was (range 0 (nodeCount b)))
 
-  base-low : (x : ℕ) → x < nodeCount b → base ≤ was x - 1
+  base-low : (x : ℕ) → x < nodeCount b → base .0 ≤ was x - 1
   base-low x o = let h : leastOf (size l) (map was (range 0 (nodeCount b))) ≤ was x = least-below (size l) was 0 (nodeCount b) x (omega arith) (omega arith) in omega arith
 
-  base-size : base ≤ size l
+  base-size : base .0 ≤ size l
   base-size = let h : leastOf (size l) (map was (range 0 (nodeCount b))) ≤ size l = least-most (size l) (map was (range 0 (nodeCount b))) in omega arith
 
   abbrev timesOf : List ℕ
-  timesOf = map (λ i. time l i .0) (pointsFrom base (size l - base))
+  timesOf = map (λ i. time l i .0) (pointsFrom (base .0) (size l - base .0))
 
-  times-length : length timesOf ≡ size l - base
-  times-length = length-map (pointsFrom base (size l - base)) _ ∙ points-length base (size l - base)
+  times-length : length timesOf ≡ size l - base .0
+  times-length = length-map (pointsFrom (base .0) (size l - base .0)) _ ∙ points-length (base .0) (size l - base .0)
 
   base-is : baseOf s ≡ base
   unfolding storedOf
-  base-is = let h : length timesOf ≡ size l - base = times-length in omega (arith, base-size)
+  base-is = let h : length timesOf ≡ size l - base .0 = times-length in ap point (omega (arith, base-size))
 
-  pub latest-now : (w : List ℕ) → latestStored s w ≡ latest l .0
+  pub latest-now : (w : List ℕ) → latestStored s w ≡ latest l
   unfolding latest storedOf
-  latest-now w = go (tested (ltb 0 (size l)))
+  latest-now w = ap stamp (go (tested (ltb 0 (size l))))
     where
       go : Tested (ltb 0 (size l)) → getD timesOf (length timesOf - 1) 0 ≡ time l (point (size l - 1)) .0
       go (passed e) =
           let n : 0 < size l = ltb-true 0 (size l) e in
           let h : leastOf (size l) (map was (range 0 (nodeCount b))) ≤ size l = least-most (size l) (map was (range 0 (nodeCount b))) in
-          let z : length timesOf - 1 ≡ size l - base - 1 = omega (arith, times-length) in
-          let q : base + (size l - base - 1) ≡ size l - 1 = omega arith in
-          ap (λ k. getD timesOf k 0) z ∙ getD-points (λ i. time l i .0) 0 base (size l - base) (size l - base - 1) (omega arith) ∙ ap (λ k. time l (point k) .0) q
+          let z : length timesOf - 1 ≡ size l - base .0 - 1 = omega (arith, times-length) in
+          let q : base .0 + (size l - base .0 - 1) ≡ size l - 1 = omega arith in
+          ap (λ k. getD timesOf k 0) z ∙ getD-points (λ i. time l i .0) 0 (base .0) (size l - base .0) (size l - base .0 - 1) (omega arith) ∙ ap (λ k. time l (point k) .0) q
       go (failed e) =
           let n : size l ≤ 0 = ltb-false 0 (size l) e in
           List·getD-eq-default timesOf 0 (omega (arith, times-length)) ∙ sym (no-time l (point (size l - 1)) (omega arith))
 
   -- ---- the counts and figures of what is stored
 
-  stored-stamp : (j : Point) → base ≤ j .0 → j .0 < size l → stampIn base timesOf j ≡ time l j
+  stored-stamp : (j : Point) → base .0 ≤ j .0 → j .0 < size l → stampIn base timesOf j ≡ time l j
   stored-stamp j u n =
-      let q : base + (j .0 - base) ≡ j .0 = omega arith in
-      ap stamp (getD-points (λ i. time l i .0) 0 base (size l - base) (j .0 - base) (omega arith) ∙ ap (λ k. time l (point k) .0) q)
+      let q : base .0 + (j .0 - base .0) ≡ j .0 = omega arith in
+      ap stamp (getD-points (λ i. time l i .0) 0 (base .0) (size l - base .0) (j .0 - base .0) (omega arith) ∙ ap (λ k. time l (point k) .0) q)
 
   pub count-before : (x : ℕ) → x < nodeCount b → countBefore s x ≡ was x
   unfolding countBefore countsStored storedOf
   count-before x o =
-      ap (λ k. getD (countsTo b (stampIn k timesOf) (size l) (λ y. k) (nodeCount b)) x 0) base-is
+      ap (λ (k : Point). getD (countsTo b (stampIn k timesOf) (size l) (λ y. k .0) (nodeCount b)) x 0) base-is
       ∙ sym
-      (counted-is l (formulaAt b x) (getD (countsTo b (stampIn base timesOf) (size l) (λ y. base) (nodeCount b)) x 0)
-      (counts-right b a ok l ordered (λ y. base)
+      (counted-is l (formulaAt b x) (getD (countsTo b (stampIn base timesOf) (size l) (λ y. base .0) (nodeCount b)) x 0)
+      (counts-right b a ok l ordered (λ y. base .0)
       (λ y q i u. upto-holds (settled l (formulaAt b y)) (was y) (was-counted y q) i (omega (arith, base-low y q)))
       (stampIn base timesOf) (λ y q i u v. stored-stamp i u v) x o))
 
@@ -136,7 +136,7 @@ module _ (b : List ℕ) (a : Accepted) (ok : checking b ≡ given a) (l : Log) (
   wanted-same c d h x o = go (placed b a ok x o)
     where
       go : Placed b x → wantedFrom b c x ≡ wantedFrom b d x
-      go (at-last e) = rw (e c, e d) (h x o)
+      go (at-last e) = rw (e c, e d, h x o)
       go (with-parent p n e) = rw (e c, e d, h x o, h p n)
 
   -- an event that may join the log: its time is no earlier than the last
@@ -167,20 +167,20 @@ module _ (b : List ℕ) (a : Accepted) (ok : checking b ≡ given a) (l : Log) (
     unfolding time pointOf
     last-time j e = ap (λ (p : LogPoint). p .time) (sym new-point) ∙ ap (λ k. getD l' k beyond .time) (sym e)
 
-    pub stamps-right : (j : Point) → base ≤ j .0 → j .0 < size l' → stampsNow s w j ≡ time l' j
+    pub stamps-right : (j : Point) → base .0 ≤ j .0 → j .0 < size l' → stampsNow s w j ≡ time l' j
     unfolding stampsNow storedOf
-    stamps-right j u o = ap (λ k. stamp (getD (timesOf ++ getD w 0 0 ∷ []) (j .0 - k) 0)) base-is ∙ go (tested (ltb (j .0) (size l)))
+    stamps-right j u o = ap (λ (k : Point). stamp (getD (timesOf ++ getD w 0 0 ∷ []) (j .0 - k .0) 0)) base-is ∙ go (tested (ltb (j .0) (size l)))
       where
-        z : length timesOf ≡ size l - base
+        z : length timesOf ≡ size l - base .0
         z = times-length
 
-        go : Tested (ltb (j .0) (size l)) → stamp (getD (timesOf ++ getD w 0 0 ∷ []) (j .0 - base) 0) ≡ time l' j
+        go : Tested (ltb (j .0) (size l)) → stamp (getD (timesOf ++ getD w 0 0 ∷ []) (j .0 - base .0) 0) ≡ time l' j
         go (passed e) =
             let n : j .0 < size l = ltb-true (j .0) (size l) e in
-            ap stamp (List·getD-append timesOf (getD w 0 0 ∷ []) 0 (j .0 - base) (omega (arith, z))) ∙ stored-stamp j u n ∙ grows .times j n
+            ap stamp (List·getD-append timesOf (getD w 0 0 ∷ []) 0 (j .0 - base .0) (omega (arith, z))) ∙ stored-stamp j u n ∙ grows .times j n
         go (failed e) =
             let n : j .0 ≡ size l = omega (arith, ltb-false (j .0) (size l) e, size-grown) in
-            let q : j .0 - base ≡ length timesOf = omega (arith, z) in
+            let q : j .0 - base .0 ≡ length timesOf = omega (arith, z) in
             ap (λ k. stamp (getD (timesOf ++ getD w 0 0 ∷ []) k 0)) q ∙ ap stamp (getD-append-seam timesOf (getD w 0 0) [] 0) ∙ last-time j n
 
     -- ---- the counts
@@ -212,7 +212,7 @@ module _ (b : List ℕ) (a : Accepted) (ok : checking b ≡ given a) (l : Log) (
 
     -- a node's turn gives the evaluator's rows from the first wanted point on, and its pairs
     pub record TurnRight (x : ℕ) : Type 0 where
-      pub rows : (j : Point) → wantedFrom b was x ≤ j .0 → j .0 < is x → rowsOfTurn (turn s w x) j ≡ vals l' (formulaAt b x) j
+      pub rows : (j : Point) → wantedFrom b was x .0 ≤ j .0 → j .0 < is x → rowsOfTurn (turn s w x) j ≡ vals l' (formulaAt b x) j
       pub pairs : turn s w x .pairs ≡ lastPairs l' (formulaAt b x)
 
     stepped : (x : ℕ) → x < nodeCount b → formulaAt b x ≡ formulaOf (formulaAt b) (nodeAt b x)
@@ -270,10 +270,10 @@ module _ (b : List ℕ) (a : Accepted) (ok : checking b ≡ given a) (l : Log) (
     end-pairs x = refl
 
     module _ (x : ℕ) (o : x < nodeCount b) (under : (y : ℕ) → y < x → TurnRight y) where
-      abbrev lo : ℕ
+      abbrev lo : Point
       lo = wantedFrom b was x
 
-      lo-low : lo ≤ was x
+      lo-low : lo .0 ≤ was x
       lo-low = wanted-low b was x
 
       abbrev node : Node
@@ -282,35 +282,35 @@ module _ (b : List ℕ) (a : Accepted) (ok : checking b ≡ given a) (l : Log) (
       ready-run : (j : Point) → was x ≤ j .0 → j .0 < was x + (is x - was x) → Ready (sight x) l' ordered' (formulaAt b) node (fine-node x o) j
       ready-run j u v = ready x o under j u (omega (arith, was-is x o))
 
-      old-rows : map (held (entries b l) x) (pointsFrom lo (was x - lo)) ≡ map (vals l' (formulaAt b x)) (pointsFrom lo (was x - lo))
+      old-rows : map (held (entries b l) x) (pointsFrom (lo .0) (was x - lo .0)) ≡ map (vals l' (formulaAt b x)) (pointsFrom (lo .0) (was x - lo .0))
       old-rows =
-          map-points (held (entries b l) x) (vals l' (formulaAt b x)) lo (was x - lo)
+          map-points (held (entries b l) x) (vals l' (formulaAt b x)) (lo .0) (was x - lo .0)
           (λ j u v. held-is b a ok l ordered x o j u (omega (arith, lo-low))
           ∙ steady-by l l' grows (formulaAt b x) (fine b a ok x o) j (upto-holds (settled l (formulaAt b x)) (was x) (was-counted x o) j (omega (arith, lo-low))))
 
-      made-rows : newRows (sight x) node (was x) (is x - was x) (heldPairs (entries b l) x) ≡ map (vals l' (formulaAt b x)) (pointsFrom (was x) (is x - was x))
+      made-rows : newRows (sight x) node (point (was x)) (is x - was x) (heldPairs (entries b l) x) ≡ map (vals l' (formulaAt b x)) (pointsFrom (was x) (is x - was x))
       made-rows =
-          ap (newRows (sight x) node (was x) (is x - was x)) (start-pairs x o ∙ ap (λ φ. pairsBefore l' φ (point (was x))) (stepped x o))
+          ap (newRows (sight x) node (point (was x)) (is x - was x)) (start-pairs x o ∙ ap (λ φ. pairsBefore l' φ (point (was x))) (stepped x o))
           ∙ new-rows (sight x) l' ordered' (formulaAt b) node (fine-node x o) (was x) (is x - was x) ready-run
           ∙ ap (λ φ. map (vals l' φ) (pointsFrom (was x) (is x - was x))) (sym (stepped x o))
 
-      made-pairs : newPairs (sight x) node (was x) (is x - was x) (heldPairs (entries b l) x) ≡ lastPairs l' (formulaAt b x)
+      made-pairs : newPairs (sight x) node (point (was x)) (is x - was x) (heldPairs (entries b l) x) ≡ lastPairs l' (formulaAt b x)
       made-pairs =
           let z : was x + (is x - was x) ≡ is x = omega (arith, was-is x o) in
-          ap (newPairs (sight x) node (was x) (is x - was x)) (start-pairs x o ∙ ap (λ φ. pairsBefore l' φ (point (was x))) (stepped x o))
+          ap (newPairs (sight x) node (point (was x)) (is x - was x)) (start-pairs x o ∙ ap (λ φ. pairsBefore l' φ (point (was x))) (stepped x o))
           ∙ new-pairs (sight x) l' ordered' (formulaAt b) node (fine-node x o) (was x) (is x - was x) ready-run
           ∙ ap (λ k. pairsBefore l' (formulaOf (formulaAt b) node) (point k)) z ∙ ap (λ φ. pairsBefore l' φ (point (is x))) (sym (stepped x o)) ∙ end-pairs x
 
-      all-rows : map (held (entries b l) x) (pointsFrom lo (was x - lo)) ++ newRows (sight x) node (was x) (is x - was x) (heldPairs (entries b l) x) ≡ map (vals l' (formulaAt b x)) (pointsFrom lo (is x - lo))
+      all-rows : map (held (entries b l) x) (pointsFrom (lo .0) (was x - lo .0)) ++ newRows (sight x) node (point (was x)) (is x - was x) (heldPairs (entries b l) x) ≡ map (vals l' (formulaAt b x)) (pointsFrom (lo .0) (is x - lo .0))
       all-rows =
-          let z : is x - lo ≡ (was x - lo) + (is x - was x) = omega (arith, lo-low, was-is x o) in
-          let q : lo + (was x - lo) ≡ was x = omega (arith, lo-low) in
+          let z : is x - lo .0 ≡ (was x - lo .0) + (is x - was x) = omega (arith, lo-low, was-is x o) in
+          let q : lo .0 + (was x - lo .0) ≡ was x = omega (arith, lo-low) in
           ap₂ (λ s t. s ++ t) old-rows made-rows
-          ∙ sym (map-append (vals l' (formulaAt b x)) (pointsFrom lo (was x - lo)) (pointsFrom (was x) (is x - was x)))
-          ∙ ap (map (vals l' (formulaAt b x))) (ap (λ k. pointsFrom lo (was x - lo) ++ pointsFrom k (is x - was x)) (sym q) ∙ sym (pointsFrom-append lo (was x - lo) (is x - was x)) ∙ ap (pointsFrom lo) (sym z))
+          ∙ sym (map-append (vals l' (formulaAt b x)) (pointsFrom (lo .0) (was x - lo .0)) (pointsFrom (was x) (is x - was x)))
+          ∙ ap (map (vals l' (formulaAt b x))) (ap (λ k. pointsFrom (lo .0) (was x - lo .0) ++ pointsFrom k (is x - was x)) (sym q) ∙ sym (pointsFrom-append (lo .0) (was x - lo .0) (is x - was x)) ∙ ap (pointsFrom (lo .0)) (sym z))
 
       -- the turn with its counts written as the log's
-      turn-with : turn s w x ≡ record { low = lo; rows = map (vals l' (formulaAt b x)) (pointsFrom lo (is x - lo)); pairs = lastPairs l' (formulaAt b x) }
+      turn-with : turn s w x ≡ record { low = lo; rows = map (vals l' (formulaAt b x)) (pointsFrom (lo .0) (is x - lo .0)); pairs = lastPairs l' (formulaAt b x) }
       unfolding turnOf
       turn-with =
           turn-is x o
@@ -320,8 +320,8 @@ module _ (b : List ℕ) (a : Accepted) (ok : checking b ≡ given a) (l : Log) (
       turn-right =
           record {
             rows = λ j u v.
-                let q : lo + (j .0 - lo) ≡ j .0 = omega arith in
-                ap (λ (t : Turn). rowsOfTurn t j) turn-with ∙ getD-points (vals l' (formulaAt b x)) [] lo (is x - lo) (j .0 - lo) (omega arith) ∙ ap (λ k. vals l' (formulaAt b x) (point k)) q;
+                let q : lo .0 + (j .0 - lo .0) ≡ j .0 = omega arith in
+                ap (λ (t : Turn). rowsOfTurn t j) turn-with ∙ getD-points (vals l' (formulaAt b x)) [] (lo .0) (is x - lo .0) (j .0 - lo .0) (omega arith) ∙ ap (λ k. vals l' (formulaAt b x) (point k)) q;
             pairs = ap (λ (t : Turn). t .pairs) turn-with;
           }
 
@@ -340,7 +340,7 @@ module _ (b : List ℕ) (a : Accepted) (ok : checking b ≡ given a) (l : Log) (
     entries-now x o =
         rw (wanted-same (countAfter s w) is count-after x o, count-after x o)
         (ap₂ (λ r p. r ++ p)
-        (gather-over (λ j. map (entryOf x 0 (j .0)) (rowsOfTurn (turn s w x) j)) (λ j. map (entryOf x 0 (j .0)) (vals l' (formulaAt b x) j)) (wantedFrom b is x) (is x - wantedFrom b is x)
+        (gather-over (λ j. map (entryOf x 0 (j .0)) (rowsOfTurn (turn s w x) j)) (λ j. map (entryOf x 0 (j .0)) (vals l' (formulaAt b x) j)) (wantedFrom b is x .0) (is x - wantedFrom b is x .0)
         (λ j u v. ap (map (entryOf x 0 (j .0))) (turns-right x o .rows j (omega (arith, wanted-moves b a ok was is was-is x o)) (omega (arith, wanted-low b is x)))))
         (ap (map (λ p. entryOf x 1 (getD p 0 0) (drop 1 p))) (turns-right x o .pairs))
         ∙ sym (entries-run b a ok l' ordered' x o))
@@ -358,33 +358,33 @@ module _ (b : List ℕ) (a : Accepted) (ok : checking b ≡ given a) (l : Log) (
     counts-now : countsAfter s w ≡ map is (range 0 (nodeCount b))
     counts-now = from-getD (countsAfter s w) (nodeCount b) is counts-many count-entry
 
-    base-grows : base ≤ firstRetained (size l') (map is (range 0 (nodeCount b)))
+    base-grows : base .0 ≤ firstRetained (size l') (map is (range 0 (nodeCount b))) .0
     base-grows = let h : leastOf (size l) (map was (range 0 (nodeCount b))) ≤ leastOf (size l') (map is (range 0 (nodeCount b))) = least-grows (size l) (size l') was is 0 (nodeCount b) (omega (arith, size-grown)) (λ x u v. was-is x (omega arith)) in omega arith
 
-    times-now : timesOf ++ getD w 0 0 ∷ [] ≡ map (λ i. time l' i .0) (pointsFrom base (size l' - base))
+    times-now : timesOf ++ getD w 0 0 ∷ [] ≡ map (λ i. time l' i .0) (pointsFrom (base .0) (size l' - base .0))
     times-now =
-        let z : size l' - base ≡ (size l - base) + 1 = omega (arith, size-grown, base-size) in
-        let q : base + (size l - base) ≡ size l = omega (arith, base-size) in
+        let z : size l' - base .0 ≡ (size l - base .0) + 1 = omega (arith, size-grown, base-size) in
+        let q : base .0 + (size l - base .0) ≡ size l = omega (arith, base-size) in
         ap₂ (λ r p. r ++ p)
-        (map-points (λ i. time l i .0) (λ i. time l' i .0) base (size l - base) (λ j u v. ap (λ (t : Stamp). t .0) (grows .times j (omega (arith, base-size)))))
+        (map-points (λ i. time l i .0) (λ i. time l' i .0) (base .0) (size l - base .0) (λ j u v. ap (λ (t : Stamp). t .0) (grows .times j (omega (arith, base-size)))))
         (ap (λ k. k ∷ []) (ap (λ (t : Stamp). t .0) (last-time (point (size l)) refl)))
-        ∙ sym (map-append (λ i. time l' i .0) (pointsFrom base (size l - base)) (point (size l) ∷ []))
-        ∙ ap (map (λ i. time l' i .0)) (ap (λ k. pointsFrom base (size l - base) ++ pointsFrom k 1) (sym q) ∙ sym (pointsFrom-append base (size l - base) 1) ∙ ap (pointsFrom base) (sym z))
+        ∙ sym (map-append (λ i. time l' i .0) (pointsFrom (base .0) (size l - base .0)) (point (size l) ∷ []))
+        ∙ ap (map (λ i. time l' i .0)) (ap (λ k. pointsFrom (base .0) (size l - base .0) ++ pointsFrom k 1) (sym q) ∙ sym (pointsFrom-append (base .0) (size l - base .0) 1) ∙ ap (pointsFrom (base .0)) (sym z))
 
-    abbrev base' : ℕ
+    abbrev base' : Point
     base' = firstRetained (size l') (map is (range 0 (nodeCount b)))
 
-    base'-size : base' ≤ size l'
+    base'-size : base' .0 ≤ size l'
     base'-size = let h : leastOf (size l') (map is (range 0 (nodeCount b))) ≤ size l' = least-most (size l') (map is (range 0 (nodeCount b))) in omega arith
 
-    first-now : firstRetained (size l + 1) (countsAfter s w) - baseOf s ≡ base' - base
-    first-now = ap₂ (λ r p. r - p) (ap₂ (λ n cs. firstRetained n cs) (sym size-grown) counts-now) base-is
+    first-now : firstRetained (size l + 1) (countsAfter s w) .0 - baseOf s .0 ≡ base' .0 - base .0
+    first-now = ap₂ (λ (r p : Point). r .0 - p .0) (ap₂ (λ n cs. firstRetained n cs) (sym size-grown) counts-now) base-is
 
-    times-kept : drop (base' - base) (timesOf ++ getD w 0 0 ∷ []) ≡ map (λ i. time l' i .0) (pointsFrom base' (size l' - base'))
+    times-kept : drop (base' .0 - base .0) (timesOf ++ getD w 0 0 ∷ []) ≡ map (λ i. time l' i .0) (pointsFrom (base' .0) (size l' - base' .0))
     times-kept =
-        let z : base + (base' - base) ≡ base' = omega (arith, base-grows) in
-        let y : size l' - base - (base' - base) ≡ size l' - base' = omega (arith, base-grows, base'-size) in
-        ap (drop (base' - base)) times-now ∙ drop-points (λ i. time l' i .0) base (size l' - base) (base' - base) (omega (arith, base'-size))
+        let z : base .0 + (base' .0 - base .0) ≡ base' .0 = omega (arith, base-grows) in
+        let y : size l' - base .0 - (base' .0 - base .0) ≡ size l' - base' .0 = omega (arith, base-grows, base'-size) in
+        ap (drop (base' .0 - base .0)) times-now ∙ drop-points (λ i. time l' i .0) (base .0) (size l' - base .0) (base' .0 - base .0) (omega (arith, base'-size))
         ∙ ap₂ (λ r p. map (λ i. time l' i .0) (pointsFrom r p)) z y
 
     entries-all : gather (entriesNow s w) (range 0 (nodeCount b)) ≡ entries b l'
@@ -397,7 +397,7 @@ module _ (b : List ℕ) (a : Accepted) (ok : checking b ≡ given a) (l : Log) (
     pub stored-now : storedNow s w ≡ storedOf b l'
     unfolding storedNow storedOf
     stored-now =
-        ap (λ n. stored n (drop (firstRetained (size l + 1) (countsAfter s w) - baseOf s) (timesOf ++ getD w 0 0 ∷ [])) (gather (entriesNow s w) (range 0 (nodeCount b)))) (sym size-grown)
+        ap (λ n. stored n (drop (firstRetained (size l + 1) (countsAfter s w) .0 - baseOf s .0) (timesOf ++ getD w 0 0 ∷ [])) (gather (entriesNow s w) (range 0 (nodeCount b)))) (sym size-grown)
         ∙ ap₂ (stored (size l')) (ap (λ k. drop k (timesOf ++ getD w 0 0 ∷ [])) first-now ∙ times-kept) entries-all
 
     -- ---- the figures

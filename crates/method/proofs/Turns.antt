@@ -102,23 +102,23 @@ module _ (v : Sight) (l : Log) (ordered : Ordered l) (F : ℕ → Formula) (n : 
   next k = let z : suc k - 1 ≡ k = omega arith in rw (ne-eqb (suc k) 0 (λ d. omega arith), z)
 
   pub new-rows : (i count : ℕ) → ((j : Point) → i ≤ j .0 → j .0 < i + count → Ready j)
-      → newRows v n i count (pairsBefore l (formulaOf F n) (point i)) ≡ map (vals l (formulaOf F n)) (pointsFrom i count)
+      → newRows v n (point i) count (pairsBefore l (formulaOf F n) (point i)) ≡ map (vals l (formulaOf F n)) (pointsFrom i count)
   new-rows i zero h = refl
   new-rows i (suc count) h =
       let r : Ready (point i) = h (point i) (omega arith) (omega arith) in
       let p : pairsNow v (pairsBefore l (formulaOf F n) (point i)) (point i) n ≡ pairs l (formulaOf F n) (point i) = pairs-right v l ordered F (point i) n (r .0) f (r .1) in
       rw p
       (ap₂ (λ s t. s ∷ t) (settle-right v l ordered F (point i) n (r .0) f (r .1) (r .2))
-      (ap (newRows v n (suc i) count) (next i) ∙ new-rows (suc i) count (λ j u o. h j (omega arith) (omega arith))))
+      (ap (newRows v n (point (suc i)) count) (next i) ∙ new-rows (suc i) count (λ j u o. h j (omega arith) (omega arith))))
 
   pub new-pairs : (i count : ℕ) → ((j : Point) → i ≤ j .0 → j .0 < i + count → Ready j)
-      → newPairs v n i count (pairsBefore l (formulaOf F n) (point i)) ≡ pairsBefore l (formulaOf F n) (point (i + count))
+      → newPairs v n (point i) count (pairsBefore l (formulaOf F n) (point i)) ≡ pairsBefore l (formulaOf F n) (point (i + count))
   new-pairs i zero h = let z : i + 0 ≡ i = omega arith in rw z
   new-pairs i (suc count) h =
       let r : Ready (point i) = h (point i) (omega arith) (omega arith) in
       let p : pairsNow v (pairsBefore l (formulaOf F n) (point i)) (point i) n ≡ pairs l (formulaOf F n) (point i) = pairs-right v l ordered F (point i) n (r .0) f (r .1) in
       let z : i + suc count ≡ suc i + count = omega arith in
-      rw (p, z) (ap (newPairs v n (suc i) count) (next i) ∙ new-pairs (suc i) count (λ j u o. h j (omega arith) (omega arith)))
+      rw (p, z) (ap (newPairs v n (point (suc i)) count) (next i) ∙ new-pairs (suc i) count (λ j u o. h j (omega arith) (omega arith)))
 
 -- an atom has settled every point
 pub atom-counted : (l : Log) (F : ℕ → Formula) (n : Node) → childrenOf n ≡ [] → Counted l (formulaOf F n) (size l)
@@ -138,7 +138,7 @@ atom-counted l F (Once a w) e = absurd (cons≢nil e)
 atom-counted l F (Eventually a w) e = absurd (cons≢nil e)
 
 -- what is first wanted of a child moves on with its parent
-pub wanted-on : (n : Node) (p q : ℕ) → p ≤ q → firstWanted n p ≤ firstWanted n q
+pub wanted-on : (n : Node) (p q : ℕ) → p ≤ q → firstWanted n p .0 ≤ firstWanted n q .0
 wanted-on (Atom r t) p q h = h
 wanted-on (And a b) p q h = h
 wanted-on (AndNot a b) p q h = h

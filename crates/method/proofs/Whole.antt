@@ -89,7 +89,7 @@ module _ (b : List ℕ) (a : Accepted) (ok : checking b ≡ given a) (l : Log) (
   step-answer : answerNow (storedOf b l) event (length (t .buffer)) ≡ answer b l t
   unfolding answerNow answer storedOf
   step-answer =
-      ap (λ k. admitted b event k (size l) reckoned) (latest-now b a ok l ordered event)
+      ap (λ (k : Stamp). admitted b event (k .0) (size l) reckoned) (latest-now b a ok l ordered event)
       ∙ admitted-same b event (latest l .0) (size l) _ _
       (λ h. let o : Ordered (grown b l event) = grown-ordered b l event ordered h in
       weighed-same (crowdedNow (storedOf b l) event) (crowdedAt b l (grown b l event)) (nodeCount b) _ _ _ _ _ _ (length (t .buffer))

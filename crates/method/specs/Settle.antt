@@ -85,9 +85,9 @@ pairsNow v pairs i (Eventually a w) = []
 
 -- What a node's turn gives: its rows from point low on, and its pairs at its last settled point.
 pub record Turn : Type 0 where
-  pub low : ℕ
+  pub low : Point
   pub rows : List (List (List ℕ))
   pub pairs : List (List ℕ)
 
 abbrev pub rowsOfTurn : Turn → Point → List (List ℕ)
-rowsOfTurn t j = getD (t .rows) (j .0 - t .low) []
+rowsOfTurn t j = getD (t .rows) (j .0 - t .low .0) []

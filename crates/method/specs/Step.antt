@@ -6,7 +6,7 @@ use lib.ListN.{length, getD, drop}
 use lib.Dec.{ltb, eqb}
 use Rattle.meaning.specs.Lists.{any, range, select, gather}
 use Rattle.meaning.specs.Outcome.{Outcome, refused, given, mostRows}
-use Rattle.meaning.specs.Log.{Row, point, pointsFrom}
+use Rattle.meaning.specs.Log.{Row, point, stamp, pointAfter, pointsFrom}
 use Rattle.meaning.specs.Formula.{free, variables}
 use Rattle.meaning.specs.RuleFile.{nodeCount, nodeAt, formulaAt, lastNode, pattern}
 use Rattle.meaning.specs.Kept.{Entry, entryOf, parentOf}
@@ -22,46 +22,46 @@ use Rattle.method.specs.Counts.{countsTo}
 use Rattle.method.specs.Settle.{Sight, settle, pairsNow, Turn, rowsOfTurn}
 
 -- the first point of a child that an unsettled point of its parent consults, with p points of the parent settled
-abbrev pub firstWanted : Node → ℕ → ℕ
-firstWanted (Atom r t) p = p
-firstWanted (And a b) p = p
-firstWanted (AndNot a b) p = p
-firstWanted (Keep a c s) p = p
-firstWanted (Or a b) p = p
-firstWanted (Exists a x) p = p
-firstWanted (Previous a w) p = p - 1
-firstWanted (Next a w) p = p + 1
-firstWanted (Since a b w) p = p
-firstWanted (NotSince a b w) p = p
-firstWanted (Until a b w) p = p
-firstWanted (NotUntil a b w) p = p
-firstWanted (Once a w) p = p
-firstWanted (Eventually a w) p = p
+abbrev pub firstWanted : Node → ℕ → Point
+firstWanted (Atom r t) p = point p
+firstWanted (And a b) p = point p
+firstWanted (AndNot a b) p = point p
+firstWanted (Keep a c s) p = point p
+firstWanted (Or a b) p = point p
+firstWanted (Exists a x) p = point p
+firstWanted (Previous a w) p = point (p - 1)
+firstWanted (Next a w) p = point (p + 1)
+firstWanted (Since a b w) p = point p
+firstWanted (NotSince a b w) p = point p
+firstWanted (Until a b w) p = point p
+firstWanted (NotUntil a b w) p = point p
+firstWanted (Once a w) p = point p
+firstWanted (Eventually a w) p = point p
 
 -- the first point from which node x keeps its rows; the last node keeps none
-unfoldable pub wantedFrom : List ℕ → (ℕ → ℕ) → ℕ → ℕ
-wantedFrom b count x = cond (eqb x (lastNode b)) (count x) (min (count x) (firstWanted (nodeAt b (parentOf b x)) (count (parentOf b x))))
+unfoldable pub wantedFrom : List ℕ → (ℕ → ℕ) → ℕ → Point
+wantedFrom b count x = point (cond (eqb x (lastNode b)) (count x) (min (count x) (firstWanted (nodeAt b (parentOf b x)) (count (parentOf b x)) .0)))
 
 -- a node's rows at newly settled points in turn, its pairs grown before each; and its pairs after them
-abbrev pub newRows : Sight → Node → ℕ → ℕ → List (List ℕ) → List (List (List ℕ))
+abbrev pub newRows : Sight → Node → Point → ℕ → List (List ℕ) → List (List (List ℕ))
 newRows v node i zero pairs = []
-newRows v node i (suc count) pairs = settle v (pairsNow v pairs (point i) node) (point i) node ∷ newRows v node (suc i) count (pairsNow v pairs (point i) node)
+newRows v node i (suc count) pairs = settle v (pairsNow v pairs i node) i node ∷ newRows v node (pointAfter i) count (pairsNow v pairs i node)
 
-abbrev pub newPairs : Sight → Node → ℕ → ℕ → List (List ℕ) → List (List ℕ)
+abbrev pub newPairs : Sight → Node → Point → ℕ → List (List ℕ) → List (List ℕ)
 newPairs v node i zero pairs = pairs
-newPairs v node i (suc count) pairs = newPairs v node (suc i) count (pairsNow v pairs (point i) node)
+newPairs v node i (suc count) pairs = newPairs v node (pointAfter i) count (pairsNow v pairs i node)
 
 -- the turn of node x, which had settled as many points as before says and now has as many as after says
 unfoldable pub turnOf : List ℕ → List Entry → (ℕ → ℕ) → (ℕ → ℕ) → Sight → ℕ → Turn
 turnOf b es before after v x =
     record {
       low = wantedFrom b before x;
-      rows = map (held es x) (pointsFrom (wantedFrom b before x) (before x - wantedFrom b before x)) ++ newRows v (nodeAt b x) (before x) (after x - before x) (heldPairs es x);
-      pairs = newPairs v (nodeAt b x) (before x) (after x - before x) (heldPairs es x);
+      rows = map (held es x) (pointsFrom (wantedFrom b before x .0) (before x - wantedFrom b before x .0)) ++ newRows v (nodeAt b x) (point (before x)) (after x - before x) (heldPairs es x);
+      pairs = newPairs v (nodeAt b x) (point (before x)) (after x - before x) (heldPairs es x);
     }
 
 abbrev pub noTurn : Turn
-noTurn = record { low = 0; rows = []; pairs = [] }
+noTurn = record { low = point 0; rows = []; pairs = [] }
 
 -- what node x can look at, after the turns of the nodes below it
 abbrev pub sightOf : List ℕ → (Point → Stamp) → (ℕ → ℕ) → List Row → List Turn → Sight
@@ -75,7 +75,7 @@ turnsTo b es τ before after event (suc x) =
 
 -- how many points each node has settled
 unfoldable pub countsStored : Stored → List ℕ
-countsStored s = countsTo (s .rule) (stampIn (baseOf s) (s .times)) (s .points) (λ x. baseOf s) (nodeCount (s .rule))
+countsStored s = countsTo (s .rule) (stampIn (baseOf s) (s .times)) (s .points) (λ x. baseOf s .0) (nodeCount (s .rule))
 
 unfoldable pub countBefore : Stored → ℕ → ℕ
 countBefore s x = getD (countsStored s) x 0
@@ -108,7 +108,7 @@ module _ (s : Stored) (w : List ℕ) where
   unfoldable pub entriesNow : ℕ → List Entry
   unfolding countAfter turn
   entriesNow x =
-      gather (λ j. map (entryOf x 0 (j .0)) (rowsOfTurn (turn x) j)) (pointsFrom (wantedFrom (s .rule) countAfter x) (countAfter x - wantedFrom (s .rule) countAfter x))
+      gather (λ j. map (entryOf x 0 (j .0)) (rowsOfTurn (turn x) j)) (pointsFrom (wantedFrom (s .rule) countAfter x .0) (countAfter x - wantedFrom (s .rule) countAfter x .0))
       ++ map (λ p. entryOf x 1 (getD p 0 0) (drop 1 p)) (turn x .pairs)
 
   unfoldable pub storedNow : Stored
@@ -117,7 +117,7 @@ module _ (s : Stored) (w : List ℕ) where
       record {
         rule = s .rule;
         points = s .points + 1;
-        times = drop (firstRetained (s .points + 1) countsAfter - baseOf s) (s .times ++ getD w 0 0 ∷ []);
+        times = drop (firstRetained (s .points + 1) countsAfter .0 - baseOf s .0) (s .times ++ getD w 0 0 ∷ []);
         entries = gather entriesNow (range 0 (nodeCount (s .rule)));
       }
 
@@ -137,13 +137,13 @@ module _ (s : Stored) (w : List ℕ) where
   reportNow = reportWords (length (select (free (pattern (s .rule))) variables)) reportedNow
 
   -- the latest time, 0 before any point
-  abbrev pub latestStored : ℕ
-  latestStored = getD (s .times) (length (s .times) - 1) 0
+  abbrev pub latestStored : Stamp
+  latestStored = stamp (getD (s .times) (length (s .times) - 1) 0)
 
   unfoldable pub answerNow : ℕ → Outcome ℕ
   unfolding countAfter storedNow crowdedNow reportNow
   answerNow room =
-      admitted (s .rule) w latestStored (s .points)
+      admitted (s .rule) w (latestStored .0) (s .points)
       (weighed crowdedNow (nodeCount (s .rule)) (s .points + 1 - countAfter (lastNode (s .rule))) (length (storedNow .entries)) (length reportNow) room)
 
   -- the state after the call: kept on a refusal

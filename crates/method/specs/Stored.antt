@@ -5,7 +5,7 @@ use mathlib.Core.List.{List, [], _∷_, map}
 use lib.ListN.{length, getD}
 use lib.Dec.{eqb}
 use Rattle.meaning.specs.Lists.{range, select}
-use Rattle.meaning.specs.Log.{Log, stamp, size, time, pointsFrom}
+use Rattle.meaning.specs.Log.{Log, point, stamp, size, time, pointsFrom}
 use Rattle.meaning.specs.Settled.{settledCount}
 use Rattle.meaning.specs.RuleFile.{nodeCount, formulaAt}
 use Rattle.meaning.specs.Kept.{Entry, entries}
@@ -19,12 +19,12 @@ pub record Stored : Type 0 where
   pub entries : List Entry
 
 -- the first point whose time is retained
-abbrev pub baseOf : Stored → ℕ
-baseOf s = s .points - length (s .times)
+abbrev pub baseOf : Stored → Point
+baseOf s = point (s .points - length (s .times))
 
 -- time stamps read off retained times, of which the first is point base's
-abbrev pub stampIn : ℕ → List ℕ → Point → Stamp
-stampIn base times i = stamp (getD times (i .0 - base) 0)
+abbrev pub stampIn : Point → List ℕ → Point → Stamp
+stampIn base times i = stamp (getD times (i .0 - base .0) 0)
 
 -- the rows kept of node x at point j
 unfoldable pub held : List Entry → ℕ → Point → List (List ℕ)
@@ -40,8 +40,8 @@ leastOf n [] = n
 leastOf n (c ∷ cs) = min c (leastOf n cs)
 
 -- "retained .. are the times of each point that some node hasn't settled and of the last that all have": the first of these points, from the counts of settled points
-abbrev pub firstRetained : ℕ → List ℕ → ℕ
-firstRetained n counts = leastOf n counts - 1
+abbrev pub firstRetained : ℕ → List ℕ → Point
+firstRetained n counts = point (leastOf n counts - 1)
 
 -- what is stored of a log
 unfoldable pub storedOf : List ℕ → Log → Stored
@@ -49,6 +49,6 @@ storedOf b l =
     record {
       rule = b;
       points = size l;
-      times = map (λ i. time l i .0) (pointsFrom (firstRetained (size l) (map (λ x. settledCount l (formulaAt b x)) (range 0 (nodeCount b)))) (size l - firstRetained (size l) (map (λ x. settledCount l (formulaAt b x)) (range 0 (nodeCount b)))));
+      times = map (λ i. time l i .0) (pointsFrom (firstRetained (size l) (map (λ x. settledCount l (formulaAt b x)) (range 0 (nodeCount b))) .0) (size l - firstRetained (size l) (map (λ x. settledCount l (formulaAt b x)) (range 0 (nodeCount b))) .0));
       entries = entries b l;
     }

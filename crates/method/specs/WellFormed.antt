@@ -72,12 +72,12 @@ module _ (s : Stored) where
   -- the entries of node x, in their order: its rows at each point that is still consulted, and its pairs
   unfoldable pub ownEntries : ℕ → List Entry
   ownEntries x =
-      gather (λ j. map (entryOf x 0 (j .0)) (held (s .entries) x j)) (pointsFrom (wantedFrom (s .rule) (countBefore s) x) (countBefore s x - wantedFrom (s .rule) (countBefore s) x))
+      gather (λ j. map (entryOf x 0 (j .0)) (held (s .entries) x j)) (pointsFrom (wantedFrom (s .rule) (countBefore s) x .0) (countBefore s x - wantedFrom (s .rule) (countBefore s) x .0))
       ++ map (λ p. entryOf x 1 (getD p 0 0) (drop 1 p)) (heldPairs (s .entries) x)
 
   unfoldable pub nodeFits : ℕ → Bool
   nodeFits x =
-      all (λ j. setFits (s .rule) x (held (s .entries) x j)) (pointsFrom (wantedFrom (s .rule) (countBefore s) x) (countBefore s x - wantedFrom (s .rule) (countBefore s) x))
+      all (λ j. setFits (s .rule) x (held (s .entries) x j)) (pointsFrom (wantedFrom (s .rule) (countBefore s) x .0) (countBefore s x - wantedFrom (s .rule) (countBefore s) x .0))
       && pairsFit (s .rule) x (nodeAt (s .rule) x) (heldPairs (s .entries) x)
 
   unfoldable pub wellFormed : Bool
@@ -87,7 +87,7 @@ module _ (s : Stored) where
       && leb (s .points) mostPoints
       && leb (length (s .times)) mostTimes
       && leb (openStored s) mostOpen
-      && eqb (length (s .times)) (s .points - firstRetained (s .points) (countsStored s))
+      && eqb (length (s .times)) (s .points - firstRetained (s .points) (countsStored s) .0)
       && notFalling (s .times)
       && leb (length (s .entries)) mostKept
       && sameEntries (s .entries) (gather ownEntries (range 0 (nodeCount (s .rule))))
@@ -99,9 +99,9 @@ pub record Formed (s : Stored) : Type 0 where
   pub few-points : s .points ≤ mostPoints
   pub few-times : length (s .times) ≤ mostTimes
   pub few-open : openStored s ≤ mostOpen
-  pub times-many : length (s .times) ≡ s .points - firstRetained (s .points) (countsStored s)
+  pub times-many : length (s .times) ≡ s .points - firstRetained (s .points) (countsStored s) .0
   pub rising : notFalling (s .times) ≡ true
   pub few-kept : length (s .entries) ≤ mostKept
   pub entries-own : s .entries ≡ gather (ownEntries s) (range 0 (nodeCount (s .rule)))
   pub nodes-fit : (x : ℕ) → x < nodeCount (s .rule) → nodeFits s x ≡ true
-  pub sets-few : (x : ℕ) → x < nodeCount (s .rule) → (j : Point) → wantedFrom (s .rule) (countBefore s) x ≤ j .0 → j .0 < countBefore s x → length (held (s .entries) x j) ≤ mostRows
+  pub sets-few : (x : ℕ) → x < nodeCount (s .rule) → (j : Point) → wantedFrom (s .rule) (countBefore s) x .0 ≤ j .0 → j .0 < countBefore s x → length (held (s .entries) x j) ≤ mostRows

@@ -10,25 +10,25 @@ use Rattle.meaning.specs.declared.Point.{Point}
 use Rattle.meaning.specs.declared.Stamp.{Stamp}
 use Rattle.method.specs.Counts.{scan, untilCount}
 
-module _ (τ : Point → Stamp) (d bound i m : ℕ) where
-  pub scan-more : i < m → {t : Stamp} {f : Bool} → t ≡ τ (point i) → f ≡ leb (t .0 + d) bound → f ≡ true → scan τ d bound i (m - i) ≡ scan τ d bound (i + 1) (m - (i + 1))
+module _ (τ : Point → Stamp) (d : ℕ) (bound : Stamp) (i m : ℕ) where
+  pub scan-more : i < m → {t : Stamp} {f : Bool} → t ≡ τ (point i) → f ≡ leb (t .0 + d) (bound .0) → f ≡ true → scan τ d bound (point i) (m - i) ≡ scan τ d bound (point (i + 1)) (m - (i + 1))
   scan-more h {t} {f} p q e =
       let s : m - i ≡ suc (m - (i + 1)) = omega arith in
-      let ends : leb (τ (point i) .0 + d) bound ≡ true = cc in
+      let ends : leb (τ (point i) .0 + d) (bound .0) ≡ true = cc in
       rw (s, ends, add-one i)
 
-  pub scan-stops : i < m → {t : Stamp} {f : Bool} → t ≡ τ (point i) → f ≡ leb (t .0 + d) bound → f ≡ false → scan τ d bound i (m - i) ≡ i
+  pub scan-stops : i < m → {t : Stamp} {f : Bool} → t ≡ τ (point i) → f ≡ leb (t .0 + d) (bound .0) → f ≡ false → scan τ d bound (point i) (m - i) ≡ point i
   scan-stops h {t} {f} p q e =
       let s : m - i ≡ suc (m - (i + 1)) = omega arith in
-      let ends : leb (τ (point i) .0 + d) bound ≡ false = cc in
+      let ends : leb (τ (point i) .0 + d) (bound .0) ≡ false = cc in
       rw (s, ends)
 
-  pub scan-ends : m ≤ i → scan τ d bound i (m - i) ≡ i
+  pub scan-ends : m ≤ i → scan τ d bound (point i) (m - i) ≡ point i
   scan-ends h =
       let s : m - i ≡ 0 = omega arith in
       rw s
 
 -- the count from the bound's point, its time stamp and the first point that is open
-pub until-same : (τ : Point → Stamp) (n d m from : ℕ) {p first : Point} {t : Stamp} → p ≡ point (cond (ltb m n) m (n - 1)) → t ≡ τ p → first ≡ point (scan τ d (t .0) from (m - from)) → first .0 ≡ untilCount τ n d m from
+pub until-same : (τ : Point → Stamp) (n d m from : ℕ) {p first : Point} {t : Stamp} → p ≡ point (cond (ltb m n) m (n - 1)) → t ≡ τ p → first ≡ scan τ d t (point from) (m - from) → first .0 ≡ untilCount τ n d m from
 unfolding untilCount
 until-same τ n d m from e f g = cc

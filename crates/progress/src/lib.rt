@@ -37,7 +37,7 @@ fn word_in(words: &[u32], k: usize) -> u32
 
 // The time stamp of point i, read off retained times of which the first is point base's.
 pub fn time_in(times: &[u32], base: Point, i: Point) -> Stamp
-    ensures { λ r. ⌜ r ≡ stampIn (base .0) (now (times .entry)) i ⌝ }
+    ensures { λ r. ⌜ r ≡ stampIn base (now (times .entry)) i ⌝ }
 {
     let k = less(i.0, base.0);
     Stamp(word_in(times, k as usize))
@@ -52,7 +52,7 @@ fn ends_by(t: Stamp, d: u32, bound: Stamp) -> bool
 
 // The first point, from `from` on and before m, whose window has not ended by the bound; where each has, the one after them.
 fn first_open(times: &[u32], base: Point, d: u32, bound: Stamp, from: Point, m: Point) -> Point
-    ensures { λ r. ⌜ r ≡ point (scan (stampIn (base .0) (now (times .entry))) d (bound .0) (from .0) (m .0 - from .0)) ⌝ }
+    ensures { λ r. ⌜ r ≡ scan (stampIn base (now (times .entry))) d bound from (m .0 - from .0) ⌝ }
 {
     let end = m.0;
     let mut i = from.0;
@@ -74,7 +74,7 @@ fn bound_at(n: u32, m: u32) -> Point
 
 // How many points until has settled, where its children have settled m of n.
 pub fn until_count(times: &[u32], base: Point, n: u32, d: u32, m: u32, from: u32) -> u32
-    ensures { λ r. ⌜ r ≡ untilCount (stampIn (base .0) (now (times .entry))) n d m from ⌝ }
+    ensures { λ r. ⌜ r ≡ untilCount (stampIn base (now (times .entry))) n d m from ⌝ }
 {
     let bound = time_in(times, base, bound_at(n, m));
     let open = first_open(times, base, d, bound, Point(from), Point(m));
@@ -104,7 +104,7 @@ fn one_more(n: u32, m: u32) -> u32
 
 // The count of a node, from its children's counts and a count that is not too high.
 pub fn advance(node: Node, times: &[u32], base: Point, n: u32, counts: &[u32], from: u32) -> u32
-    ensures { λ r. ⌜ r ≡ advance (stampIn (base .0) (now (times .entry))) n (λ y. getD (now (counts .entry)) y 0) from node ⌝ }
+    ensures { λ r. ⌜ r ≡ advance (stampIn base (now (times .entry))) n (λ y. getD (now (counts .entry)) y 0) from node ⌝ }
     ensures { λ r. ⌜ (Within n (now (counts .entry)) → from ≤ n → r ≤ n) ⌝ }
 {
     match node {
@@ -136,7 +136,7 @@ fn count_of(
     x: u8,
 ) -> u32
     requires { ⌜ (length (now rule) ≡ 12 + 20 * nodeCount (now rule)) × (x < nodeCount (now rule)) ⌝ }
-    ensures { λ r. ⌜ r ≡ advance (stampIn (base .0) (now (times .entry))) n (λ y. getD (now (below .entry)) y 0) (getD (now (from .entry)) x 0) (nodeAt (now (rule .entry)) x) ⌝ }
+    ensures { λ r. ⌜ r ≡ advance (stampIn base (now (times .entry))) n (λ y. getD (now (below .entry)) y 0) (getD (now (from .entry)) x 0) (nodeAt (now (rule .entry)) x) ⌝ }
 {
     advance(
         rulenodes::node_at(rule, x),
@@ -151,7 +151,7 @@ fn count_of(
 // The counts of every node of a rule, lowest first; words past them stay.
 pub fn counts(rule: &[u8], times: &[u32], base: Point, n: u32, from: &[u32], out: &mut [u32])
     requires { ⌜ (length (now rule) ≡ 12 + 20 * nodeCount (now rule)) × (nodeCount (now rule) ≤ length (now out)) ⌝ }
-    ensures { λ _. ⌜ Filled (now (rule .entry)) (stampIn (base .0) (now (times .entry))) n (now (from .entry)) (now (out .entry)) (now (out .exit)) ⌝ }
+    ensures { λ _. ⌜ Filled (now (rule .entry)) (stampIn base (now (times .entry))) n (now (from .entry)) (now (out .entry)) (now (out .exit)) ⌝ }
 {
     let nodes = rule[2];
     let mut x: u8 = 0;

@@ -10,8 +10,8 @@ abbrev pub setIn : List ℕ → List ℕ → ℕ → List (List ℕ)
 setIn rows at q = rowsFrom rows (getD at q 0) (getD at (q + 1) 0 - getD at q 0)
 
 -- a node's set at point j, where set `first` is the node's set at point `low`
-abbrev pub setAt : List ℕ → List ℕ → ℕ → ℕ → Point → List (List ℕ)
-setAt rows at first low j = setIn rows at (first + (j .0 - low))
+abbrev pub setAt : List ℕ → List ℕ → ℕ → Point → Point → List (List ℕ)
+setAt rows at first low j = setIn rows at (first + (j .0 - low .0))
 
 -- n sets stand in the words
 pub record Laid (rows at : List ℕ) (n : ℕ) : Type 0 where

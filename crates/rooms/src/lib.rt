@@ -29,9 +29,9 @@ fn settle_usual(
     out_values: &mut [u32],
     report: &mut [u32],
 ) -> Weighed
-    requires { ⌜ Begun (now rule) (now owners) (now numbers) (now values) count (now before) (now after) (now times) (base .0) (now event) (now lows) (now wants) (now masks) points 1 ⌝ }
+    requires { ⌜ Begun (now rule) (now owners) (now numbers) (now values) count (now before) (now after) (now times) base (now event) (now lows) (now wants) (now masks) points 1 ⌝ }
     requires { ⌜ Stands (now «out_owners») (now «out_numbers») (now «out_values») mostKept ⌝ }
-    ensures { λ r. ⌜ SettledAll (now (rule .entry)) (now (owners .entry)) (now (numbers .entry)) (now (values .entry)) count (now (before .entry)) (now (after .entry)) (now (times .entry)) (base .0) (now (event .entry)) points (now (report .entry)) (now (report .exit)) (now («out_owners» .exit)) (now («out_numbers» .exit)) (now («out_values» .exit)) r ⌝ }
+    ensures { λ r. ⌜ SettledAll (now (rule .entry)) (now (owners .entry)) (now (numbers .entry)) (now (values .entry)) count (now (before .entry)) (now (after .entry)) (now (times .entry)) base (now (event .entry)) points (now (report .entry)) (now (report .exit)) (now («out_owners» .exit)) (now («out_numbers» .exit)) (now («out_values» .exit)) r ⌝ }
 {
     let mut rows = [0u32; 6144];
     let mut at = [0u32; 2081];
@@ -91,10 +91,10 @@ fn settle_small(
     out_values: &mut [u32],
     report: &mut [u32],
 ) -> Weighed
-    requires { ⌜ Begun (now rule) (now owners) (now numbers) (now values) count (now before) (now after) (now times) (base .0) (now event) (now lows) (now wants) (now masks) points 1 ⌝ }
+    requires { ⌜ Begun (now rule) (now owners) (now numbers) (now values) count (now before) (now after) (now times) base (now event) (now lows) (now wants) (now masks) points 1 ⌝ }
     requires { ⌜ (nodeCount (now rule) ≤ 8) × (count ≤ 128) ⌝ }
     requires { ⌜ Stands (now «out_owners») (now «out_numbers») (now «out_values») mostKept ⌝ }
-    ensures { λ r. ⌜ SettledAll (now (rule .entry)) (now (owners .entry)) (now (numbers .entry)) (now (values .entry)) count (now (before .entry)) (now (after .entry)) (now (times .entry)) (base .0) (now (event .entry)) points (now (report .entry)) (now (report .exit)) (now («out_owners» .exit)) (now («out_numbers» .exit)) (now («out_values» .exit)) r ⌝ }
+    ensures { λ r. ⌜ SettledAll (now (rule .entry)) (now (owners .entry)) (now (numbers .entry)) (now (values .entry)) count (now (before .entry)) (now (after .entry)) (now (times .entry)) base (now (event .entry)) points (now (report .entry)) (now (report .exit)) (now («out_owners» .exit)) (now («out_numbers» .exit)) (now («out_values» .exit)) r ⌝ }
 {
     let mut rows = [0u32; 1536];
     let mut at = [0u32; 521];
@@ -154,9 +154,9 @@ pub fn settle_one(
     out_values: &mut [u32],
     report: &mut [u32],
 ) -> Weighed
-    requires { ⌜ Begun (now rule) (now owners) (now numbers) (now values) count (now before) (now after) (now times) (base .0) (now event) (now lows) (now wants) (now masks) points 1 ⌝ }
+    requires { ⌜ Begun (now rule) (now owners) (now numbers) (now values) count (now before) (now after) (now times) base (now event) (now lows) (now wants) (now masks) points 1 ⌝ }
     requires { ⌜ Stands (now «out_owners») (now «out_numbers») (now «out_values») mostKept ⌝ }
-    ensures { λ r. ⌜ SettledAll (now (rule .entry)) (now (owners .entry)) (now (numbers .entry)) (now (values .entry)) count (now (before .entry)) (now (after .entry)) (now (times .entry)) (base .0) (now (event .entry)) points (now (report .entry)) (now (report .exit)) (now («out_owners» .exit)) (now («out_numbers» .exit)) (now («out_values» .exit)) r ⌝ }
+    ensures { λ r. ⌜ SettledAll (now (rule .entry)) (now (owners .entry)) (now (numbers .entry)) (now (values .entry)) count (now (before .entry)) (now (after .entry)) (now (times .entry)) base (now (event .entry)) points (now (report .entry)) (now (report .exit)) (now («out_owners» .exit)) (now («out_numbers» .exit)) (now («out_values» .exit)) r ⌝ }
 {
     if closing::is_small(rule, count) {
         return settle_small(

@@ -18,17 +18,17 @@ pub min-same : (n : ℕ) → min n n ≡ n
 min-same n = omega arith
 
 -- the points before an equal number
-pub stand-as : {rows at : List ℕ} {first low i m n : ℕ} → m ≡ n → Stand rows at first low i n → Stand rows at first low i m
+pub stand-as : {rows at : List ℕ} {first : ℕ} {low i : Point} {m n : ℕ} → m ≡ n → Stand rows at first low i n → Stand rows at first low i m
 stand-as e s = rw e s
 
 module _ {rows at firsts lows : List ℕ} where
   -- a node's sets are among those laid
-  pub there-in : {n : ℕ} → Laid rows at n → (y i m : ℕ) → y < length firsts → y < length lows → getD lows y 0 ≤ i → i ≤ m → getD firsts y 0 + (m - getD lows y 0) ≤ n → There rows at firsts lows y i m
+  pub there-in : {n : ℕ} → Laid rows at n → (y : ℕ) (i : Point) (m : ℕ) → y < length firsts → y < length lows → getD lows y 0 ≤ i .0 → i .0 ≤ m → getD firsts y 0 + (m - getD lows y 0) ≤ n → There rows at firsts lows y i m
   there-in h y i m f l low o k =
-      record { in-firsts = f; in-lows = l; stand = stand-in h (getD firsts y 0) (getD lows y 0) i m low o k }
+      record { in-firsts = f; in-lows = l; stand = stand-in h (getD firsts y 0) (point (getD lows y 0)) i m low o k }
 
   -- up to a count, twice
-  pub there-twice : {y i n : ℕ} → There rows at firsts lows y i n → There rows at firsts lows y i (min n n)
+  pub there-twice : {y n : ℕ} {i : Point} → There rows at firsts lows y i n → There rows at firsts lows y i (min n n)
   there-twice {n = n} t = rw (min-same n) t
 
 -- what a test decides at point i + 1, it decides at the point after i

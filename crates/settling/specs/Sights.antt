@@ -4,6 +4,7 @@ use mathlib.Core.Path.{_≡_}
 use mathlib.Core.List.{List, map}
 use lib.ListN.{length, getD}
 use Rattle.meaning.specs.Lists.{range}
+use Rattle.meaning.specs.Log.{point, pointBefore}
 use Rattle.meaning.specs.Event.{rowCount, rowOf}
 use Rattle.meaning.specs.RuleFile.{arity}
 use Rattle.meaning.specs.declared.Point.{Point}
@@ -17,10 +18,10 @@ use Rattle.untils.specs.Until.{Stand}
 
 -- node y's set at a point, where for each node there is the number of its first set and the point of that set
 abbrev pub nodeSet : List ℕ → List ℕ → List ℕ → List ℕ → ℕ → Point → List (List ℕ)
-nodeSet rows at firsts lows y = setAt rows at (getD firsts y 0) (getD lows y 0)
+nodeSet rows at firsts lows y = setAt rows at (getD firsts y 0) (point (getD lows y 0))
 
 -- b is the rule's bytes and w the event's words
-abbrev pub sightIn : List ℕ → List ℕ → List ℕ → List ℕ → List ℕ → List ℕ → List ℕ → List ℕ → List ℕ → ℕ → Sight
+abbrev pub sightIn : List ℕ → List ℕ → List ℕ → List ℕ → List ℕ → List ℕ → List ℕ → List ℕ → List ℕ → Point → Sight
 sightIn b w rows at firsts lows masks counts times base =
     record {
       stamps = stampIn base times;
@@ -31,16 +32,16 @@ sightIn b w rows at firsts lows masks counts times base =
     }
 
 -- the node has a first set and its point, and its sets at the points from i on before m stand in the words
-pub record There (rows at firsts lows : List ℕ) (y i m : ℕ) : Type 0 where
+pub record There (rows at firsts lows : List ℕ) (y : ℕ) (i : Point) (m : ℕ) : Type 0 where
   pub in-firsts : y < length firsts
   pub in-lows : y < length lows
-  pub stand : Stand rows at (getD firsts y 0) (getD lows y 0) i m
+  pub stand : Stand rows at (getD firsts y 0) (point (getD lows y 0)) i m
 
 -- what must stand for a node of each kind at point i
-module _ (b w rows at firsts lows masks counts ages values : List ℕ) (pairs i : ℕ) where
+module _ (b w rows at firsts lows masks counts ages values : List ℕ) (pairs : ℕ) (i : Point) where
   -- node y's set at point j
-  abbrev pub setThere : ℕ → ℕ → Type 0
-  setThere y j = There rows at firsts lows y j (j + 1)
+  abbrev pub setThere : ℕ → Point → Type 0
+  setThere y j = There rows at firsts lows y j (j .0 + 1)
 
   -- the sets of both nodes at the points from i on that both have settled
   abbrev pub setsThere : ℕ → ℕ → Type 0
@@ -53,8 +54,8 @@ module _ (b w rows at firsts lows masks counts ages values : List ℕ) (pairs i 
   asked (Keep x c s) = setThere x i
   asked (Or x y) = setThere x i × setThere y i
   asked (Exists x v) = setThere x i
-  asked (Previous x v) = 0 < i → setThere x (i - 1)
-  asked (Next x v) = (i + 1 < 4294967296) × setThere x (i + 1)
+  asked (Previous x v) = 0 < i .0 → setThere x (pointBefore i)
+  asked (Next x v) = (i .0 + 1 < 4294967296) × setThere x (point (i .0 + 1))
   asked (Since x y v) = PairsThere ages values pairs
   asked (NotSince x y v) = PairsThere ages values pairs
   asked (Until x y v) = setsThere x y

@@ -13,7 +13,7 @@ ghost use Prim.Native.Nat.{_+_, _-_, _≤_, _<_, min};
 ghost use lib.ListN.{length, getD};
 ghost use lib.Dec.{ltb, eqb};
 ghost use Rattle.meaning.specs.Lists.{select};
-ghost use Rattle.meaning.specs.Log.{elapsed, pointBefore, pointAfter};
+ghost use Rattle.meaning.specs.Log.{point, elapsed, pointBefore, pointAfter};
 ghost use Rattle.meaning.specs.Formula.{inWindow, compares};
 ghost use Rattle.meaning.specs.Definition2.{value};
 ghost use Rattle.meaning.specs.Evaluator.{cutTo, valuationOf, andRows, untilRows};
@@ -35,7 +35,7 @@ pub fn set_part(at: &[u32], firsts: &[u32], lows: &[u32], y: u8, j: Point) -> Pa
 
 // The window holds what has elapsed from point j to point k.
 fn due(times: &[u32], base: Point, w: Window, j: Point, k: Point) -> bool
-    ensures { λ r. ⌜ r ≡ inWindow w (elapsed (stampIn (base .0) (now (times .entry)) j) (stampIn (base .0) (now (times .entry)) k)) ⌝ }
+    ensures { λ r. ⌜ r ≡ inWindow w (elapsed (stampIn base (now (times .entry)) j) (stampIn base (now (times .entry)) k)) ⌝ }
 {
     let start = progress::time_in(times, base, j);
     let end = progress::time_in(times, base, k);
@@ -53,7 +53,7 @@ fn copy_at(
     out: &mut [u32],
     n: usize,
 ) -> usize
-    requires { ⌜ There (now rows) (now at) (now firsts) (now lows) y (j .0) (j .0 + 1) ⌝ }
+    requires { ⌜ There (now rows) (now at) (now firsts) (now lows) y j (j .0 + 1) ⌝ }
     requires { ⌜ Room (now out) n ⌝ }
     ensures { λ k. ⌜ Added (now (out .entry)) n (now (out .exit)) k (nodeSet (now (rows .entry)) (now (at .entry)) (now (firsts .entry)) (now (lows .entry)) y j) ⌝ }
 {
@@ -72,7 +72,7 @@ fn copy_if(
     j: Point,
     out: &mut [u32],
 ) -> usize
-    requires { ⌜ There (now rows) (now at) (now firsts) (now lows) y (j .0) (j .0 + 1) ⌝ }
+    requires { ⌜ There (now rows) (now at) (now firsts) (now lows) y j (j .0 + 1) ⌝ }
     requires { ⌜ Room (now out) 0 ⌝ }
     ensures { λ k. ⌜ Added (now (out .entry)) 0 (now (out .exit)) k (cond ok (nodeSet (now (rows .entry)) (now (at .entry)) (now (firsts .entry)) (now (lows .entry)) y j) []) ⌝ }
 {
@@ -94,8 +94,8 @@ fn and_at(
     i: Point,
     out: &mut [u32],
 ) -> usize
-    requires { ⌜ There (now rows) (now at) (now firsts) (now lows) a (i .0) (i .0 + 1) ⌝ }
-    requires { ⌜ There (now rows) (now at) (now firsts) (now lows) b (i .0) (i .0 + 1) ⌝ }
+    requires { ⌜ There (now rows) (now at) (now firsts) (now lows) a i (i .0 + 1) ⌝ }
+    requires { ⌜ There (now rows) (now at) (now firsts) (now lows) b i (i .0 + 1) ⌝ }
     requires { ⌜ (a < length (now masks)) × (b < length (now masks)) ⌝ }
     requires { ⌜ Room (now out) 0 ⌝ }
     ensures { λ k. ⌜ Added (now (out .entry)) 0 (now (out .exit)) k (andRows (inMask (getD (now (masks .entry)) a 0)) (inMask (getD (now (masks .entry)) b 0)) (nodeSet (now (rows .entry)) (now (at .entry)) (now (firsts .entry)) (now (lows .entry)) a i) (nodeSet (now (rows .entry)) (now (at .entry)) (now (firsts .entry)) (now (lows .entry)) b i)) ⌝ }
@@ -119,8 +119,8 @@ fn and_not_at(
     i: Point,
     out: &mut [u32],
 ) -> usize
-    requires { ⌜ There (now rows) (now at) (now firsts) (now lows) a (i .0) (i .0 + 1) ⌝ }
-    requires { ⌜ There (now rows) (now at) (now firsts) (now lows) b (i .0) (i .0 + 1) ⌝ }
+    requires { ⌜ There (now rows) (now at) (now firsts) (now lows) a i (i .0 + 1) ⌝ }
+    requires { ⌜ There (now rows) (now at) (now firsts) (now lows) b i (i .0 + 1) ⌝ }
     requires { ⌜ b < length (now masks) ⌝ }
     requires { ⌜ Room (now out) 0 ⌝ }
     ensures { λ k. ⌜ Added (now (out .entry)) 0 (now (out .exit)) k (select (λ u. not (lookUp (cutTo (inMask (getD (now (masks .entry)) b 0)) (valuationOf u)) (nodeSet (now (rows .entry)) (now (at .entry)) (now (firsts .entry)) (now (lows .entry)) b i))) (nodeSet (now (rows .entry)) (now (at .entry)) (now (firsts .entry)) (now (lows .entry)) a i)) ⌝ }
@@ -143,7 +143,7 @@ fn keep_at(
     i: Point,
     out: &mut [u32],
 ) -> usize
-    requires { ⌜ There (now rows) (now at) (now firsts) (now lows) a (i .0) (i .0 + 1) ⌝ }
+    requires { ⌜ There (now rows) (now at) (now firsts) (now lows) a i (i .0 + 1) ⌝ }
     requires { ⌜ Room (now out) 0 ⌝ }
     ensures { λ k. ⌜ Added (now (out .entry)) 0 (now (out .exit)) k (select (λ u. compares c (value (valuationOf u) (s .first)) (value (valuationOf u) (s .second))) (nodeSet (now (rows .entry)) (now (at .entry)) (now (firsts .entry)) (now (lows .entry)) a i)) ⌝ }
 {
@@ -164,8 +164,8 @@ fn or_at(
     i: Point,
     out: &mut [u32],
 ) -> usize
-    requires { ⌜ There (now rows) (now at) (now firsts) (now lows) a (i .0) (i .0 + 1) ⌝ }
-    requires { ⌜ There (now rows) (now at) (now firsts) (now lows) b (i .0) (i .0 + 1) ⌝ }
+    requires { ⌜ There (now rows) (now at) (now firsts) (now lows) a i (i .0 + 1) ⌝ }
+    requires { ⌜ There (now rows) (now at) (now firsts) (now lows) b i (i .0 + 1) ⌝ }
     requires { ⌜ Room (now out) 0 ⌝ }
     ensures { λ k. ⌜ Added (now (out .entry)) 0 (now (out .exit)) k (nodeSet (now (rows .entry)) (now (at .entry)) (now (firsts .entry)) (now (lows .entry)) a i ++ nodeSet (now (rows .entry)) (now (at .entry)) (now (firsts .entry)) (now (lows .entry)) b i) ⌝ }
 {
@@ -184,7 +184,7 @@ fn exists_at(
     i: Point,
     out: &mut [u32],
 ) -> usize
-    requires { ⌜ There (now rows) (now at) (now firsts) (now lows) a (i .0) (i .0 + 1) ⌝ }
+    requires { ⌜ There (now rows) (now at) (now firsts) (now lows) a i (i .0 + 1) ⌝ }
     requires { ⌜ Room (now out) 0 ⌝ }
     ensures { λ k. ⌜ Added (now (out .entry)) 0 (now (out .exit)) k (map (λ u. cutTo (λ y. not (eqb y x)) (valuationOf u)) (nodeSet (now (rows .entry)) (now (at .entry)) (now (firsts .entry)) (now (lows .entry)) a i)) ⌝ }
 {
@@ -205,9 +205,9 @@ fn previous_at(
     i: Point,
     out: &mut [u32],
 ) -> usize
-    requires { ⌜ (0 < i .0 → There (now rows) (now at) (now firsts) (now lows) a (i .0 - 1) (i .0 - 1 + 1)) ⌝ }
+    requires { ⌜ (0 < i .0 → There (now rows) (now at) (now firsts) (now lows) a (pointBefore i) (i .0 - 1 + 1)) ⌝ }
     requires { ⌜ Room (now out) 0 ⌝ }
-    ensures { λ k. ⌜ Added (now (out .entry)) 0 (now (out .exit)) k (cond (ltb 0 (i .0) && inWindow w (elapsed (stampIn (base .0) (now (times .entry)) (pointBefore i)) (stampIn (base .0) (now (times .entry)) i))) (nodeSet (now (rows .entry)) (now (at .entry)) (now (firsts .entry)) (now (lows .entry)) a (pointBefore i)) []) ⌝ }
+    ensures { λ k. ⌜ Added (now (out .entry)) 0 (now (out .exit)) k (cond (ltb 0 (i .0) && inWindow w (elapsed (stampIn base (now (times .entry)) (pointBefore i)) (stampIn base (now (times .entry)) i))) (nodeSet (now (rows .entry)) (now (at .entry)) (now (firsts .entry)) (now (lows .entry)) a (pointBefore i)) []) ⌝ }
 {
     if 0 < i.0 {
         let j = Point(i.0 - 1);
@@ -230,9 +230,9 @@ fn next_at(
     i: Point,
     out: &mut [u32],
 ) -> usize
-    requires { ⌜ (i .0 + 1 < 4294967296) × There (now rows) (now at) (now firsts) (now lows) a (i .0 + 1) (i .0 + 1 + 1) ⌝ }
+    requires { ⌜ (i .0 + 1 < 4294967296) × There (now rows) (now at) (now firsts) (now lows) a (point (i .0 + 1)) (i .0 + 1 + 1) ⌝ }
     requires { ⌜ Room (now out) 0 ⌝ }
-    ensures { λ k. ⌜ Added (now (out .entry)) 0 (now (out .exit)) k (cond (inWindow w (elapsed (stampIn (base .0) (now (times .entry)) i) (stampIn (base .0) (now (times .entry)) (pointAfter i)))) (nodeSet (now (rows .entry)) (now (at .entry)) (now (firsts .entry)) (now (lows .entry)) a (pointAfter i)) []) ⌝ }
+    ensures { λ k. ⌜ Added (now (out .entry)) 0 (now (out .exit)) k (cond (inWindow w (elapsed (stampIn base (now (times .entry)) i) (stampIn base (now (times .entry)) (pointAfter i)))) (nodeSet (now (rows .entry)) (now (at .entry)) (now (firsts .entry)) (now (lows .entry)) a (pointAfter i)) []) ⌝ }
 {
     let j = Point(i.0 + 1);
     let ok = due(times, base, w, i, j);
@@ -265,11 +265,11 @@ fn until_at(
     i: Point,
     out: &mut [u32],
 ) -> usize
-    requires { ⌜ There (now rows) (now at) (now firsts) (now lows) a (i .0) (min (getD (now counts) a 0) (getD (now counts) b 0)) ⌝ }
-    requires { ⌜ There (now rows) (now at) (now firsts) (now lows) b (i .0) (min (getD (now counts) a 0) (getD (now counts) b 0)) ⌝ }
+    requires { ⌜ There (now rows) (now at) (now firsts) (now lows) a i (min (getD (now counts) a 0) (getD (now counts) b 0)) ⌝ }
+    requires { ⌜ There (now rows) (now at) (now firsts) (now lows) b i (min (getD (now counts) a 0) (getD (now counts) b 0)) ⌝ }
     requires { ⌜ (a < length (now masks)) × (a < length (now counts)) × (b < length (now counts)) ⌝ }
     requires { ⌜ Room (now out) 0 ⌝ }
-    ensures { λ k. ⌜ Added (now (out .entry)) 0 (now (out .exit)) k (untilRows (stampIn (base .0) (now (times .entry))) (min (getD (now (counts .entry)) a 0) (getD (now (counts .entry)) b 0)) w (leftTest left (getD (now (masks .entry)) a 0) (nodeSet (now (rows .entry)) (now (at .entry)) (now (firsts .entry)) (now (lows .entry)) a)) (nodeSet (now (rows .entry)) (now (at .entry)) (now (firsts .entry)) (now (lows .entry)) b) i) ⌝ }
+    ensures { λ k. ⌜ Added (now (out .entry)) 0 (now (out .exit)) k (untilRows (stampIn base (now (times .entry))) (min (getD (now (counts .entry)) a 0) (getD (now (counts .entry)) b 0)) w (leftTest left (getD (now (masks .entry)) a 0) (nodeSet (now (rows .entry)) (now (at .entry)) (now (firsts .entry)) (now (lows .entry)) a)) (nodeSet (now (rows .entry)) (now (at .entry)) (now (firsts .entry)) (now (lows .entry)) b) i) ⌝ }
 {
     let mask = masks[a as usize];
     let fa = firsts[a as usize] as usize;
@@ -311,10 +311,10 @@ fn eventually_at(
     i: Point,
     out: &mut [u32],
 ) -> usize
-    requires { ⌜ There (now rows) (now at) (now firsts) (now lows) a (i .0) (getD (now counts) a 0) ⌝ }
+    requires { ⌜ There (now rows) (now at) (now firsts) (now lows) a i (getD (now counts) a 0) ⌝ }
     requires { ⌜ (a < length (now masks)) × (a < length (now counts)) ⌝ }
     requires { ⌜ Room (now out) 0 ⌝ }
-    ensures { λ k. ⌜ Added (now (out .entry)) 0 (now (out .exit)) k (untilRows (stampIn (base .0) (now (times .entry))) (getD (now (counts .entry)) a 0) w (λ u k. true) (nodeSet (now (rows .entry)) (now (at .entry)) (now (firsts .entry)) (now (lows .entry)) a) i) ⌝ }
+    ensures { λ k. ⌜ Added (now (out .entry)) 0 (now (out .exit)) k (untilRows (stampIn base (now (times .entry))) (getD (now (counts .entry)) a 0) w (λ u k. true) (nodeSet (now (rows .entry)) (now (at .entry)) (now (firsts .entry)) (now (lows .entry)) a) i) ⌝ }
 {
     until_at(
         Left::Always,
@@ -353,9 +353,9 @@ pub fn settle_point(
     i: Point,
     out: &mut [u32],
 ) -> usize
-    requires { ⌜ asked (now rule) (now event) (now rows) (now at) (now firsts) (now lows) (now masks) (now counts) (now ages) (now values) pairs (i .0) node ⌝ }
+    requires { ⌜ asked (now rule) (now event) (now rows) (now at) (now firsts) (now lows) (now masks) (now counts) (now ages) (now values) pairs i node ⌝ }
     requires { ⌜ Room (now out) 0 ⌝ }
-    ensures { λ k. ⌜ Added (now (out .entry)) 0 (now (out .exit)) k (candidates (sightIn (now (rule .entry)) (now (event .entry)) (now (rows .entry)) (now (at .entry)) (now (firsts .entry)) (now (lows .entry)) (now (masks .entry)) (now (counts .entry)) (now (times .entry)) (base .0)) (pairsFrom (now (ages .entry)) (now (values .entry)) 0 pairs) i node) ⌝ }
+    ensures { λ k. ⌜ Added (now (out .entry)) 0 (now (out .exit)) k (candidates (sightIn (now (rule .entry)) (now (event .entry)) (now (rows .entry)) (now (at .entry)) (now (firsts .entry)) (now (lows .entry)) (now (masks .entry)) (now (counts .entry)) (now (times .entry)) base) (pairsFrom (now (ages .entry)) (now (values .entry)) 0 pairs) i node) ⌝ }
 {
     match node {
         Node::Atom(r, ts) => kinds::atom(r as u32, ts, event, out, 0),

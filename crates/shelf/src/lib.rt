@@ -1,4 +1,5 @@
 // Kept entries read into the sets of a call, and sets written back as entries.
+use meaning::Point;
 use rowset::Row;
 ghost use mathlib.Core.Path.{_≡_};
 ghost use mathlib.Core.List.{[], _∷_, map};
@@ -10,28 +11,28 @@ ghost use Rattle.shelf.specs.Entries.{ownedBy, pairEntries, isOf, runOf,
 ghost use Rattle.meaning.specs.Outcome.{mostKept};
 ghost use Rattle.shelf.specs.Appended.{WordsPut, Copied, Space, Pushed};
 
-// Entry k has that owner and number.
-fn is_of(owners: &[u32], numbers: &[u32], k: usize, owner: u32, number: u32) -> bool
+// Entry k has that owner, and that point's number.
+fn is_of(owners: &[u32], numbers: &[u32], k: usize, owner: u32, number: Point) -> bool
     requires { ⌜ (k < length (now owners)) × (k < length (now numbers)) ⌝ }
-    ensures { λ t. ⌜ t ≡ isOf (now (owners .entry)) (now (numbers .entry)) owner number k ⌝ }
+    ensures { λ t. ⌜ t ≡ isOf (now (owners .entry)) (now (numbers .entry)) owner (number .0) k ⌝ }
 {
     if owners[k] == owner {
-        return numbers[k] == number;
+        return numbers[k] == number.0;
     }
     false
 }
 
-// The entry behind the run at the cursor.
+// The entry behind the run at the cursor, of an owner's entries at a point.
 pub fn run_end(
     owners: &[u32],
     numbers: &[u32],
     cursor: usize,
     count: usize,
     owner: u32,
-    number: u32,
+    number: Point,
 ) -> usize
     requires { ⌜ (count ≤ length (now owners)) × (count ≤ length (now numbers)) ⌝ }
-    ensures { λ r. ⌜ r ≡ cursor + runOf (now (owners .entry)) (now (numbers .entry)) cursor count owner number ⌝ }
+    ensures { λ r. ⌜ r ≡ cursor + runOf (now (owners .entry)) (now (numbers .entry)) cursor count owner (number .0) ⌝ }
 {
     let mut i = cursor;
     while i < count {
@@ -91,14 +92,14 @@ pub fn load(
     cursor: usize,
     count: usize,
     owner: u32,
-    number: u32,
+    number: Point,
     rows: &mut [u32],
     at: &mut [u32],
     n: usize,
 ) -> usize
-    requires { ⌜ (cursor ≤ count) × Stands (now owners) (now numbers) (now values) count × Space (now rows) (now at) n (runOf (now owners) (now numbers) cursor count owner number) ⌝ }
-    ensures next { λ r. ⌜ r ≡ cursor + runOf (now (owners .entry)) (now (numbers .entry)) cursor count owner number ⌝ }
-    ensures pushed { λ _. ⌜ Pushed (now (rows .entry)) (now (at .entry)) (now (rows .exit)) (now (at .exit)) n (runOf (now (owners .entry)) (now (numbers .entry)) cursor count owner number) (rowsFrom (now (values .entry)) cursor (runOf (now (owners .entry)) (now (numbers .entry)) cursor count owner number)) ⌝ }
+    requires { ⌜ (cursor ≤ count) × Stands (now owners) (now numbers) (now values) count × Space (now rows) (now at) n (runOf (now owners) (now numbers) cursor count owner (number .0)) ⌝ }
+    ensures next { λ r. ⌜ r ≡ cursor + runOf (now (owners .entry)) (now (numbers .entry)) cursor count owner (number .0) ⌝ }
+    ensures pushed { λ _. ⌜ Pushed (now (rows .entry)) (now (at .entry)) (now (rows .exit)) (now (at .exit)) n (runOf (now (owners .entry)) (now (numbers .entry)) cursor count owner (number .0)) (rowsFrom (now (values .entry)) cursor (runOf (now (owners .entry)) (now (numbers .entry)) cursor count owner (number .0))) ⌝ }
 {
     let next = run_end(owners, numbers, cursor, count, owner, number);
     push(values, cursor, next, rows, at, n);
@@ -112,15 +113,15 @@ fn put_entry(
     values: &mut [u32],
     k: usize,
     owner: u32,
-    number: u32,
+    number: Point,
     row: Row,
 )
     requires { ⌜ Stands (now owners) (now numbers) (now values) mostKept ⌝ }
-    ensures { λ _. ⌜ Packed (now (owners .entry)) (now (numbers .entry)) (now (values .entry)) k (now (owners .exit)) (now (numbers .exit)) (now (values .exit)) (k + 1) (ownedBy owner number (wordsOf row) ∷ []) ⌝ }
+    ensures { λ _. ⌜ Packed (now (owners .entry)) (now (numbers .entry)) (now (values .entry)) k (now (owners .exit)) (now (numbers .exit)) (now (values .exit)) (k + 1) (ownedBy owner (number .0) (wordsOf row) ∷ []) ⌝ }
 {
     if k < 512 {
         owners[k] = owner;
-        numbers[k] = number;
+        numbers[k] = number.0;
         rowset::put_row(values, k, row);
     }
 }
@@ -131,7 +132,7 @@ pub fn pack(
     from: usize,
     to: usize,
     owner: u32,
-    number: u32,
+    number: Point,
     owners: &mut [u32],
     numbers: &mut [u32],
     values: &mut [u32],
@@ -139,7 +140,7 @@ pub fn pack(
 ) -> usize
     requires { ⌜ Run (now rows) from to × Stands (now owners) (now numbers) (now values) mostKept × (kept < 4294967296) ⌝ }
     ensures count { λ r. ⌜ r ≡ kept + (to - from) ⌝ }
-    ensures packed { λ r. ⌜ Packed (now (owners .entry)) (now (numbers .entry)) (now (values .entry)) kept (now (owners .exit)) (now (numbers .exit)) (now (values .exit)) r (map (ownedBy owner number) (rowsFrom (now (rows .entry)) from (to - from))) ⌝ }
+    ensures packed { λ r. ⌜ Packed (now (owners .entry)) (now (numbers .entry)) (now (values .entry)) kept (now (owners .exit)) (now (numbers .exit)) (now (values .exit)) r (map (ownedBy owner (number .0)) (rowsFrom (now (rows .entry)) from (to - from))) ⌝ }
 {
     let mut k = kept;
     let mut i = from;

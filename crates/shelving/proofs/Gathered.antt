@@ -7,7 +7,7 @@ use native.Mathlib.Omega.{arith}
 use lib.Dec.{eqb}
 use borrow.Author.Tests.{ne-eqb}
 use Rattle.meaning.specs.Lists.{gather}
-use Rattle.meaning.specs.Log.{point, pointsFrom}
+use Rattle.meaning.specs.Log.{point, pointAfter, pointsFrom}
 use Rattle.meaning.specs.Kept.{Entry, entryOf}
 use Rattle.meaning.specs.declared.Point.{Point}
 use Rattle.meaning.proofs.Lists.{gather-append}
@@ -17,34 +17,35 @@ use Rattle.shelving.specs.Shelved.{setEntries}
 
 module _ (x : ℕ) (S : Point → List (List ℕ)) where
   -- one point more behind the others
-  pub sets-more : (a m : ℕ) → setEntries x S a (m + 1) ≡ setEntries x S a m ++ map (entryOf x 0 (a + m)) (S (point (a + m)))
+  pub sets-more : (a : Point) (m : ℕ) → setEntries x S a (m + 1) ≡ setEntries x S a m ++ map (entryOf x 0 (a .0 + m)) (S (point (a .0 + m)))
   sets-more a m =
       let f : Point → List Entry = λ j. map (entryOf x 0 (j .0)) (S j) in
-      ap (gather f) (pointsFrom-append a m 1) ∙ gather-append f (pointsFrom a m) (pointsFrom (a + m) 1) ∙ ap (λ es. setEntries x S a m ++ es) (append-nil (f (point (a + m))))
+      ap (gather f) (pointsFrom-append (a .0) m 1) ∙ gather-append f (pointsFrom (a .0) m) (pointsFrom (a .0 + m) 1) ∙ ap (λ es. setEntries x S a m ++ es) (append-nil (f (point (a .0 + m))))
 
   module _ (rest : List Entry) where
     -- the first point apart from the others
-    pub sets-first : (a k n : ℕ) → k < n → setEntries x S (a + k) (n - k) ++ rest ≡ map (entryOf x 0 (a + k)) (S (point (a + k))) ++ (setEntries x S (a + (k + 1)) (n - (k + 1)) ++ rest)
+    pub sets-first : (a : Point) (k n : ℕ) → k < n
+        → setEntries x S (point (a .0 + k)) (n - k) ++ rest ≡ map (entryOf x 0 (a .0 + k)) (S (point (a .0 + k))) ++ (setEntries x S (point (a .0 + (k + 1))) (n - (k + 1)) ++ rest)
     sets-first a k n l =
         let e : n - k ≡ suc (n - (k + 1)) = omega arith in
-        let f : suc (a + k) ≡ a + (k + 1) = omega arith in
-        ap (λ m. setEntries x S (a + k) m ++ rest) e ∙ append-assoc (map (entryOf x 0 (a + k)) (S (point (a + k)))) (setEntries x S (suc (a + k)) (n - (k + 1))) rest
-        ∙ ap (λ b. map (entryOf x 0 (a + k)) (S (point (a + k))) ++ (setEntries x S b (n - (k + 1)) ++ rest)) f
+        let f : suc (a .0 + k) ≡ a .0 + (k + 1) = omega arith in
+        ap (λ m. setEntries x S (point (a .0 + k)) m ++ rest) e ∙ append-assoc (map (entryOf x 0 (a .0 + k)) (S (point (a .0 + k)))) (setEntries x S (point (suc (a .0 + k))) (n - (k + 1))) rest
+        ∙ ap (λ b. map (entryOf x 0 (a .0 + k)) (S (point (a .0 + k))) ++ (setEntries x S (point b) (n - (k + 1)) ++ rest)) f
 
     -- later points, and then a rest of other owners, don't begin with an entry of an earlier point
-    pub sets-later : begins (hasOwner x 0) rest ≡ false → (number a m : ℕ) → number < a → begins (isEntry x 0 number) (setEntries x S a m ++ rest) ≡ false
-    sets-later b number a zero l = go rest b
+    pub sets-later : begins (hasOwner x 0) rest ≡ false → (i a : Point) (m : ℕ) → i .0 < a .0 → begins (isEntry x 0 (i .0)) (setEntries x S a m ++ rest) ≡ false
+    sets-later b i a zero l = go rest b
       where
-        go : (es : List Entry) → begins (hasOwner x 0) es ≡ false → begins (isEntry x 0 number) es ≡ false
+        go : (es : List Entry) → begins (hasOwner x 0) es ≡ false → begins (isEntry x 0 (i .0)) es ≡ false
         go [] h = refl
-        go (e ∷ es) h = ap (λ t. t && eqb (e .number) number) h
-    sets-later b number a (suc m) l = go (S (point a)) (sets-later b number (suc a) m (omega arith))
+        go (e ∷ es) h = ap (λ t. t && eqb (e .number) (i .0)) h
+    sets-later b i a (suc m) l = go (S a) (sets-later b i (pointAfter a) m (omega arith))
       where
-        other : (t : Bool) → (t && eqb a number) ≡ false
-        other true = ne-eqb a number (omega arith)
+        other : (t : Bool) → (t && eqb (a .0) (i .0)) ≡ false
+        other true = ne-eqb (a .0) (i .0) (omega arith)
         other false = refl
 
-        go : (rows : List (List ℕ)) → begins (isEntry x 0 number) (setEntries x S (suc a) m ++ rest) ≡ false
-            → begins (isEntry x 0 number) ((map (entryOf x 0 a) rows ++ setEntries x S (suc a) m) ++ rest) ≡ false
+        go : (rows : List (List ℕ)) → begins (isEntry x 0 (i .0)) (setEntries x S (pointAfter a) m ++ rest) ≡ false
+            → begins (isEntry x 0 (i .0)) ((map (entryOf x 0 (a .0)) rows ++ setEntries x S (pointAfter a) m) ++ rest) ≡ false
         go [] h = h
         go (r ∷ rows) h = other (eqb x x && eqb 0 0)

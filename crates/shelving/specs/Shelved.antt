@@ -15,8 +15,8 @@ use Rattle.shelf.specs.Entries.{entriesFrom, begins, hasOwner}
 use Rattle.shelf.specs.Appended.{Extended}
 
 -- the entries of node x at n points from low on, where S gives the sets
-abbrev pub setEntries : ℕ → (Point → List (List ℕ)) → ℕ → ℕ → List Entry
-setEntries x S low n = gather (λ j. map (entryOf x 0 (j .0)) (S j)) (pointsFrom low n)
+abbrev pub setEntries : ℕ → (Point → List (List ℕ)) → Point → ℕ → List Entry
+setEntries x S low n = gather (λ j. map (entryOf x 0 (j .0)) (S j)) (pointsFrom (low .0) n)
 
 -- the entries of node x's pairs, each its age and then its row
 abbrev pub agedEntries : ℕ → List (List ℕ) → List Entry
@@ -37,10 +37,10 @@ pub record Taken (cursor count : ℕ) (rows at rows' at' : List ℕ) (sets n cur
   pub more : Extended rows at rows' at' sets n (λ k. setIn rows' at' (sets + k))
 
 -- where the entries at cursor begin with those of node x at n points from low on, these sets stand behind the others, and cursor' is at the rest
-pub record Loaded (os ns vs : List ℕ) (cursor count x low n : ℕ) (rows at rows' at' : List ℕ) (sets cursor' : ℕ) : Type 0 where
+pub record Loaded (os ns vs : List ℕ) (cursor count x : ℕ) (low : Point) (n : ℕ) (rows at rows' at' : List ℕ) (sets cursor' : ℕ) : Type 0 where
   pub taken : Taken cursor count rows at rows' at' sets n cursor'
   pub read : (S : Point → List (List ℕ)) (rest : List Entry) → entriesFrom os ns vs cursor (count - cursor) ≡ setEntries x S low n ++ rest → begins (hasOwner x 0) rest ≡ false
-      → Extended rows at rows' at' sets n (λ k. S (point (low + k))) × (entriesFrom os ns vs cursor' (count - cursor') ≡ rest)
+      → Extended rows at rows' at' sets n (λ k. S (point (low .0 + k))) × (entriesFrom os ns vs cursor' (count - cursor') ≡ rest)
 
 -- where the entries at cursor begin with those of node x's pairs, these stand from cursor to r, and r is at the rest; whatever numbers and values stand beside the owners
 pub record PairsEnd (os : List ℕ) (cursor count x r : ℕ) : Type 0 where
@@ -50,12 +50,12 @@ pub record PairsEnd (os : List ℕ) (cursor count x r : ℕ) : Type 0 where
       → (pairsFrom ns vs cursor (r - cursor) ≡ pairs) × (entriesFrom os ns vs r (count - r) ≡ rest)
 
 -- a node's sets stand from point low on, set `first` and those behind it; how many rows those at n points from `from` on have
-abbrev pub rowsBetween : List ℕ → ℕ → ℕ → ℕ → ℕ → ℕ
-rowsBetween at first low from n = getD at (first + (from + n - low)) 0 - getD at (first + (from - low)) 0
+abbrev pub rowsBetween : List ℕ → ℕ → Point → Point → ℕ → ℕ
+rowsBetween at first low from n = getD at (first + (from .0 + n - low .0)) 0 - getD at (first + (from .0 - low .0)) 0
 
 -- those sets are there, and can be counted on from kept
-pub record Packable (rows at : List ℕ) (first low from n kept : ℕ) : Type 0 where
-  pub begun : low ≤ from
-  pub laid : Laid rows at (first + (from + n - low))
-  pub points : from + n < 4294967296
+pub record Packable (rows at : List ℕ) (first : ℕ) (low from : Point) (n kept : ℕ) : Type 0 where
+  pub begun : low .0 ≤ from .0
+  pub laid : Laid rows at (first + (from .0 + n - low .0))
+  pub points : from .0 + n < 4294967296
   pub small : kept + rowsBetween at first low from n < 4294967296

@@ -27,12 +27,12 @@ pub fn load_sets(
     sets: usize,
 ) -> usize
     requires { ⌜ (cursor ≤ count) × Stands (now owners) (now numbers) (now values) count × Spaces (now rows) (now at) sets n (count - cursor) × (x < 2147483648) × (low .0 + n < 4294967296) ⌝ }
-    ensures { λ r. ⌜ Loaded (now (owners .entry)) (now (numbers .entry)) (now (values .entry)) cursor count x (low .0) n (now (rows .entry)) (now (at .entry)) (now (rows .exit)) (now (at .exit)) sets r ⌝ }
+    ensures { λ r. ⌜ Loaded (now (owners .entry)) (now (numbers .entry)) (now (values .entry)) cursor count x low n (now (rows .entry)) (now (at .entry)) (now (rows .exit)) (now (at .exit)) sets r ⌝ }
 {
     let mut next = cursor;
     let mut k = 0;
     while k < n {
-        let number = low.0 + k as u32;
+        let i = Point(low.0 + k as u32);
         next = shelf::load(
             owners,
             numbers,
@@ -40,7 +40,7 @@ pub fn load_sets(
             next,
             count,
             x * 2,
-            number,
+            i,
             rows,
             at,
             sets + k,
@@ -58,13 +58,13 @@ pub fn pairs_end(owners: &[u32], cursor: usize, count: usize, x: u32) -> usize
     shelf::pair_run_end(owners, cursor, count, x * 2 + 1)
 }
 
-// Appends an entry of the node for each row of set q; the number of entries then.
+// Appends an entry of the node at point i for each row of set q; the number of entries then.
 fn pack_set(
     rows: &[u32],
     at: &[u32],
     q: usize,
     x: u32,
-    number: u32,
+    i: Point,
     owners: &mut [u32],
     numbers: &mut [u32],
     values: &mut [u32],
@@ -72,11 +72,11 @@ fn pack_set(
 ) -> usize
     requires { ⌜ (q + 1 < length (now at)) × Run (now rows) (getD (now at) q 0) (getD (now at) (q + 1) 0) × Stands (now owners) (now numbers) (now values) mostKept × (kept < 4294967296) × (x < 2147483648) ⌝ }
     ensures count { λ r. ⌜ r ≡ kept + (getD (now (at .entry)) (q + 1) 0 - getD (now (at .entry)) q 0) ⌝ }
-    ensures packed { λ r. ⌜ Packed (now (owners .entry)) (now (numbers .entry)) (now (values .entry)) kept (now (owners .exit)) (now (numbers .exit)) (now (values .exit)) r (map (entryOf x 0 number) (setIn (now (rows .entry)) (now (at .entry)) q)) ⌝ }
+    ensures packed { λ r. ⌜ Packed (now (owners .entry)) (now (numbers .entry)) (now (values .entry)) kept (now (owners .exit)) (now (numbers .exit)) (now (values .exit)) r (map (entryOf x 0 (i .0)) (setIn (now (rows .entry)) (now (at .entry)) q)) ⌝ }
 {
     let from = at[q] as usize;
     let to = at[q + 1] as usize;
-    shelf::pack(rows, from, to, x * 2, number, owners, numbers, values, kept)
+    shelf::pack(rows, from, to, x * 2, i, owners, numbers, values, kept)
 }
 
 // The same for the node's sets at n points from `from` on, where set `first` is the one at point low.
@@ -93,16 +93,16 @@ pub fn pack_sets(
     values: &mut [u32],
     kept: usize,
 ) -> usize
-    requires { ⌜ Packable (now rows) (now at) first (low .0) (from .0) n kept × Stands (now owners) (now numbers) (now values) mostKept × (x < 2147483648) ⌝ }
-    ensures count { λ r. ⌜ r ≡ kept + rowsBetween (now (at .entry)) first (low .0) (from .0) n ⌝ }
-    ensures packed { λ r. ⌜ Packed (now (owners .entry)) (now (numbers .entry)) (now (values .entry)) kept (now (owners .exit)) (now (numbers .exit)) (now (values .exit)) r (setEntries x (setAt (now (rows .entry)) (now (at .entry)) first (low .0)) (from .0) n) ⌝ }
+    requires { ⌜ Packable (now rows) (now at) first low from n kept × Stands (now owners) (now numbers) (now values) mostKept × (x < 2147483648) ⌝ }
+    ensures count { λ r. ⌜ r ≡ kept + rowsBetween (now (at .entry)) first low from n ⌝ }
+    ensures packed { λ r. ⌜ Packed (now (owners .entry)) (now (numbers .entry)) (now (values .entry)) kept (now (owners .exit)) (now (numbers .exit)) (now (values .exit)) r (setEntries x (setAt (now (rows .entry)) (now (at .entry)) first low) from n) ⌝ }
 {
     let mut k = kept;
     let mut i = 0;
     while i < n {
-        let number = from.0 + i as u32;
-        let q = first + (number - low.0) as usize;
-        k = pack_set(rows, at, q, x, number, owners, numbers, values, k);
+        let j = Point(from.0 + i as u32);
+        let q = first + (j.0 - low.0) as usize;
+        k = pack_set(rows, at, q, x, j, owners, numbers, values, k);
         i += 1;
     }
     k
@@ -125,9 +125,9 @@ pub fn pack_node(
     values: &mut [u32],
     kept: usize,
 ) -> usize
-    requires { ⌜ Packable (now rows) (now at) first (low .0) (from .0) n kept × (pairs ≤ length (now ages)) × (pairs * 4 ≤ length (now paired)) × Stands (now owners) (now numbers) (now values) mostKept × (x < 2147483648) ⌝ }
-    ensures count { λ r. ⌜ r ≡ kept + rowsBetween (now (at .entry)) first (low .0) (from .0) n + pairs ⌝ }
-    ensures packed { λ r. ⌜ Packed (now (owners .entry)) (now (numbers .entry)) (now (values .entry)) kept (now (owners .exit)) (now (numbers .exit)) (now (values .exit)) r (setEntries x (setAt (now (rows .entry)) (now (at .entry)) first (low .0)) (from .0) n ++ agedEntries x (pairsFrom (now (ages .entry)) (now (paired .entry)) 0 pairs)) ⌝ }
+    requires { ⌜ Packable (now rows) (now at) first low from n kept × (pairs ≤ length (now ages)) × (pairs * 4 ≤ length (now paired)) × Stands (now owners) (now numbers) (now values) mostKept × (x < 2147483648) ⌝ }
+    ensures count { λ r. ⌜ r ≡ kept + rowsBetween (now (at .entry)) first low from n + pairs ⌝ }
+    ensures packed { λ r. ⌜ Packed (now (owners .entry)) (now (numbers .entry)) (now (values .entry)) kept (now (owners .exit)) (now (numbers .exit)) (now (values .exit)) r (setEntries x (setAt (now (rows .entry)) (now (at .entry)) first low) from n ++ agedEntries x (pairsFrom (now (ages .entry)) (now (paired .entry)) 0 pairs)) ⌝ }
 {
     let k = pack_sets(
         rows,

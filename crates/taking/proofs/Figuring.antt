@@ -5,11 +5,13 @@ use mathlib.Core.Path.{_≡_, refl, sym, _∙_, ap, ap₂}
 use mathlib.Core.List.{List, [], _∷_, _++_}
 use lib.ListN.{length, getD, take, drop}
 use lib.Seq.{length-take-le, take-all, take-take}
+use Rattle.meaning.specs.Log.{point}
 use Rattle.meaning.specs.Lists.{range, gather}
 use Rattle.meaning.specs.Outcome.{mostPoints}
 use Rattle.meaning.specs.RuleFile.{nodeCount, lastNode}
 use Rattle.meaning.specs.Kept.{Entry}
 use Rattle.meaning.specs.Keeper.{weighed, bufferAfter}
+use Rattle.meaning.specs.declared.Point.{Point}
 use Rattle.meaning.proofs.Accepted.{nodes-most}
 use Rattle.method.specs.Stored.{Stored, baseOf, firstRetained}
 use Rattle.method.specs.Step.{countsStored, countBefore, stampsNow, countsAfter, countAfter, turn, entriesNow, storedNow, crowdedNow, reportNow}
@@ -105,15 +107,16 @@ module _ (b : List ℕ) (points : ℕ) (times os ns vs : List ℕ) (count : ℕ)
         }
 
     -- the same, as the figures stand in slices
-    pub begun : {lows wants masks before : List ℕ} (stamps after : List ℕ) {most base : ℕ} (m n : ℕ) → Stands os ns vs count → Known s masks before lows → length before ≡ nodeCount b → Figured s w stamps after wants
+    pub begun : {lows wants masks before : List ℕ} (stamps after : List ℕ) {most : ℕ} {base : Point} (m n : ℕ) → Stands os ns vs count → Known s masks before lows → length before ≡ nodeCount b → Figured s w stamps after wants
         → MostNew before (take n after) (length before) most → 32 ≤ length lows → 32 ≤ length wants → 32 ≤ length masks → EventThere w → points < mostPoints
-        → base ≡ points - length times → m ≡ length times + 1 → n ≡ nodeCount b
+        → base .0 ≡ points - length times → m ≡ length times + 1 → n ≡ nodeCount b
         → Begun b os ns vs count before (take n after) (take m stamps) base w lows wants masks (points + 1) most
-    begun {before = before} stamps after m n t k c g q l u h e o z y x =
+    begun {before = before} stamps after {base = base} m n t k c g q l u h e o z y x =
         let eb : before ≡ countsStored s = sym (take-all (nodeCount b) before (omega arith)) ∙ k .counts-stored in
         let ea : take n after ≡ countsAfter s w = ap (λ i. take i after) x ∙ g .counts-now in
         let et : take m stamps ≡ times ++ getD w 0 0 ∷ [] = ap (λ i. take i stamps) y ∙ g .times-now in
-        rw (ea, et, z, eb) (begun-now t (rw eb at k) g (rw (c, ea, eb) at q) l u h e o)
+        let ez : base ≡ baseOf s = ap point z in
+        rw (ea, et, ez, eb) (begun-now t (rw eb at k) g (rw (c, ea, eb) at q) l u h e o)
 
     -- no node settles more than 65 points at once
     pub few-new : {masks lows wants before : List ℕ} (stamps after : List ℕ) (n : ℕ) → Known s masks before lows → length before ≡ nodeCount b → Figured s w stamps after wants → n ≡ nodeCount b
@@ -158,20 +161,21 @@ module _ (b : List ℕ) (points : ℕ) (times os ns vs : List ℕ) (count : ℕ)
           written = a .written ∙ ap₂ (λ out ws. bufferAfter out ws buffer) (sym (h .outcome)) report-is;
           stored = λ words retained kept d.
               let p = h .done words retained kept d in
-              ap₂ next (p .1 ∙ ap (drop (firstRetained (points + 1) (countsAfter s w) - baseOf s)) et) (a .kept words kept (p .0) .0 ∙ entries-are);
+              ap₂ next (p .1 ∙ ap (drop (firstRetained (points + 1) (countsAfter s w) .0 - baseOf s .0)) et) (a .kept words kept (p .0) .0 ∙ entries-are);
           few = λ words retained kept d.
               let p = h .done words retained kept d in
               (omega (arith, p .2, f .few-times), a .kept words kept (p .0) .1, o);
         }
 
     -- the same, as the figures stand in slices
-    pub taken-now : {masks lows wants before : List ℕ} (stamps after : List ℕ) {buffer buffer' stamps' os' ns' vs' : List ℕ} {base : ℕ} (k m n : ℕ) {r : Weighed} {t : Taken}
-        → Known s masks before lows → length before ≡ nodeCount b → Figured s w stamps after wants → points < mostPoints → base ≡ points - length times → k ≡ length times + 1 → m ≡ k → n ≡ nodeCount b
+    pub taken-now : {masks lows wants before : List ℕ} (stamps after : List ℕ) {buffer buffer' stamps' os' ns' vs' : List ℕ} {base : Point} (k m n : ℕ) {r : Weighed} {t : Taken}
+        → Known s masks before lows → length before ≡ nodeCount b → Figured s w stamps after wants → points < mostPoints → base .0 ≡ points - length times → k ≡ length times + 1 → m ≡ k → n ≡ nodeCount b
         → SettledAll b os ns vs count before (take n after) (take m stamps) base w (points + 1) buffer buffer' os' ns' vs' r
         → Finishes (points + 1) base k (take n after) stamps stamps' r t → TakesIn s w buffer buffer' stamps' os' ns' vs' (weighedNow s w (length buffer)) t
-    taken-now {before = before} stamps after k m n kn c g o z y q x a h =
+    taken-now {before = before} stamps after {base = base} k m n kn c g o z y q x a h =
         let eb : before ≡ countsStored s = sym (take-all (nodeCount b) before (omega arith)) ∙ kn .counts-stored in
         let ea : take n after ≡ countsAfter s w = ap (λ i. take i after) x ∙ g .counts-now in
         let ek : take k stamps ≡ times ++ getD w 0 0 ∷ [] = ap (λ i. take i stamps) y ∙ g .times-now in
         let em : take m stamps ≡ times ++ getD w 0 0 ∷ [] = ap (λ i. take i stamps) q ∙ ek in
-        taken-so ek y o (rw (eb, ea, em, z) at a) (rw (ea, z) at h)
+        let ez : base ≡ baseOf s = ap point z in
+        taken-so ek y o (rw (eb, ea, em, ez) at a) (rw (ea, ez) at h)

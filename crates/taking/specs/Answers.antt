@@ -7,6 +7,7 @@ use lib.ListN.{length, take, drop}
 use Rattle.meaning.specs.Outcome.{Outcome, refused, given, notWellFormed, mostKept, mostPoints}
 use Rattle.meaning.specs.RuleFile.{nodeCount, lastNode}
 use Rattle.meaning.specs.Keeper.{weighed, bufferAfter}
+use Rattle.meaning.specs.declared.Point.{Point}
 use Rattle.method.specs.Stored.{Stored, firstRetained}
 use Rattle.method.specs.Step.{countAfter, storedNow, crowdedNow, reportNow, answerNow}
 use Rattle.method.specs.WellFormed.{wellFormed}
@@ -31,9 +32,9 @@ weighedNow s w room =
     weighed (crowdedNow s w) (nodeCount (s .rule)) (s .points + 1 - countAfter s w (lastNode (s .rule))) (length (storedNow s w .entries)) (length (reportNow s w)) room
 
 -- once 13 to 16 are weighed: the times from the first that is retained on, of k times of which the first is point base's
-pub record Finishes (points base k : ℕ) (after stamps stamps' : List ℕ) (w : Weighed) (r : Taken) : Type 0 where
+pub record Finishes (points : ℕ) (base : Point) (k : ℕ) (after stamps stamps' : List ℕ) (w : Weighed) (r : Taken) : Type 0 where
   pub outcome : takenOf r ≡ weighedOf w
-  pub done : (words retained kept : ℕ) → r ≡ Done words retained kept → (w ≡ Written words kept) × (take retained stamps' ≡ drop (firstRetained points after - base) (take k stamps)) × (retained ≤ k)
+  pub done : (words retained kept : ℕ) → r ≡ Done words retained kept → (w ≡ Written words kept) × (take retained stamps' ≡ drop (firstRetained points after .0 - base .0) (take k stamps)) × (retained ≤ k)
 
 -- What a taking over slices leaves: the answer, the buffer, and where nothing is refused what is then stored.
 pub record TakesIn (s : Stored) (w buffer buffer' times' os' ns' vs' : List ℕ) (answer : Outcome ℕ) (r : Taken) : Type 0 where

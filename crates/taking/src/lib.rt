@@ -61,10 +61,10 @@ fn settle_in_room(
     out_values: &mut [u32],
     report: &mut [u32],
 ) -> Weighed
-    requires { ⌜ Begun (now rule) (now owners) (now numbers) (now values) count (now before) (now after) (now times) (base .0) (now event) (now lows) (now wants) (now masks) points most ⌝ }
+    requires { ⌜ Begun (now rule) (now owners) (now numbers) (now values) count (now before) (now after) (now times) base (now event) (now lows) (now wants) (now masks) points most ⌝ }
     requires { ⌜ most ≤ 65 ⌝ }
     requires { ⌜ Stands (now «out_owners») (now «out_numbers») (now «out_values») mostKept ⌝ }
-    ensures { λ r. ⌜ SettledAll (now (rule .entry)) (now (owners .entry)) (now (numbers .entry)) (now (values .entry)) count (now (before .entry)) (now (after .entry)) (now (times .entry)) (base .0) (now (event .entry)) points (now (report .entry)) (now (report .exit)) (now («out_owners» .exit)) (now («out_numbers» .exit)) (now («out_values» .exit)) r ⌝ }
+    ensures { λ r. ⌜ SettledAll (now (rule .entry)) (now (owners .entry)) (now (numbers .entry)) (now (values .entry)) count (now (before .entry)) (now (after .entry)) (now (times .entry)) base (now (event .entry)) points (now (report .entry)) (now (report .exit)) (now («out_owners» .exit)) (now («out_numbers» .exit)) (now («out_values» .exit)) r ⌝ }
 {
     if most <= 1 {
         return rooms::settle_one(
@@ -139,11 +139,11 @@ fn finish(
     weighed: Weighed,
     after: &[u32],
     points: u32,
-    base: u32,
+    base: Point,
     stamps: &mut [u32],
     k: usize,
 ) -> Taken
-    requires { ⌜ (points ≤ base + k) × (k ≤ length (now stamps)) × (k < 4294967296) ⌝ }
+    requires { ⌜ (points ≤ base .0 + k) × (k ≤ length (now stamps)) × (k < 4294967296) ⌝ }
     ensures { λ r. ⌜ Finishes points base k (now (after .entry)) (now (stamps .entry)) (now (stamps .exit)) weighed r ⌝ }
 {
     match weighed {
@@ -187,7 +187,7 @@ fn take_figured(
 {
     let n = figuring::node_total(rule);
     let k = times.len();
-    let base = progress::less(points, k as u32);
+    let base = Point(progress::less(points, k as u32));
     let most = figuring::most_new(before, &after[0..n]);
     let weighed = settle_in_room(
         rule,
@@ -201,7 +201,7 @@ fn take_figured(
         before,
         &after[0..n],
         &stamps[0..k + 1],
-        Point(base),
+        base,
         points + 1,
         event,
         most,

@@ -1,10 +1,12 @@
 -- The points after the first, settled in turn: room for each, and what settling them leaves.
 use Prim.Native.Nat.{ℕ, _+_, _-_, _*_, _≤_, _<_}
 use native.Mathlib.Omega.{arith}
-use mathlib.Core.Path.{_≡_, refl}
+use mathlib.Core.Path.{_≡_, refl, ap}
 use mathlib.Core.List.{List, []}
 use lib.ListN.{length, getD}
+use Rattle.meaning.specs.Log.{point}
 use Rattle.meaning.specs.Outcome.{mostRows}
+use Rattle.meaning.specs.declared.Point.{Point}
 use Rattle.meaning.specs.declared.Node.{Node}
 use Rattle.method.specs.Settle.{Sight}
 use Rattle.method.specs.Step.{newRows, newPairs}
@@ -45,21 +47,21 @@ module _ {m : ℕ} {new : List (List (List ℕ))} {held pairs : List (List ℕ)}
       }
 
 -- the points from start on before i are settled, and k pairs stand in the words
-pub record Going (b w rows at firsts lows masks counts times : List ℕ) (base start end : ℕ) (node : Node) (n : ℕ) (ages values : List ℕ) (pairs : ℕ) (spareAges spareValues rows' at' ages' values' spareAges' spareValues' : List ℕ) (k i : ℕ) : Type 0 where
-  pub begun : start ≤ i
-  pub reached : i ≤ end
+pub record Going (b w rows at firsts lows masks counts times : List ℕ) (base start end : Point) (node : Node) (n : ℕ) (ages values : List ℕ) (pairs : ℕ) (spareAges spareValues rows' at' ages' values' spareAges' spareValues' : List ℕ) (k : ℕ) (i : Point) : Type 0 where
+  pub begun : start .0 ≤ i .0
+  pub reached : i .0 ≤ end .0
   pub settled : SettlesNew b w rows at firsts lows masks counts times base start i node (pairsFrom ages values 0 pairs) rows' at' n ages values ages' values' (Pairs k)
   pub agesLong : length spareAges' ≡ length spareAges
   pub valuesLong : length spareValues' ≡ length spareValues
 
-module _ {b w rows at firsts lows masks counts : List ℕ} (times : List ℕ) (base : ℕ) {start end : ℕ} {node : Node} {n : ℕ} (ages values : List ℕ) (pairs : ℕ) (spareAges spareValues : List ℕ)
+module _ {b w rows at firsts lows masks counts : List ℕ} (times : List ℕ) (base : Point) {start end : Point} {node : Node} {n : ℕ} (ages values : List ℕ) (pairs : ℕ) (spareAges spareValues : List ℕ)
     (r : Rest b w rows at firsts lows masks counts n start end node) where
   pub going-none : Going b w rows at firsts lows masks counts times base start end node n ages values pairs spareAges spareValues rows at ages values spareAges spareValues pairs start
   going-none = record { begun = omega arith; reached = r .ordered; settled = none; agesLong = refl; valuesLong = refl }
     where
       none : SettlesNew b w rows at firsts lows masks counts times base start start node (pairsFrom ages values 0 pairs) rows at n ages values ages values (Pairs pairs)
       none v s =
-          let e : start - start ≡ 0 = omega arith in
+          let e : start .0 - start .0 ≡ 0 = omega arith in
           let z : n + 0 ≡ n = omega arith in
           rw e
           (record {
@@ -69,70 +71,70 @@ module _ {b w rows at firsts lows masks counts : List ℕ} (times : List ℕ) (b
             grown = record { most = omega (arith, pairs-length ages values 0 pairs); agesLong = refl; valuesLong = refl; set = refl };
           })
 
-module _ {b w rows at firsts lows masks counts times : List ℕ} {base start end : ℕ} {node : Node} {n : ℕ} {ages values : List ℕ} {pairs : ℕ} {spareAges spareValues rows' at' ages' values' spareAges' spareValues' : List ℕ} {k i : ℕ}
+module _ {b w rows at firsts lows masks counts times : List ℕ} {base start end : Point} {node : Node} {n : ℕ} {ages values : List ℕ} {pairs : ℕ} {spareAges spareValues rows' at' ages' values' spareAges' spareValues' : List ℕ} {k : ℕ} {i : Point}
     (t : Going b w rows at firsts lows masks counts times base start end node n ages values pairs spareAges spareValues rows' at' ages' values' spareAges' spareValues' k i) where
   -- what stands in the words, whatever Sight
-  pub turned-so : Turned (i - start) (newRows (sightIn b w rows at firsts lows masks counts times base) node start (i - start) (pairsFrom ages values 0 pairs)) (pairsFrom ages values 0 pairs) (newPairs (sightIn b w rows at firsts lows masks counts times base) node start (i - start) (pairsFrom ages values 0 pairs)) rows at rows' at' n ages values ages' values' k
+  pub turned-so : Turned (i .0 - start .0) (newRows (sightIn b w rows at firsts lows masks counts times base) node start (i .0 - start .0) (pairsFrom ages values 0 pairs)) (pairsFrom ages values 0 pairs) (newPairs (sightIn b w rows at firsts lows masks counts times base) node start (i .0 - start .0) (pairsFrom ages values 0 pairs)) rows at rows' at' n ages values ages' values' k
   turned-so = t .settled (sightIn b w rows at firsts lows masks counts times base) (same-self b w rows at firsts lows masks counts times base node)
 
   -- there is room for the next point
-  pub pairs-most : i < end → k + 32 ≤ pairs + 32 * (end - start)
+  pub pairs-most : i .0 < end .0 → k + 32 ≤ pairs + 32 * (end .0 - start .0)
   pairs-most l = omega (arith, turned-so .grown .most, pairs-length ages values 0 pairs, t .begun)
 
-  pub space-next : i < end → Spaces rows at n (end - start) (32 * (end - start)) → Space rows' at' (n + (i - start)) 32
-  space-next l s = space-one (spaces-later turned-so (end - start) (end - i) (omega (arith, t .begun)) s) (omega arith)
+  pub space-next : i .0 < end .0 → Spaces rows at n (end .0 - start .0) (32 * (end .0 - start .0)) → Space rows' at' (n + (i .0 - start .0)) 32
+  space-next l s = space-one (spaces-later turned-so (end .0 - start .0) (end .0 - i .0) (omega (arith, t .begun)) s) (omega arith)
 
-  module _ (r : Rest b w rows at firsts lows masks counts n start end node) (l : i < end) where
-    pub due-next : Due b w rows' at' firsts lows masks counts (n + (i - start)) i node
-    due-next = due-later (i - start) (r .due i (t .begun) l) (turned-so .sets)
+  module _ (r : Rest b w rows at firsts lows masks counts n start end node) (l : i .0 < end .0) where
+    pub due-next : Due b w rows' at' firsts lows masks counts (n + (i .0 - start .0)) i node
+    due-next = due-later (i .0 - start .0) (r .due i (t .begun) l) (turned-so .sets)
 
     -- one more, from pairs that were set aside
     pub going-more : {held : List (List ℕ)} {rows'' at'' ages'' values'' spareAges'' spareValues'' : List ℕ} {k' : ℕ} → held ≡ pairsFrom ages' values' 0 k
-        → SettlesNew b w rows' at' firsts lows masks counts times base i (i + 1) node held rows'' at'' (n + (i - start)) ages' values' ages'' values'' (Pairs k')
+        → SettlesNew b w rows' at' firsts lows masks counts times base i (point (i .0 + 1)) node held rows'' at'' (n + (i .0 - start .0)) ages' values' ages'' values'' (Pairs k')
         → length spareAges'' ≡ length spareAges → length spareValues'' ≡ length spareValues
-        → Going b w rows at firsts lows masks counts times base start end node n ages values pairs spareAges spareValues rows'' at'' ages'' values'' spareAges'' spareValues'' k' (i + 1)
+        → Going b w rows at firsts lows masks counts times base start end node n ages values pairs spareAges spareValues rows'' at'' ages'' values'' spareAges'' spareValues'' k' (point (i .0 + 1))
     going-more {held} {rows''} {at''} {ages''} {values''} {k' = k'} e h p q =
         record {
           begun = omega (arith, t .begun);
           reached = omega arith;
-          settled = settles-joined b w rows at firsts lows masks counts times base start i (i + 1) node (pairsFrom ages values 0 pairs) (t .begun) (omega arith) (r .due i (t .begun) l) (t .settled) held e rows'' at'' ages'' values'' (Pairs k') h;
+          settled = settles-joined b w rows at firsts lows masks counts times base start i (point (i .0 + 1)) node (pairsFrom ages values 0 pairs) (t .begun) (omega arith) (r .due i (t .begun) l) (t .settled) held e rows'' at'' ages'' values'' (Pairs k') h;
           agesLong = p;
           valuesLong = q;
         }
 
     -- or one that is crowded
     pub going-crowded : {held : List (List ℕ)} → held ≡ pairsFrom ages' values' 0 k
-        → ((v : Sight) → Same v b w rows' at' firsts lows masks counts times base node → (q : ℕ) × (q < i + 1 - i) × (mostRows < length (getD (newRows v node i (i + 1 - i) held) q [])))
-        → (v : Sight) → Same v b w rows at firsts lows masks counts times base node → (q : ℕ) × (q < end - start) × (mostRows < length (getD (newRows v node start (end - start) (pairsFrom ages values 0 pairs)) q []))
+        → ((v : Sight) → Same v b w rows' at' firsts lows masks counts times base node → (q : ℕ) × (q < i .0 + 1 - i .0) × (mostRows < length (getD (newRows v node i (i .0 + 1 - i .0) held) q [])))
+        → (v : Sight) → Same v b w rows at firsts lows masks counts times base node → (q : ℕ) × (q < end .0 - start .0) × (mostRows < length (getD (newRows v node start (end .0 - start .0) (pairsFrom ages values 0 pairs)) q []))
     going-crowded {held} e h =
-        crowded-more b w rows at firsts lows masks counts times base start (i + 1) end node (pairsFrom ages values 0 pairs) (omega arith)
-        (settles-joined b w rows at firsts lows masks counts times base start i (i + 1) node (pairsFrom ages values 0 pairs) (t .begun) (omega arith) (r .due i (t .begun) l) (t .settled) held e rows at ages values Crowded h)
+        crowded-more b w rows at firsts lows masks counts times base start (point (i .0 + 1)) end node (pairsFrom ages values 0 pairs) (omega arith)
+        (settles-joined b w rows at firsts lows masks counts times base start i (point (i .0 + 1)) node (pairsFrom ages values 0 pairs) (t .begun) (omega arith) (r .due i (t .begun) l) (t .settled) held e rows at ages values Crowded h)
 
-  pub going-all : end ≤ i → SettlesNew b w rows at firsts lows masks counts times base start end node (pairsFrom ages values 0 pairs) rows' at' n ages values ages' values' (Pairs k)
+  pub going-all : end .0 ≤ i .0 → SettlesNew b w rows at firsts lows masks counts times base start end node (pairsFrom ages values 0 pairs) rows' at' n ages values ages' values' (Pairs k)
   going-all l =
-      let e : i ≡ end = omega (arith, t .reached) in
+      let e : i ≡ end = ap point (omega (arith, t .reached)) in
       rw e at (t .settled)
 
 -- the first point is settled, and the rest are still to come
-module _ {b w rows at firsts lows masks counts times : List ℕ} {base points n start end : ℕ} {node : Node} (r : Ready b w rows at firsts lows masks counts times base points n start end node) (l : start < end)
+module _ {b w rows at firsts lows masks counts times : List ℕ} {base : Point} {points n : ℕ} {start end : Point} {node : Node} (r : Ready b w rows at firsts lows masks counts times base points n start end node) (l : start .0 < end .0)
     (oldAges oldValues : List ℕ) (old : ℕ) {rows' at' ages values ages' values' : List ℕ} {k : ℕ}
-    (g : SettlesNew b w rows at firsts lows masks counts times base start (start + 1) node (pairsFrom oldAges oldValues 0 old) rows' at' n ages values ages' values' (Pairs k)) where
+    (g : SettlesNew b w rows at firsts lows masks counts times base start (point (start .0 + 1)) node (pairsFrom oldAges oldValues 0 old) rows' at' n ages values ages' values' (Pairs k)) where
   pub first-turned : Turned 1 (newRows (sightIn b w rows at firsts lows masks counts times base) node start 1 (pairsFrom oldAges oldValues 0 old)) (pairsFrom oldAges oldValues 0 old) (newPairs (sightIn b w rows at firsts lows masks counts times base) node start 1 (pairsFrom oldAges oldValues 0 old)) rows at rows' at' n ages values ages' values' k
   first-turned =
-      let e : start + 1 - start ≡ 1 = omega arith in
+      let e : start .0 + 1 - start .0 ≡ 1 = omega arith in
       rw e at (g (sightIn b w rows at firsts lows masks counts times base) (same-self b w rows at firsts lows masks counts times base node))
 
-  pub rest-due : Rest b w rows' at' firsts lows masks counts (n + 1) (start + 1) end node
+  pub rest-due : Rest b w rows' at' firsts lows masks counts (n + 1) (point (start .0 + 1)) end node
   rest-due = record { sets = first-turned .sets; ordered = omega arith; due = λ i a o. due-later 1 (due-at r i (omega arith) o) (first-turned .sets) }
 
-  pub rest-spaces : Spaces rows at n (end - start) (32 * (end - start)) → Spaces rows' at' (n + 1) (end - (start + 1)) (32 * (end - (start + 1)))
-  rest-spaces s = spaces-later first-turned (end - start) (end - (start + 1)) (omega arith) s
+  pub rest-spaces : Spaces rows at n (end .0 - start .0) (32 * (end .0 - start .0)) → Spaces rows' at' (n + 1) (end .0 - (start .0 + 1)) (32 * (end .0 - (start .0 + 1)))
+  rest-spaces s = spaces-later first-turned (end .0 - start .0) (end .0 - (start .0 + 1)) (omega arith) s
 
-  pub rest-pairs : k + 32 * (end - (start + 1)) ≤ old + 32 * (end - start)
+  pub rest-pairs : k + 32 * (end .0 - (start .0 + 1)) ≤ old + 32 * (end .0 - start .0)
   rest-pairs = omega (arith, first-turned .grown .most, pairs-length oldAges oldValues 0 old)
 
-  pub rest-joined : (rows'' at'' ages'' values'' : List ℕ) (o : Settled) → SettlesNew b w rows' at' firsts lows masks counts times base (start + 1) end node (pairsFrom ages' values' 0 k) rows'' at'' (n + 1) ages' values' ages'' values'' o
+  pub rest-joined : (rows'' at'' ages'' values'' : List ℕ) (o : Settled) → SettlesNew b w rows' at' firsts lows masks counts times base (point (start .0 + 1)) end node (pairsFrom ages' values' 0 k) rows'' at'' (n + 1) ages' values' ages'' values'' o
       → SettlesNew b w rows at firsts lows masks counts times base start end node (pairsFrom oldAges oldValues 0 old) rows'' at'' n ages values ages'' values'' o
   rest-joined rows'' at'' ages'' values'' o h =
-      let e : start + 1 - start ≡ 1 = omega arith in
-      settles-joined b w rows at firsts lows masks counts times base start (start + 1) end node (pairsFrom oldAges oldValues 0 old) (omega arith) (omega arith) (due-at r start (omega arith) l) g (pairsFrom ages' values' 0 k) refl rows'' at'' ages'' values'' o (rw e h)
+      let e : start .0 + 1 - start .0 ≡ 1 = omega arith in
+      settles-joined b w rows at firsts lows masks counts times base start (point (start .0 + 1)) end node (pairsFrom oldAges oldValues 0 old) (omega arith) (omega arith) (due-at r start (omega arith) l) g (pairsFrom ages' values' 0 k) refl rows'' at'' ages'' values'' o (rw e h)

@@ -23,13 +23,13 @@ use Rattle.settling.specs.Sights.{nodeSet, sightIn}
 use Rattle.turn.specs.Turning.{PairsGrown, Sided, grownAt, PairsAt, PairsCopied}
 
 -- left's set stands in the rows from..to and right's in the rows low..high
-module _ {rows at firsts lows masks : List ℕ} {x y : ℕ} (i : Point) (s : Sided rows at firsts lows masks x y (i .0)) {from to low high : ℕ}
+module _ {rows at firsts lows masks : List ℕ} {x y : ℕ} (i : Point) (s : Sided rows at firsts lows masks x y i) {from to low high : ℕ}
     (p : (from ≡ getD at (getD firsts x 0 + (i .0 - getD lows x 0)) 0) × (to ≡ getD at (getD firsts x 0 + (i .0 - getD lows x 0) + 1) 0))
     (q : (low ≡ getD at (getD firsts y 0 + (i .0 - getD lows y 0)) 0) × (high ≡ getD at (getD firsts y 0 + (i .0 - getD lows y 0) + 1) 0)) where
   pub grow-room : {ages values : List ℕ} (old : ℕ) → PairsThere ages values (old + 32) → PairsThere ages values (high - low + old)
   grow-room old h = record { agesThere = omega (arith, h .agesThere, s .few, q .0, q .1); valuesThere = omega (arith, h .valuesThere, s .few, q .0, q .1) }
 
-  pub grow-made : (left : Left) (w : Window) (times : List ℕ) (base by old : ℕ) (held : List (List ℕ)) → by ≡ grownBy (stampIn base times) i → {ages values ages' values' : List ℕ} {k : ℕ}
+  pub grow-made : (left : Left) (w : Window) (times : List ℕ) (base : Point) (by old : ℕ) (held : List (List ℕ)) → by ≡ grownBy (stampIn base times) i → {ages values ages' values' : List ℕ} {k : ℕ}
       → PairsMade ages values ages' values' k (high - low + old) (map (λ u. 0 ∷ u) (rowsFrom rows low (high - low)) ++ older w by (leftTest left (getD masks x 0) (rowsFrom rows from (to - from))) held)
       → PairsGrown ages values ages' values' k (old + 32) (grownAt left rows at firsts lows masks times base x y w i held)
   grow-made left w times base by old held e h =
@@ -43,7 +43,7 @@ module _ {rows at firsts lows masks : List ℕ} {x y : ℕ} (i : Point) (s : Sid
       }
 
 -- what the kind's pairs are, the node's are
-module _ (rows at firsts lows masks times : List ℕ) (base : ℕ) (i : Point) (oldAges oldValues : List ℕ) (old : ℕ) where
+module _ (rows at firsts lows masks times : List ℕ) (base i : Point) (oldAges oldValues : List ℕ) (old : ℕ) where
   pub pairs-by : {node kind : Node} {ages values ages' values' : List ℕ} {k : ℕ} → node ≡ kind
       → ((b w counts : List ℕ) → PairsGrown ages values ages' values' k (old + 32) (pairsNow (sightIn b w rows at firsts lows masks counts times base) (pairsFrom oldAges oldValues 0 old) i kind))
       → PairsAt rows at firsts lows masks times base i node (pairsFrom oldAges oldValues 0 old) ages values ages' values' k

@@ -6,8 +6,9 @@ use mathlib.Core.Path.{_≡_, sym, ap, _∙_}
 use mathlib.Core.List.{List, [], _∷_, _++_}
 use lib.ListN.{length, getD, List·getD-append}
 use lib.Seq.{getD-append-add}
-use Rattle.meaning.specs.Log.{point}
+use Rattle.meaning.specs.Log.{point, pointAfter}
 use Rattle.meaning.specs.Outcome.{mostRows}
+use Rattle.meaning.specs.declared.Point.{Point}
 use Rattle.meaning.specs.declared.Node.{Node}
 use Rattle.method.specs.Settle.{Sight, settle, pairsNow}
 use Rattle.method.specs.Step.{newRows, newPairs}
@@ -22,19 +23,19 @@ use Rattle.turn.proofs.Standing.{same-later}
 
 -- m points and then k more
 module _ (v : Sight) (node : Node) where
-  rows-then : (i m k : ℕ) (ps : List (List ℕ)) → newRows v node i (m + k) ps ≡ newRows v node i m ps ++ newRows v node (i + m) k (newPairs v node i m ps)
+  rows-then : (i : Point) (m k : ℕ) (ps : List (List ℕ)) → newRows v node i (m + k) ps ≡ newRows v node i m ps ++ newRows v node (point (i .0 + m)) k (newPairs v node i m ps)
   rows-then i zero k ps = rw (zero-add, add-zero)
   rows-then i (suc m) k ps =
       let e : suc m + k ≡ suc (m + k) = omega arith in
-      let f : suc i + m ≡ i + suc m = omega arith in
-      rw e (ap (λ rs. settle v (pairsNow v ps (point i) node) (point i) node ∷ rs) (rw f at (rows-then (suc i) m k (pairsNow v ps (point i) node))))
+      let f : suc (i .0) + m ≡ i .0 + suc m = omega arith in
+      rw e (ap (λ rs. settle v (pairsNow v ps i node) i node ∷ rs) (rw f at (rows-then (pointAfter i) m k (pairsNow v ps i node))))
 
-  pairs-then : (i m k : ℕ) (ps : List (List ℕ)) → newPairs v node i (m + k) ps ≡ newPairs v node (i + m) k (newPairs v node i m ps)
+  pairs-then : (i : Point) (m k : ℕ) (ps : List (List ℕ)) → newPairs v node i (m + k) ps ≡ newPairs v node (point (i .0 + m)) k (newPairs v node i m ps)
   pairs-then i zero k ps = rw (zero-add, add-zero)
   pairs-then i (suc m) k ps =
       let e : suc m + k ≡ suc (m + k) = omega arith in
-      let f : suc i + m ≡ i + suc m = omega arith in
-      rw e (rw f at (pairs-then (suc i) m k (pairsNow v ps (point i) node)))
+      let f : suc (i .0) + m ≡ i .0 + suc m = omega arith in
+      rw e (rw f at (pairs-then (pointAfter i) m k (pairsNow v ps i node)))
 
 -- some sets and then others: one of the first, and one of the others
 module _ (new new' : List (List (List ℕ))) (m : ℕ) (s : length new ≡ m) where
@@ -63,27 +64,27 @@ module _ {m : ℕ} {new : List (List (List ℕ))} {held pairs : List (List ℕ)}
   settles-then Crowded (q, o, h) = (m + q, omega arith, rw (set-later new new' m s q) h)
   settles-then (Pairs p') h = turned-then h
 
-module _ (b w rows at firsts lows masks counts times : List ℕ) (base start i end : ℕ) (node : Node) (held : List (List ℕ)) where
+module _ (b w rows at firsts lows masks counts times : List ℕ) (base start i end : Point) (node : Node) (held : List (List ℕ)) where
   -- a crowded point among the first is one among all
-  pub crowded-more : i ≤ end
-      → ((v : Sight) → Same v b w rows at firsts lows masks counts times base node → (q : ℕ) × (q < i - start) × (mostRows < length (getD (newRows v node start (i - start) held) q [])))
-      → (v : Sight) → Same v b w rows at firsts lows masks counts times base node → (q : ℕ) × (q < end - start) × (mostRows < length (getD (newRows v node start (end - start) held) q []))
+  pub crowded-more : i .0 ≤ end .0
+      → ((v : Sight) → Same v b w rows at firsts lows masks counts times base node → (q : ℕ) × (q < i .0 - start .0) × (mostRows < length (getD (newRows v node start (i .0 - start .0) held) q [])))
+      → (v : Sight) → Same v b w rows at firsts lows masks counts times base node → (q : ℕ) × (q < end .0 - start .0) × (mostRows < length (getD (newRows v node start (end .0 - start .0) held) q []))
   crowded-more l h v s =
       let (q, o, c) = h v s in
-      let k : ℕ = (end - start) - (i - start) in
-      let e : end - start ≡ (i - start) + k = omega arith in
-      (q, omega arith, rw (e, rows-then v node start (i - start) k held, set-first (newRows v node start (i - start) held) (newRows v node (start + (i - start)) k (newPairs v node start (i - start) held)) (i - start) (newRows-length v node start (i - start) held) q o) c)
+      let k : ℕ = (end .0 - start .0) - (i .0 - start .0) in
+      let e : end .0 - start .0 ≡ (i .0 - start .0) + k = omega arith in
+      (q, omega arith, rw (e, rows-then v node start (i .0 - start .0) k held, set-first (newRows v node start (i .0 - start .0) held) (newRows v node (point (start .0 + (i .0 - start .0))) k (newPairs v node start (i .0 - start .0) held)) (i .0 - start .0) (newRows-length v node start (i .0 - start .0) held) q o) c)
 
   -- points up to i, and then those up to end, from the pairs at the last of the first
-  pub settles-joined : {rows' at' ages values ages' values' : List ℕ} {n p j : ℕ} → start ≤ i → i ≤ end → Due b w rows at firsts lows masks counts n j node
+  pub settles-joined : {rows' at' ages values ages' values' : List ℕ} {n p : ℕ} {j : Point} → start .0 ≤ i .0 → i .0 ≤ end .0 → Due b w rows at firsts lows masks counts n j node
       → SettlesNew b w rows at firsts lows masks counts times base start i node held rows' at' n ages values ages' values' (Pairs p)
       → (held' : List (List ℕ)) → held' ≡ pairsFrom ages' values' 0 p → (rows'' at'' ages'' values'' : List ℕ) (r : Settled)
-      → SettlesNew b w rows' at' firsts lows masks counts times base i end node held' rows'' at'' (n + (i - start)) ages' values' ages'' values'' r
+      → SettlesNew b w rows' at' firsts lows masks counts times base i end node held' rows'' at'' (n + (i .0 - start .0)) ages' values' ages'' values'' r
       → SettlesNew b w rows at firsts lows masks counts times base start end node held rows'' at'' n ages values ages'' values'' r
   settles-joined {ages' = ages'} {values' = values'} {p = p} l o d g held' e rows'' at'' ages'' values'' r h v s =
       let t = g v s in
-      let f : end - start ≡ (i - start) + (end - i) = omega arith in
-      let z : start + (i - start) ≡ i = omega arith in
-      let u : held' ≡ newPairs v node start (i - start) held = e ∙ t .grown .set in
-      rw (f, rows-then v node start (i - start) (end - i) held, pairs-then v node start (i - start) (end - i) held, z, ← u)
-      (settles-then t (newRows-length v node start (i - start) held) (end - i) (newRows v node i (end - i) held') held' (newPairs v node i (end - i) held') (ap length e ∙ pairs-length ages' values' 0 p) rows'' at'' ages'' values'' r (h v (same-later (i - start) d (t .more) s)))
+      let f : end .0 - start .0 ≡ (i .0 - start .0) + (end .0 - i .0) = omega arith in
+      let z : start .0 + (i .0 - start .0) ≡ i .0 = omega arith in
+      let u : held' ≡ newPairs v node start (i .0 - start .0) held = e ∙ t .grown .set in
+      rw (f, rows-then v node start (i .0 - start .0) (end .0 - i .0) held, pairs-then v node start (i .0 - start .0) (end .0 - i .0) held, z, ← u)
+      (settles-then t (newRows-length v node start (i .0 - start .0) held) (end .0 - i .0) (newRows v node i (end .0 - i .0) held') held' (newPairs v node i (end .0 - i .0) held') (ap length e ∙ pairs-length ages' values' 0 p) rows'' at'' ages'' values'' r (h v (same-later (i .0 - start .0) d (t .more) s)))

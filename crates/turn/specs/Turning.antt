@@ -40,18 +40,18 @@ pub record Child (firsts lows masks counts : List ℕ) (n y : ℕ) : Type 0 wher
   pub sets : getD firsts y 0 + (getD counts y 0 - getD lows y 0) ≤ n
 
 -- what must stand for a node that has newly settled the points from start on before end, in a log of so many points; b is the rule's bytes and w the event's words
-pub record Ready (b w rows at firsts lows masks counts times : List ℕ) (base points n start end : ℕ) (node : Node) : Type 0 where
+pub record Ready (b w rows at firsts lows masks counts times : List ℕ) (base : Point) (points n : ℕ) (start end : Point) (node : Node) : Type 0 where
   pub sets : Sets rows at n
   pub children : (y : ℕ) → List·Memᴰ y (childrenOf node) → Child firsts lows masks counts n y
-  pub consulted : (y : ℕ) → List·Memᴰ y (childrenOf node) → getD lows y 0 ≤ firstWanted node start
+  pub consulted : (y : ℕ) → List·Memᴰ y (childrenOf node) → getD lows y 0 ≤ firstWanted node (start .0) .0
   pub counted : (y : ℕ) → List·Memᴰ y (childrenOf node) → getD counts y 0 ≤ points
-  pub settled : end ≡ advance (stampIn base times) points (λ y. getD counts y 0) start node
+  pub settled : end .0 ≡ advance (stampIn base times) points (λ y. getD counts y 0) (start .0) node
   pub small : points < 4294967296
   pub event : EventThere w
   pub arities : (r : ℕ) (t : Terms) → node ≡ Atom r t → arity b r ≡ t .count
 
 -- a Sight that says of the node's children what stands in the words
-pub record Same (v : Sight) (b w rows at firsts lows masks counts times : List ℕ) (base : ℕ) (node : Node) : Type 0 where
+pub record Same (v : Sight) (b w rows at firsts lows masks counts times : List ℕ) (base : Point) (node : Node) : Type 0 where
   pub stamps : v .stamps ≡ stampIn base times
   pub event : v .event ≡ map (rowOf b w) (range 0 (rowCount w))
   pub free : (y : ℕ) → List·Memᴰ y (childrenOf node) → (x : ℕ) → x < 4 → v .free y x ≡ inMask (getD masks y 0) x
@@ -78,41 +78,41 @@ Settles m new held pairs rows at rows' at' n ages values ages' values' Crowded =
 Settles m new held pairs rows at rows' at' n ages values ages' values' (Pairs k) = Turned m new held pairs rows at rows' at' n ages values ages' values' k
 
 -- the points from start on before end, with the node's pairs `held` before them; v is any Sight that says what stands in the words
-abbrev pub SettlesNew : List ℕ → List ℕ → List ℕ → List ℕ → List ℕ → List ℕ → List ℕ → List ℕ → List ℕ → ℕ → ℕ → ℕ → Node → List (List ℕ) → List ℕ → List ℕ → ℕ → List ℕ → List ℕ → List ℕ → List ℕ → Settled → Type 0
+abbrev pub SettlesNew : List ℕ → List ℕ → List ℕ → List ℕ → List ℕ → List ℕ → List ℕ → List ℕ → List ℕ → Point → Point → Point → Node → List (List ℕ) → List ℕ → List ℕ → ℕ → List ℕ → List ℕ → List ℕ → List ℕ → Settled → Type 0
 SettlesNew b w rows at firsts lows masks counts times base start end node held rows' at' n ages values ages' values' r =
     (v : Sight) → Same v b w rows at firsts lows masks counts times base node
-    → Settles (end - start) (newRows v node start (end - start) held) held (newPairs v node start (end - start) held) rows at rows' at' n ages values ages' values' r
+    → Settles (end .0 - start .0) (newRows v node start (end .0 - start .0) held) held (newPairs v node start (end .0 - start .0) held) rows at rows' at' n ages values ages' values' r
 
 -- what must stand at one newly settled point i, n sets in all
-pub record Due (b w rows at firsts lows masks counts : List ℕ) (n i : ℕ) (node : Node) : Type 0 where
+pub record Due (b w rows at firsts lows masks counts : List ℕ) (n : ℕ) (i : Point) (node : Node) : Type 0 where
   pub sets : Sets rows at n
   pub children : (y : ℕ) → List·Memᴰ y (childrenOf node) → Child firsts lows masks counts n y
-  pub consulted : (y : ℕ) → List·Memᴰ y (childrenOf node) → getD lows y 0 ≤ firstWanted node i
+  pub consulted : (y : ℕ) → List·Memᴰ y (childrenOf node) → getD lows y 0 ≤ firstWanted node (i .0) .0
   pub small : (y : ℕ) → List·Memᴰ y (childrenOf node) → getD counts y 0 < 4294967296
   pub within : Consults (λ y. getD counts y 0) i node
   pub event : EventThere w
   pub arities : (r : ℕ) (t : Terms) → node ≡ Atom r t → arity b r ≡ t .count
 
 -- what must stand for the points from start on before end, which may be none
-pub record Rest (b w rows at firsts lows masks counts : List ℕ) (n start end : ℕ) (node : Node) : Type 0 where
+pub record Rest (b w rows at firsts lows masks counts : List ℕ) (n : ℕ) (start end : Point) (node : Node) : Type 0 where
   pub sets : Sets rows at n
-  pub ordered : start ≤ end
-  pub due : (i : ℕ) → start ≤ i → i < end → Due b w rows at firsts lows masks counts n i node
+  pub ordered : start .0 ≤ end .0
+  pub due : (i : Point) → start .0 ≤ i .0 → i .0 < end .0 → Due b w rows at firsts lows masks counts n i node
 
 -- what must stand of left, node x, and right, node y, for pairs at point i
-pub record Sided (rows at firsts lows masks : List ℕ) (x y i : ℕ) : Type 0 where
-  pub left : There rows at firsts lows x i (i + 1)
-  pub right : There rows at firsts lows y i (i + 1)
+pub record Sided (rows at firsts lows masks : List ℕ) (x y : ℕ) (i : Point) : Type 0 where
+  pub left : There rows at firsts lows x i (i .0 + 1)
+  pub right : There rows at firsts lows y i (i .0 + 1)
   pub mask : x < length masks
-  pub few : getD at (getD firsts y 0 + (i - getD lows y 0) + 1) 0 - getD at (getD firsts y 0 + (i - getD lows y 0)) 0 ≤ mostRows
+  pub few : getD at (getD firsts y 0 + (i .0 - getD lows y 0) + 1) 0 - getD at (getD firsts y 0 + (i .0 - getD lows y 0)) 0 ≤ mostRows
 
 -- the pairs of a since kind at point i, from those of the point before
-abbrev pub grownAt : Left → List ℕ → List ℕ → List ℕ → List ℕ → List ℕ → List ℕ → ℕ → ℕ → ℕ → Window → Point → List (List ℕ) → List (List ℕ)
+abbrev pub grownAt : Left → List ℕ → List ℕ → List ℕ → List ℕ → List ℕ → List ℕ → Point → ℕ → ℕ → Window → Point → List (List ℕ) → List (List ℕ)
 grownAt left rows at firsts lows masks times base x y w i held =
     grow (stampIn base times) w (leftTest left (getD masks x 0) (nodeSet rows at firsts lows x)) (nodeSet rows at firsts lows y) i held
 
 -- what must stand for the pairs of a node of each kind at point i
-module _ (rows at firsts lows masks : List ℕ) (i : ℕ) where
+module _ (rows at firsts lows masks : List ℕ) (i : Point) where
   abbrev pub askedPairs : Node → Type 0
   askedPairs (Atom r t) = Unit
   askedPairs (And x y) = Unit
@@ -130,7 +130,7 @@ module _ (rows at firsts lows masks : List ℕ) (i : ℕ) where
   askedPairs (Eventually x v) = Unit
 
 -- so many pairs stand at the front of the new words: those of the node at point i, whatever rule, event and counts there are
-abbrev pub PairsAt : List ℕ → List ℕ → List ℕ → List ℕ → List ℕ → List ℕ → ℕ → Point → Node → List (List ℕ) → List ℕ → List ℕ → List ℕ → List ℕ → ℕ → Type 0
+abbrev pub PairsAt : List ℕ → List ℕ → List ℕ → List ℕ → List ℕ → List ℕ → Point → Point → Node → List (List ℕ) → List ℕ → List ℕ → List ℕ → List ℕ → ℕ → Type 0
 PairsAt rows at firsts lows masks times base i node held ages values ages' values' k =
     (b w counts : List ℕ) → PairsGrown ages values ages' values' k (length held + 32) (pairsNow (sightIn b w rows at firsts lows masks counts times base) held i node)
 

@@ -4,6 +4,7 @@ use meaning::Node;
 use meaning::Point;
 use meaning::Window;
 ghost use Prim.Native.Nat.{_+_, _-_, _*_, _<_};
+ghost use Rattle.meaning.specs.Log.{point};
 ghost use Rattle.kinds.specs.Kinds.{pairsFrom, PairsThere};
 ghost use Rattle.shelf.specs.Appended.{Space};
 ghost use Rattle.shelving.specs.Shelved.{Spaces};
@@ -35,10 +36,10 @@ fn grow_at(
     ages: &mut [u32],
     values: &mut [u32],
 ) -> usize
-    requires { ⌜ Sided (now rows) (now at) (now firsts) (now lows) (now masks) a b (i .0) ⌝ }
+    requires { ⌜ Sided (now rows) (now at) (now firsts) (now lows) (now masks) a b i ⌝ }
     requires { ⌜ PairsThere (now «old_ages») (now «old_values») old ⌝ }
     requires { ⌜ PairsThere (now ages) (now values) (old + 32) ⌝ }
-    ensures { λ k. ⌜ PairsGrown (now (ages .entry)) (now (values .entry)) (now (ages .exit)) (now (values .exit)) k (old + 32) (grownAt left (now (rows .entry)) (now (at .entry)) (now (firsts .entry)) (now (lows .entry)) (now (masks .entry)) (now (times .entry)) (base .0) a b w i (pairsFrom (now («old_ages» .entry)) (now («old_values» .entry)) 0 old)) ⌝ }
+    ensures { λ k. ⌜ PairsGrown (now (ages .entry)) (now (values .entry)) (now (ages .exit)) (now (values .exit)) k (old + 32) (grownAt left (now (rows .entry)) (now (at .entry)) (now (firsts .entry)) (now (lows .entry)) (now (masks .entry)) (now (times .entry)) base a b w i (pairsFrom (now («old_ages» .entry)) (now («old_values» .entry)) 0 old)) ⌝ }
 {
     let p = settling::set_part(at, firsts, lows, a, i);
     let q = settling::set_part(at, firsts, lows, b, i);
@@ -79,10 +80,10 @@ fn pairs_at(
     ages: &mut [u32],
     values: &mut [u32],
 ) -> usize
-    requires { ⌜ askedPairs (now rows) (now at) (now firsts) (now lows) (now masks) (i .0) node ⌝ }
+    requires { ⌜ askedPairs (now rows) (now at) (now firsts) (now lows) (now masks) i node ⌝ }
     requires { ⌜ PairsThere (now «old_ages») (now «old_values») old ⌝ }
     requires { ⌜ PairsThere (now ages) (now values) (old + 32) ⌝ }
-    ensures { λ k. ⌜ PairsAt (now (rows .entry)) (now (at .entry)) (now (firsts .entry)) (now (lows .entry)) (now (masks .entry)) (now (times .entry)) (base .0) i node (pairsFrom (now («old_ages» .entry)) (now («old_values» .entry)) 0 old) (now (ages .entry)) (now (values .entry)) (now (ages .exit)) (now (values .exit)) k ⌝ }
+    ensures { λ k. ⌜ PairsAt (now (rows .entry)) (now (at .entry)) (now (firsts .entry)) (now (lows .entry)) (now (masks .entry)) (now (times .entry)) base i node (pairsFrom (now («old_ages» .entry)) (now («old_values» .entry)) 0 old) (now (ages .entry)) (now (values .entry)) (now (ages .exit)) (now (values .exit)) k ⌝ }
 {
     match node {
         Node::Since(a, b, w) => grow_at(
@@ -177,11 +178,11 @@ fn settle_next(
     ages: &mut [u32],
     values: &mut [u32],
 ) -> Settled
-    requires { ⌜ Due (now rule) (now event) (now rows) (now at) (now firsts) (now lows) (now masks) (now counts) sets (i .0) node ⌝ }
+    requires { ⌜ Due (now rule) (now event) (now rows) (now at) (now firsts) (now lows) (now masks) (now counts) sets i node ⌝ }
     requires { ⌜ Space (now rows) (now at) sets 32 ⌝ }
     requires { ⌜ PairsThere (now «old_ages») (now «old_values») old ⌝ }
     requires { ⌜ PairsThere (now ages) (now values) (old + 32) ⌝ }
-    ensures { λ r. ⌜ SettlesNew (now (rule .entry)) (now (event .entry)) (now (rows .entry)) (now (at .entry)) (now (firsts .entry)) (now (lows .entry)) (now (masks .entry)) (now (counts .entry)) (now (times .entry)) (base .0) (i .0) (i .0 + 1) node (pairsFrom (now («old_ages» .entry)) (now («old_values» .entry)) 0 old) (now (rows .exit)) (now (at .exit)) sets (now (ages .entry)) (now (values .entry)) (now (ages .exit)) (now (values .exit)) r ⌝ }
+    ensures { λ r. ⌜ SettlesNew (now (rule .entry)) (now (event .entry)) (now (rows .entry)) (now (at .entry)) (now (firsts .entry)) (now (lows .entry)) (now (masks .entry)) (now (counts .entry)) (now (times .entry)) base i (point (i .0 + 1)) node (pairsFrom (now («old_ages» .entry)) (now («old_values» .entry)) 0 old) (now (rows .exit)) (now (at .exit)) sets (now (ages .entry)) (now (values .entry)) (now (ages .exit)) (now (values .exit)) r ⌝ }
 {
     let n = pairs_at(
         node,
@@ -263,11 +264,11 @@ fn settle_rest(
     spare_ages: &mut [u32],
     spare_values: &mut [u32],
 ) -> Settled
-    requires { ⌜ Rest (now rule) (now event) (now rows) (now at) (now firsts) (now lows) (now masks) (now counts) sets (start .0) (end .0) node ⌝ }
+    requires { ⌜ Rest (now rule) (now event) (now rows) (now at) (now firsts) (now lows) (now masks) (now counts) sets start end node ⌝ }
     requires { ⌜ Spaces (now rows) (now at) sets (end .0 - start .0) (32 * (end .0 - start .0)) ⌝ }
     requires { ⌜ PairsThere (now ages) (now values) (pairs + 32 * (end .0 - start .0)) ⌝ }
     requires { ⌜ (start .0 < end .0 → PairsThere (now «spare_ages») (now «spare_values») (pairs + 32 * (end .0 - start .0))) ⌝ }
-    ensures { λ r. ⌜ SettlesNew (now (rule .entry)) (now (event .entry)) (now (rows .entry)) (now (at .entry)) (now (firsts .entry)) (now (lows .entry)) (now (masks .entry)) (now (counts .entry)) (now (times .entry)) (base .0) (start .0) (end .0) node (pairsFrom (now (ages .entry)) (now (values .entry)) 0 pairs) (now (rows .exit)) (now (at .exit)) sets (now (ages .entry)) (now (values .entry)) (now (ages .exit)) (now (values .exit)) r ⌝ }
+    ensures { λ r. ⌜ SettlesNew (now (rule .entry)) (now (event .entry)) (now (rows .entry)) (now (at .entry)) (now (firsts .entry)) (now (lows .entry)) (now (masks .entry)) (now (counts .entry)) (now (times .entry)) base start end node (pairsFrom (now (ages .entry)) (now (values .entry)) 0 pairs) (now (rows .exit)) (now (at .exit)) sets (now (ages .entry)) (now (values .entry)) (now (ages .exit)) (now (values .exit)) r ⌝ }
 {
     let mut n = pairs;
     let mut i = start.0;
@@ -327,13 +328,13 @@ pub fn settle_new(
     spare_ages: &mut [u32],
     spare_values: &mut [u32],
 ) -> Settled
-    requires { ⌜ Ready (now rule) (now event) (now rows) (now at) (now firsts) (now lows) (now masks) (now counts) (now times) (base .0) points sets (start .0) (end .0) node ⌝ }
+    requires { ⌜ Ready (now rule) (now event) (now rows) (now at) (now firsts) (now lows) (now masks) (now counts) (now times) base points sets start end node ⌝ }
     requires { ⌜ start .0 < end .0 ⌝ }
     requires { ⌜ Spaces (now rows) (now at) sets (end .0 - start .0) (32 * (end .0 - start .0)) ⌝ }
     requires { ⌜ PairsThere (now «old_ages») (now «old_values») old ⌝ }
     requires { ⌜ PairsThere (now ages) (now values) (old + 32 * (end .0 - start .0)) ⌝ }
     requires { ⌜ (start .0 + 1 < end .0 → PairsThere (now «spare_ages») (now «spare_values») (old + 32 * (end .0 - start .0))) ⌝ }
-    ensures { λ r. ⌜ SettlesNew (now (rule .entry)) (now (event .entry)) (now (rows .entry)) (now (at .entry)) (now (firsts .entry)) (now (lows .entry)) (now (masks .entry)) (now (counts .entry)) (now (times .entry)) (base .0) (start .0) (end .0) node (pairsFrom (now («old_ages» .entry)) (now («old_values» .entry)) 0 old) (now (rows .exit)) (now (at .exit)) sets (now (ages .entry)) (now (values .entry)) (now (ages .exit)) (now (values .exit)) r ⌝ }
+    ensures { λ r. ⌜ SettlesNew (now (rule .entry)) (now (event .entry)) (now (rows .entry)) (now (at .entry)) (now (firsts .entry)) (now (lows .entry)) (now (masks .entry)) (now (counts .entry)) (now (times .entry)) base start end node (pairsFrom (now («old_ages» .entry)) (now («old_values» .entry)) 0 old) (now (rows .exit)) (now (at .exit)) sets (now (ages .entry)) (now (values .entry)) (now (ages .exit)) (now (values .exit)) r ⌝ }
 {
     let Settled::Pairs(n) = settle_next(
         node,

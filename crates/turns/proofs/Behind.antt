@@ -54,7 +54,7 @@ after-sets x pairs rest h =
     let e : eqb x x ≡ _ = eq-eqb x x refl in
     begins-append (hasOwner x 0) (agedEntries x pairs) rest (begins-map (hasOwner x 0) _ pairs (λ p. rw e)) h
 
-module _ (b os ns vs : List ℕ) (count : ℕ) (before after times : List ℕ) (base : ℕ) (w : List ℕ) where
+module _ (b os ns vs : List ℕ) (count : ℕ) (before after times : List ℕ) (base : Point) (w : List ℕ) where
   abbrev entered : ℕ → List Entry
   entered = entriesIn b os ns vs count before after times base w
 
@@ -63,10 +63,10 @@ module _ (b os ns vs : List ℕ) (count : ℕ) (before after times : List ℕ) (
   unfolding entriesIn
   others x mark y l =
       let e : eqb y x ≡ false = ne-eqb y x (omega arith) in
-      let low : ℕ = wantedFrom b (figure before) y in
+      let low : Point = wantedFrom b (figure before) y in
       let es : List Entry = entriesFrom os ns vs 0 count in
-      begins-append (hasOwner x mark) (setEntries y (held es y) low (figure before y - low)) (agedEntries y (heldPairs es y))
-      (begins-gather (hasOwner x mark) _ (pointsFrom low (figure before y - low)) (λ j. begins-map (hasOwner x mark) _ (held es y j) (λ r. rw e)))
+      begins-append (hasOwner x mark) (setEntries y (held es y) low (figure before y - low .0)) (agedEntries y (heldPairs es y))
+      (begins-gather (hasOwner x mark) _ (pointsFrom (low .0) (figure before y - low .0)) (λ j. begins-map (hasOwner x mark) _ (held es y j) (λ r. rw e)))
       (begins-map (hasOwner x mark) _ (heldPairs es y) (λ p. rw e))
 
   pub after-node : (x mark a k : ℕ) → x < a → begins (hasOwner x mark) (gather entered (range a k)) ≡ false

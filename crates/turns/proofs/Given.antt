@@ -17,7 +17,7 @@ use Rattle.method.proofs.Turns.{turns-at, turns-stay, points-length, getD-point
 use Rattle.shelf.specs.Entries.{entriesFrom}
 use Rattle.turns.specs.Turns.{figure, turnIn}
 
-module _ (b os ns vs : List ℕ) (count : ℕ) (before after times : List ℕ) (base : ℕ) (w : List ℕ) where
+module _ (b os ns vs : List ℕ) (count : ℕ) (before after times : List ℕ) (base : Point) (w : List ℕ) where
   abbrev pub kept : List Entry
   kept = entriesFrom os ns vs 0 count
 
@@ -31,7 +31,7 @@ module _ (b os ns vs : List ℕ) (count : ℕ) (before after times : List ℕ) (
   abbrev turn : ℕ → Turn
   turn = turnIn b os ns vs count before after times base w
 
-  abbrev low : ℕ → ℕ
+  abbrev low : ℕ → Point
   low = wantedFrom b (figure before)
 
   -- a lower node's turn, as a later node sees it
@@ -47,34 +47,34 @@ module _ (b os ns vs : List ℕ) (count : ℕ) (before after times : List ℕ) (
     turn-is = turns-at b kept (stampIn base times) (figure before) (figure after) (pointOf b w .rows) (nodeCount b) x o
 
     abbrev pub fresh : List (List (List ℕ))
-    fresh = newRows (sight x) (nodeAt b x) (figure before x) (figure after x - figure before x) (heldPairs kept x)
+    fresh = newRows (sight x) (nodeAt b x) (point (figure before x)) (figure after x - figure before x) (heldPairs kept x)
 
     turn-low : turn x .low ≡ low x
     unfolding turnOf
     turn-low = ap (λ t. t .low) turn-is
 
-    turn-rows : turn x .rows ≡ map (held kept x) (pointsFrom (low x) (figure before x - low x)) ++ fresh
+    turn-rows : turn x .rows ≡ map (held kept x) (pointsFrom (low x .0) (figure before x - low x .0)) ++ fresh
     unfolding turnOf
     turn-rows = ap (λ t. t .rows) turn-is
 
-    pub turn-pairs : turn x .pairs ≡ newPairs (sight x) (nodeAt b x) (figure before x) (figure after x - figure before x) (heldPairs kept x)
+    pub turn-pairs : turn x .pairs ≡ newPairs (sight x) (nodeAt b x) (point (figure before x)) (figure after x - figure before x) (heldPairs kept x)
     unfolding turnOf
     turn-pairs = ap (λ t. t .pairs) turn-is
 
     -- the rows at a point
-    pub rows-at : (j : Point) → rowsOfTurn (turn x) j ≡ getD (turn x .rows) (j .0 - low x) []
-    rows-at j = ap (λ a. getD (turn x .rows) (j .0 - a) []) turn-low
+    pub rows-at : (j : Point) → rowsOfTurn (turn x) j ≡ getD (turn x .rows) (j .0 - low x .0) []
+    rows-at j = ap (λ (a : Point). getD (turn x .rows) (j .0 - a .0) []) turn-low
 
-    held-long : length (map (held kept x) (pointsFrom (low x) (figure before x - low x))) ≡ figure before x - low x
-    held-long = length-map (pointsFrom (low x) (figure before x - low x)) (held kept x) ∙ points-length (low x) (figure before x - low x)
+    held-long : length (map (held kept x) (pointsFrom (low x .0) (figure before x - low x .0))) ≡ figure before x - low x .0
+    held-long = length-map (pointsFrom (low x .0) (figure before x - low x .0)) (held kept x) ∙ points-length (low x .0) (figure before x - low x .0)
 
     -- at a kept point, and at a new one
-    pub rows-held : (q : ℕ) → q < figure before x - low x → getD (turn x .rows) q [] ≡ held kept x (point (low x + q))
+    pub rows-held : (q : ℕ) → q < figure before x - low x .0 → getD (turn x .rows) q [] ≡ held kept x (point (low x .0 + q))
     rows-held q l =
-        ap (λ s. getD s q []) turn-rows ∙ List·getD-append (map (held kept x) (pointsFrom (low x) (figure before x - low x))) fresh [] q (omega (arith, held-long))
-        ∙ getD-points (held kept x) [] (low x) (figure before x - low x) q l
+        ap (λ s. getD s q []) turn-rows ∙ List·getD-append (map (held kept x) (pointsFrom (low x .0) (figure before x - low x .0))) fresh [] q (omega (arith, held-long))
+        ∙ getD-points (held kept x) [] (low x .0) (figure before x - low x .0) q l
 
-    pub rows-new : (q : ℕ) → getD (turn x .rows) (figure before x - low x + q) [] ≡ getD fresh q []
+    pub rows-new : (q : ℕ) → getD (turn x .rows) (figure before x - low x .0 + q) [] ≡ getD fresh q []
     rows-new q =
-        ap (λ s. getD s (figure before x - low x + q) []) turn-rows ∙ ap (λ k. getD (map (held kept x) (pointsFrom (low x) (figure before x - low x)) ++ fresh) (k + q) []) (sym held-long)
-        ∙ getD-append-add (map (held kept x) (pointsFrom (low x) (figure before x - low x))) fresh q []
+        ap (λ s. getD s (figure before x - low x .0 + q) []) turn-rows ∙ ap (λ k. getD (map (held kept x) (pointsFrom (low x .0) (figure before x - low x .0)) ++ fresh) (k + q) []) (sym held-long)
+        ∙ getD-append-add (map (held kept x) (pointsFrom (low x .0) (figure before x - low x .0))) fresh q []

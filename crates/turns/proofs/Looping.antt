@@ -8,6 +8,7 @@ use lib.ListN.{length, set, length-set, length-append}
 use lib.Seq.{getD-set-same}
 use Rattle.meaning.specs.Lists.{range, gather}
 use Rattle.meaning.specs.RuleFile.{nodeCount}
+use Rattle.meaning.specs.declared.Point.{Point}
 use Rattle.shelf.specs.Entries.{Packed}
 use Rattle.shelf.proofs.Packing.{packed-none, packed-then, packed-as}
 use Rattle.turn.specs.Turning.{Sets}
@@ -48,7 +49,7 @@ pub roomy-marked : {rows at firsts ages paired spareAges sparePaired : List ℕ}
 roomy-marked {at = at} r =
     roomy-as (record { rowsLong = refl; atLong = length-set at 0 0; firstsLong = refl; agesLong = refl; pairedLong = refl; spareAgesLong = refl; sparePairedLong = refl }) r
 
-module _ (b os ns vs : List ℕ) (count : ℕ) (before after times : List ℕ) (base : ℕ) (w : List ℕ) where
+module _ (b os ns vs : List ℕ) (count : ℕ) (before after times : List ℕ) (base : Point) (w : List ℕ) where
   -- what the first x nodes keep is packed
   pub record PackedTo (os₀ ns₀ vs₀ os' ns' vs' : List ℕ) (x kept : ℕ) : Type 0 where
     pub packed : Packed os₀ ns₀ vs₀ 0 os' ns' vs' kept (gather (entriesOut b os ns vs count before after times base w) (range 0 x))
@@ -57,7 +58,7 @@ module _ (b os ns vs : List ℕ) (count : ℕ) (before after times : List ℕ) (
   pub packed-to-none : (os₀ ns₀ vs₀ : List ℕ) → PackedTo os₀ ns₀ vs₀ os₀ ns₀ vs₀ 0 0
   packed-to-none os₀ ns₀ vs₀ = record { packed = packed-none os₀ ns₀ vs₀ 0; counted = refl }
 
-module _ {b os ns vs : List ℕ} {count : ℕ} {before after times : List ℕ} {base : ℕ} {w lows wants masks : List ℕ} {points most : ℕ}
+module _ {b os ns vs : List ℕ} {count : ℕ} {before after times : List ℕ} {base : Point} {w lows wants masks : List ℕ} {points most : ℕ}
     (g : Begun b os ns vs count before after times base w lows wants masks points most) where
   no-sets : {rows at firsts ages paired spareAges sparePaired : List ℕ} → Roomy rows at firsts ages paired spareAges sparePaired count most (nodeCount b) → Sets rows (set at 0 0) 0
   no-sets {at = at} r =
@@ -82,7 +83,7 @@ module _ {b os ns vs : List ℕ} {count : ℕ} {before after times : List ℕ} {
         few-kept = omega arith;
       }
 
-module _ {b os ns vs : List ℕ} {count : ℕ} {before after times : List ℕ} {base : ℕ} {w lows : List ℕ} {most : ℕ} {firsts' rows' at' : List ℕ} {x kept : ℕ} {os' ns' vs' os'' ns'' vs'' : List ℕ} {r : Moved}
+module _ {b os ns vs : List ℕ} {count : ℕ} {before after times : List ℕ} {base : Point} {w lows : List ℕ} {most : ℕ} {firsts' rows' at' : List ℕ} {x kept : ℕ} {os' ns' vs' os'' ns'' vs'' : List ℕ} {r : Moved}
     (u : TurnGives b os ns vs count before after times base w lows most firsts' rows' at' x kept os' ns' vs' os'' ns'' vs'' r) where
   turned : {p : Place} → r ≡ To p → Turned b os ns vs count before after times base w lows most firsts' rows' at' x kept os' ns' vs' os'' ns'' vs'' p
   turned e = rw e at (u .gives)
@@ -111,7 +112,7 @@ module _ {b os ns vs : List ℕ} {count : ℕ} {before after times : List ℕ} {
       record { node = o; crowds = c; lowest = t .calm }
 
 -- every node
-module _ {b os ns vs : List ℕ} {count : ℕ} {before after times : List ℕ} {base : ℕ} {w lows : List ℕ} {most : ℕ} {firsts rows at : List ℕ} {x cursor sets kept : ℕ} {os₀ ns₀ vs₀ os' ns' vs' : List ℕ}
+module _ {b os ns vs : List ℕ} {count : ℕ} {before after times : List ℕ} {base : Point} {w lows : List ℕ} {most : ℕ} {firsts rows at : List ℕ} {x cursor sets kept : ℕ} {os₀ ns₀ vs₀ os' ns' vs' : List ℕ}
     (t : TurnedTo b os ns vs count before after times base w lows most firsts rows at x cursor sets kept) (d : PackedTo b os ns vs count before after times base w os₀ ns₀ vs₀ os' ns' vs' x kept) where
   pub turned-all : nodeCount b ≤ x → AllTurned b os ns vs count before after times base w lows firsts rows at os₀ ns₀ vs₀ os' ns' vs' kept
   turned-all l =

@@ -9,8 +9,10 @@ use lib.Seq.{getD-set-other}
 use lib.Dec.{eqb}
 use borrow.Author.Count.{below-more}
 use borrow.Author.Tests.{ne-eqb}
+use Rattle.meaning.specs.Log.{point}
 use Rattle.meaning.specs.RuleFile.{nodeCount, nodeAt, childrenOf, lastNode}
 use Rattle.meaning.specs.Event.{pointOf}
+use Rattle.meaning.specs.declared.Point.{Point}
 use Rattle.meaning.proofs.Accepted.{accepted, lower, nodes-most}
 use Rattle.method.specs.Step.{firstWanted, wantedFrom}
 use Rattle.method.proofs.Parents.{parent-is}
@@ -22,7 +24,7 @@ use Rattle.turns.specs.Nodes.{SetsBelow}
 use Rattle.turns.proofs.Arity.{as-many}
 use Rattle.turns.proofs.Given.{sight, lower-turn, rows-at}
 
-module _ {b os ns vs : List ℕ} {count : ℕ} {before after times : List ℕ} {base : ℕ} {w lows firsts rows at : List ℕ} {n x : ℕ}
+module _ {b os ns vs : List ℕ} {count : ℕ} {before after times : List ℕ} {base : Point} {w lows firsts rows at : List ℕ} {n x : ℕ}
     (t : SetsBelow b os ns vs count before after times base w lows firsts rows at n x) where
   -- m more sets behind them
   pub below-later : {rows' at' : List ℕ} {m : ℕ} {F : ℕ → List (List ℕ)} → Extended rows at rows' at' n m F → Sets rows' at' (n + m) → SetsBelow b os ns vs count before after times base w lows firsts rows' at' (n + m) x
@@ -57,19 +59,19 @@ module _ {b os ns vs : List ℕ} {count : ℕ} {before after times : List ℕ} {
             below-more (λ y. (q : ℕ) → q < figure after y - getD lows y 0 → setIn rows at (getD firsts y 0 + q) ≡ getD (turnIn b os ns vs count before after times base w y .rows) q []) x (t .there) h;
       }
 
-module _ {b os ns vs : List ℕ} {count : ℕ} {before after times : List ℕ} {base : ℕ} {w lows wants masks : List ℕ} {points most : ℕ}
+module _ {b os ns vs : List ℕ} {count : ℕ} {before after times : List ℕ} {base : Point} {w lows wants masks : List ℕ} {points most : ℕ}
     (g : Begun b os ns vs count before after times base w lows wants masks points most) (x : ℕ) (o : x < nodeCount b) where
   child-lower : (y : ℕ) → List·Memᴰ y (childrenOf (nodeAt b x)) → y < x
   child-lower y m = let (a, ok) = g .accepted in lower b (nodeCount b) (accepted b a ok .each) x o x (omega arith) y m
 
   -- a child's low point is one that the node still consults
-  consulted : (y : ℕ) → List·Memᴰ y (childrenOf (nodeAt b x)) → getD lows y 0 ≤ firstWanted (nodeAt b x) (figure before x)
+  consulted : (y : ℕ) → List·Memᴰ y (childrenOf (nodeAt b x)) → getD lows y 0 ≤ firstWanted (nodeAt b x) (figure before x) .0
   unfolding wantedFrom
   consulted y m =
       let (a, ok) = g .accepted in
       let l : y < x = child-lower y m in
       let e : eqb y (lastNode b) ≡ false = ne-eqb y (lastNode b) (omega arith) in
-      let f : getD lows y 0 ≡ min (figure before y) (firstWanted (nodeAt b x) (figure before x)) = rw (e, parent-is b a ok x o y m) at (g .low y (omega arith)) in
+      let f : getD lows y 0 ≡ min (figure before y) (firstWanted (nodeAt b x) (figure before x) .0) = rw (e, parent-is b a ok x o y m) at (g .low y (omega arith)) in
       omega arith
 
   module _ {firsts rows at : List ℕ} {n : ℕ} (t : SetsBelow b os ns vs count before after times base w lows firsts rows at n x) where
@@ -87,7 +89,7 @@ module _ {b os ns vs : List ℕ} {count : ℕ} {before after times : List ℕ} {
           sets = t .placed y l;
         }
 
-    pub ready : 32 ≤ length firsts → Ready b w rows at firsts lows masks after times base points n (figure before x) (figure after x) (nodeAt b x)
+    pub ready : 32 ≤ length firsts → Ready b w rows at firsts lows masks after times base points n (point (figure before x)) (point (figure after x)) (nodeAt b x)
     ready f =
         record {
           sets = t .laid;
@@ -111,6 +113,6 @@ module _ {b os ns vs : List ℕ} {count : ℕ} {before after times : List ℕ} {
           seen = λ y m j u v.
               let l : y < x = child-lower y m in
               let k : y < nodeCount b = omega arith in
-              ap (λ t. getD (t .rows) (j .0 - t .low) []) (lower-turn b os ns vs count before after times base w x y (omega arith) l) ∙ rows-at b os ns vs count before after times base w y k j
+              ap (λ t. getD (t .rows) (j .0 - t .low .0) []) (lower-turn b os ns vs count before after times base w x y (omega arith) l) ∙ rows-at b os ns vs count before after times base w y k j
               ∙ ap (λ a. getD (turnIn b os ns vs count before after times base w y .rows) (j .0 - a) []) (sym (g .low y k)) ∙ sym (t .there y l (j .0 - getD lows y 0) (omega arith));
         }

@@ -50,21 +50,21 @@ no-point p a zero h = refl
 no-point p a (suc n) h = rw (h (point a) (omega arith) (omega arith)) (no-point p (suc a) n (λ j u o. h j (omega arith) (omega arith)))
 
 -- a node's figures: the points from which on it has and keeps its sets, and those that it newly settles
-pub record Figures (x most n low want start end : ℕ) : Type 0 where
+pub record Figures (x most n : ℕ) (low want start end : Point) : Type 0 where
   pub node : x < 32
   pub inside : x < n
   pub room : most * x + most ≤ most * n
-  pub begun : low ≤ start
-  pub ordered : start ≤ end
-  pub kept-on : low ≤ want
-  pub kept-end : want ≤ end
-  pub new : end - start ≤ most
-  pub span : end - low ≤ 65
-  pub small : end ≤ 10000001
+  pub begun : low .0 ≤ start .0
+  pub ordered : start .0 ≤ end .0
+  pub kept-on : low .0 ≤ want .0
+  pub kept-end : want .0 ≤ end .0
+  pub new : end .0 - start .0 ≤ most
+  pub span : end .0 - low .0 ≤ 65
+  pub small : end .0 ≤ 10000001
 
-module _ {b os ns vs : List ℕ} {count : ℕ} {before after times : List ℕ} {base : ℕ} {w lows wants masks : List ℕ} {points most : ℕ}
+module _ {b os ns vs : List ℕ} {count : ℕ} {before after times : List ℕ} {base : Point} {w lows wants masks : List ℕ} {points most : ℕ}
     (g : Begun b os ns vs count before after times base w lows wants masks points most) where
-  pub figures : (x : ℕ) → x < nodeCount b → Figures x most (nodeCount b) (getD lows x 0) (getD wants x 0) (figure before x) (figure after x)
+  pub figures : (x : ℕ) → x < nodeCount b → Figures x most (nodeCount b) (point (getD lows x 0)) (point (getD wants x 0)) (point (figure before x)) (point (figure after x))
   figures x o =
       let (a, ok) = g .accepted in
       let within : x + 1 ≤ nodeCount b = omega arith in
@@ -107,11 +107,11 @@ module _ {b os ns vs : List ℕ} {count : ℕ} {before after times : List ℕ} {
           small = omega (arith, t .few-rows, t .within, r .small);
         }
 
-    entries-here : entriesFrom os ns vs cursor (count - cursor) ≡ setEntries x (held (entriesFrom os ns vs 0 count) x) (getD lows x 0) own ++ (agedEntries x keptPairs ++ later)
+    entries-here : entriesFrom os ns vs cursor (count - cursor) ≡ setEntries x (held (entriesFrom os ns vs 0 count) x) (point (getD lows x 0)) own ++ (agedEntries x keptPairs ++ later)
     unfolding entriesIn
     entries-here =
         t .left ∙ gather-first (entriesIn b os ns vs count before after times base w) x (nodeCount b) o
-        ∙ rw (← (g .low x o)) (append-assoc (setEntries x (held (entriesFrom os ns vs 0 count) x) (getD lows x 0) own) (agedEntries x keptPairs) later)
+        ∙ rw (← (g .low x o)) (append-assoc (setEntries x (held (entriesFrom os ns vs 0 count) x) (point (getD lows x 0)) own) (agedEntries x keptPairs) later)
 
     -- what its turn gives at set q behind its first, and at a point; at a kept point, and at a new one
     abbrev theirs : ℕ → List (List ℕ)
@@ -129,7 +129,7 @@ module _ {b os ns vs : List ℕ} {count : ℕ} {before after times : List ℕ} {
     new-at : (q : ℕ) → theirs (own + q) ≡ getD (fresh b os ns vs count before after times base w x o) q []
     new-at q = rw (g .low x o) (rows-new b os ns vs count before after times base w x o q)
 
-    module _ {rows' at' : List ℕ} {p r : ℕ} (n : NodeRead os ns vs cursor count x (getD lows x 0) own rows at rows' at' sets p r) where
+    module _ {rows' at' : List ℕ} {p r : ℕ} (n : NodeRead os ns vs cursor count x (point (getD lows x 0)) own rows at rows' at' sets p r) where
       read-sets : Extended rows at rows' at' sets own (λ k. held (entriesFrom os ns vs 0 count) x (point (getD lows x 0 + k))) × (entriesFrom os ns vs p (count - p) ≡ agedEntries x keptPairs ++ later)
       read-sets =
           n .read .read (held (entriesFrom os ns vs 0 count) x) (agedEntries x keptPairs ++ later) entries-here
@@ -169,7 +169,7 @@ module _ {b os ns vs : List ℕ} {count : ℕ} {before after times : List ℕ} {
 
       module _ {node : Node} (is : node ≡ nodeAt b x) where
         pub finishable : {ages paired spareAges sparePaired : List ℕ} → Roomy rows at firsts ages paired spareAges sparePaired count most (nodeCount b)
-            → Finishable b w rows' at' (set firsts x sets) lows masks after times base points (sets + own) sets (getD lows x 0) (figure before x) (figure after x) (getD wants x 0) node ages₀ values₀ (r - p) ages paired spareAges sparePaired
+            → Finishable b w rows' at' (set firsts x sets) lows masks after times base points (sets + own) sets (point (getD lows x 0)) (point (figure before x)) (point (figure after x)) (point (getD wants x 0)) node ages₀ values₀ (r - p) ages paired spareAges sparePaired
         finishable m =
             let f = figures x o in
             let k = n .read .taken in
@@ -200,8 +200,8 @@ module _ {b os ns vs : List ℕ} {count : ℕ} {before after times : List ℕ} {
         seen = rw is (same g x o opened)
 
         module _ {rows'' at'' os₁ ns₁ vs₁ os₂ ns₂ vs₂ : List ℕ} {e : Ended}
-            (rest : FinishesNew b w rows' at' (set firsts x sets) lows masks after times base x sets (getD lows x 0) (figure before x) (figure after x) (getD wants x 0) node (pairsFrom ages₀ values₀ 0 (r - p)) rows'' at'' (sets + own) os₁ ns₁ vs₁ kept os₂ ns₂ vs₂ e) where
-          ends : Finishes new (fresh b os ns vs count before after times base w x o) keptPairs (newPairs (sight b os ns vs count before after times base w x) (nodeAt b x) (figure before x) new keptPairs) x sets (getD lows x 0) (getD wants x 0) (figure after x) rows' at' rows'' at'' (sets + own) os₁ ns₁ vs₁ kept os₂ ns₂ vs₂ e
+            (rest : FinishesNew b w rows' at' (set firsts x sets) lows masks after times base x sets (point (getD lows x 0)) (point (figure before x)) (point (figure after x)) (point (getD wants x 0)) node (pairsFrom ages₀ values₀ 0 (r - p)) rows'' at'' (sets + own) os₁ ns₁ vs₁ kept os₂ ns₂ vs₂ e) where
+          ends : Finishes new (fresh b os ns vs count before after times base w x o) keptPairs (newPairs (sight b os ns vs count before after times base w x) (nodeAt b x) (point (figure before x)) new keptPairs) x sets (point (getD lows x 0)) (point (getD wants x 0)) (point (figure after x)) rows' at' rows'' at'' (sets + own) os₁ ns₁ vs₁ kept os₂ ns₂ vs₂ e
           ends = rw (is, held-here) at (rest .gives (sight b os ns vs count before after times base w x) seen)
 
           -- one of the new points is crowded
@@ -216,7 +216,7 @@ module _ {b os ns vs : List ℕ} {count : ℕ} {before after times : List ℕ} {
               any-of (λ i. ltb mostRows (length (theirsAt i))) (points-of {j = j} (figure before x) new (omega arith) (omega arith)) (lt-ltb mostRows (length (theirsAt j)) (rw same many))
 
           module _ {k : ℕ} (long : x < length firsts) (told : e ≡ Kept k) where
-            finished : Finished new (fresh b os ns vs count before after times base w x o) keptPairs (newPairs (sight b os ns vs count before after times base w x) (nodeAt b x) (figure before x) new keptPairs) x sets (getD lows x 0) (getD wants x 0) (figure after x) rows' at' rows'' at'' (sets + own) os₁ ns₁ vs₁ kept os₂ ns₂ vs₂ k
+            finished : Finished new (fresh b os ns vs count before after times base w x o) keptPairs (newPairs (sight b os ns vs count before after times base w x) (nodeAt b x) (point (figure before x)) new keptPairs) x sets (point (getD lows x 0)) (point (getD wants x 0)) (point (figure after x)) rows' at' rows'' at'' (sets + own) os₁ ns₁ vs₁ kept os₂ ns₂ vs₂ k
             finished = rw told at ends
 
             whole : Extended rows at rows'' at'' sets (own + new) theirs
@@ -232,7 +232,7 @@ module _ {b os ns vs : List ℕ} {count : ℕ} {before after times : List ℕ} {
                 below-own (rw total at (below-later opened (finished .more) (finished .sets))) (omega arith) (λ q l. ap (λ a. setIn rows'' at'' (a + q)) first ∙ whole .sets q (omega arith))
 
             -- the node's set at a point
-            set-there : (j : Point) → getD lows x 0 ≤ j .0 → j .0 < figure after x → setAt rows'' at'' sets (getD lows x 0) j ≡ theirsAt j
+            set-there : (j : Point) → getD lows x 0 ≤ j .0 → j .0 < figure after x → setAt rows'' at'' sets (point (getD lows x 0)) j ≡ theirsAt j
             set-there j u v = let f = figures x o in whole .sets (j .0 - getD lows x 0) (omega arith) ∙ sym (point-rows j)
 
             calm-here : crowdedIn b os ns vs count before after times base w x ≡ false
@@ -242,7 +242,7 @@ module _ {b os ns vs : List ℕ} {count : ℕ} {before after times : List ℕ} {
                 no-point (λ j. ltb mostRows (length (theirsAt j))) (figure before x) new
                 (λ j u v. le-ltb mostRows (length (theirsAt j)) (omega (arith, ap length (set-there j (omega arith) (omega arith)), set-few (below-next .laid) (sets + (j .0 - getD lows x 0)) (omega arith))))
 
-            entries-out : keeps x rows'' at'' sets (getD lows x 0) (getD wants x 0) (figure after x) (newPairs (sight b os ns vs count before after times base w x) (nodeAt b x) (figure before x) new keptPairs) ≡ entriesOut b os ns vs count before after times base w x
+            entries-out : keeps x rows'' at'' sets (point (getD lows x 0)) (point (getD wants x 0)) (point (figure after x)) (newPairs (sight b os ns vs count before after times base w x) (nodeAt b x) (point (figure before x)) new keptPairs) ≡ entriesOut b os ns vs count before after times base w x
             unfolding entriesOut
             entries-out =
                 let f = figures x o in

@@ -6,6 +6,7 @@ use mathlib.Core.List.{List, []}
 use lib.ListN.{length, getD}
 use Rattle.meaning.specs.Lists.{range, gather}
 use Rattle.meaning.specs.RuleFile.{nodeCount}
+use Rattle.meaning.specs.declared.Point.{Point}
 use Rattle.room.specs.Room.{setIn}
 use Rattle.shelf.specs.Entries.{entriesFrom, Packed}
 use Rattle.shelving.specs.Shelved.{Loaded, PairsEnd}
@@ -16,11 +17,11 @@ use Rattle.turns.specs.declared.Moved.the-variants.{Stopped, To}
 use Rattle.turns.specs.Turns.{figure, turnIn, crowdedIn, entriesOut, entriesIn}
 
 -- node x's kept sets at n points from low on are loaded behind the others; its pairs stand from entry p to r
-pub record NodeRead (os ns vs : List ℕ) (cursor count x low n : ℕ) (rows at rows' at' : List ℕ) (sets p r : ℕ) : Type 0 where
+pub record NodeRead (os ns vs : List ℕ) (cursor count x : ℕ) (low : Point) (n : ℕ) (rows at rows' at' : List ℕ) (sets p r : ℕ) : Type 0 where
   pub read : Loaded os ns vs cursor count x low n rows at rows' at' sets p
   pub pairs : PairsEnd os p count x r
 
-module _ (b os ns vs : List ℕ) (count : ℕ) (before after times : List ℕ) (base : ℕ) (w : List ℕ) where
+module _ (b os ns vs : List ℕ) (count : ℕ) (before after times : List ℕ) (base : Point) (w : List ℕ) where
   -- n sets stand, among them those of the first x nodes: from its first set on, each node's rows from its low point on
   pub record SetsBelow (lows firsts rows at : List ℕ) (n x : ℕ) : Type 0 where
     pub laid : Sets rows at n

@@ -30,7 +30,7 @@ abbrev pub figure : List ℕ → ℕ → ℕ
 figure counts y = getD counts y 0
 
 -- b is the rule's bytes and w the event's words; the kept entries stand in os, ns and vs; how many points each node had settled and has settled now; the retained times, of which the first is point base's
-module _ (b os ns vs : List ℕ) (count : ℕ) (before after times : List ℕ) (base : ℕ) (w : List ℕ) where
+module _ (b os ns vs : List ℕ) (count : ℕ) (before after times : List ℕ) (base : Point) (w : List ℕ) where
   -- the turn of node x
   unfoldable pub turnIn : ℕ → Turn
   turnIn x = getD (turnsTo b (entriesFrom os ns vs 0 count) (stampIn base times) (figure before) (figure after) (pointOf b w .rows) (nodeCount b)) x noTurn
@@ -44,13 +44,13 @@ module _ (b os ns vs : List ℕ) (count : ℕ) (before after times : List ℕ) (
   unfoldable pub entriesOut : ℕ → List Entry
   unfolding turnIn
   entriesOut x =
-      setEntries x (rowsOfTurn (turnIn x)) (wantedFrom b (figure after) x) (figure after x - wantedFrom b (figure after) x)
+      setEntries x (rowsOfTurn (turnIn x)) (wantedFrom b (figure after) x) (figure after x - wantedFrom b (figure after) x .0)
       ++ agedEntries x (turnIn x .pairs)
 
   -- the entries of node x as the call begins
   unfoldable pub entriesIn : ℕ → List Entry
   entriesIn x =
-      setEntries x (held (entriesFrom os ns vs 0 count) x) (wantedFrom b (figure before) x) (figure before x - wantedFrom b (figure before) x)
+      setEntries x (held (entriesFrom os ns vs 0 count) x) (wantedFrom b (figure before) x) (figure before x - wantedFrom b (figure before) x .0)
       ++ agedEntries x (heldPairs (entriesFrom os ns vs 0 count) x)
 
   -- what must hold as the turns begin, in a log of so many points with the event's: an accepted rule, the entries in file order, each node's figures, and that no node settles more points than `most`
@@ -59,22 +59,22 @@ module _ (b os ns vs : List ℕ) (count : ℕ) (before after times : List ℕ) (
     pub stand : Stands os ns vs count
     pub few-kept : count ≤ mostKept
     pub entries : entriesFrom os ns vs 0 count ≡ gather entriesIn (range 0 (nodeCount b))
-    pub few-rows : (x : ℕ) → x < nodeCount b → (j : Point) → wantedFrom b (figure before) x ≤ j .0 → j .0 < figure before x → length (held (entriesFrom os ns vs 0 count) x j) ≤ mostRows
+    pub few-rows : (x : ℕ) → x < nodeCount b → (j : Point) → wantedFrom b (figure before) x .0 ≤ j .0 → j .0 < figure before x → length (held (entriesFrom os ns vs 0 count) x j) ≤ mostRows
     pub many-before : length before ≡ nodeCount b
     pub many-after : length after ≡ nodeCount b
     pub many-lows : nodeCount b ≤ length lows
     pub many-wants : nodeCount b ≤ length wants
     pub many-masks : nodeCount b ≤ length masks
-    pub low : (x : ℕ) → x < nodeCount b → getD lows x 0 ≡ wantedFrom b (figure before) x
-    pub want : (x : ℕ) → x < nodeCount b → getD wants x 0 ≡ wantedFrom b (figure after) x
+    pub low : (x : ℕ) → x < nodeCount b → getD lows x 0 ≡ wantedFrom b (figure before) x .0
+    pub want : (x : ℕ) → x < nodeCount b → getD wants x 0 ≡ wantedFrom b (figure after) x .0
     pub mask : (x : ℕ) → x < nodeCount b → (v : ℕ) → v < 4 → inMask (getD masks x 0) v ≡ free (formulaAt b x) v
-    pub low-before : (x : ℕ) → x < nodeCount b → wantedFrom b (figure before) x ≤ figure before x
-    pub low-want : (x : ℕ) → x < nodeCount b → wantedFrom b (figure before) x ≤ wantedFrom b (figure after) x
-    pub want-after : (x : ℕ) → x < nodeCount b → wantedFrom b (figure after) x ≤ figure after x
+    pub low-before : (x : ℕ) → x < nodeCount b → wantedFrom b (figure before) x .0 ≤ figure before x
+    pub low-want : (x : ℕ) → x < nodeCount b → wantedFrom b (figure before) x .0 ≤ wantedFrom b (figure after) x .0
+    pub want-after : (x : ℕ) → x < nodeCount b → wantedFrom b (figure after) x .0 ≤ figure after x
     pub before-after : (x : ℕ) → x < nodeCount b → figure before x ≤ figure after x
     pub after-most : (x : ℕ) → x < nodeCount b → figure after x ≤ points
     pub new-most : (x : ℕ) → x < nodeCount b → figure after x - figure before x ≤ most
-    pub span : (x : ℕ) → x < nodeCount b → figure after x - wantedFrom b (figure before) x ≤ 65
+    pub span : (x : ℕ) → x < nodeCount b → figure after x - wantedFrom b (figure before) x .0 ≤ 65
     pub step : (x : ℕ) → x < nodeCount b → figure after x ≡ advance (stampIn base times) points (figure after) (figure before x) (nodeAt b x)
     pub some-points : points ≤ 10000001
     pub event : EventThere w

@@ -49,7 +49,7 @@ fn load_node(
     sets: usize,
 ) -> Found
     requires { ⌜ (cursor ≤ count) × Stands (now owners) (now numbers) (now values) count × Spaces (now rows) (now at) sets n (count - cursor) × (x < 2147483648) × (low .0 + n < 4294967296) ⌝ }
-    ensures { λ r. ⌜ NodeRead (now (owners .entry)) (now (numbers .entry)) (now (values .entry)) cursor count x (low .0) n (now (rows .entry)) (now (at .entry)) (now (rows .exit)) (now (at .exit)) sets (r .pairs) (r .end) ⌝ }
+    ensures { λ r. ⌜ NodeRead (now (owners .entry)) (now (numbers .entry)) (now (values .entry)) cursor count x low n (now (rows .entry)) (now (at .entry)) (now (rows .exit)) (now (at .exit)) sets (r .pairs) (r .end) ⌝ }
 {
     let pairs = shelving::load_sets(
         owners,
@@ -98,10 +98,10 @@ fn node_turn(
     x: u8,
     place: Place,
 ) -> Moved
-    requires { ⌜ Begun (now rule) (now owners) (now numbers) (now values) count (now before) (now after) (now times) (base .0) (now event) (now lows) (now wants) (now masks) points most ⌝ }
+    requires { ⌜ Begun (now rule) (now owners) (now numbers) (now values) count (now before) (now after) (now times) base (now event) (now lows) (now wants) (now masks) points most ⌝ }
     requires { ⌜ Roomy (now rows) (now at) (now firsts) (now ages) (now paired) (now «spare_ages») (now «spare_paired») count most (nodeCount (now rule)) × Stands (now «out_owners») (now «out_numbers») (now «out_values») mostKept ⌝ }
-    requires { ⌜ TurnedTo (now rule) (now owners) (now numbers) (now values) count (now before) (now after) (now times) (base .0) (now event) (now lows) most (now firsts) (now rows) (now at) x (place .cursor) (place .sets) (place .kept) × (x < nodeCount (now rule)) ⌝ }
-    ensures { λ r. ⌜ TurnGives (now (rule .entry)) (now (owners .entry)) (now (numbers .entry)) (now (values .entry)) count (now (before .entry)) (now (after .entry)) (now (times .entry)) (base .0) (now (event .entry)) (now (lows .entry)) most (now (firsts .exit)) (now (rows .exit)) (now (at .exit)) x (place .kept) (now («out_owners» .entry)) (now («out_numbers» .entry)) (now («out_values» .entry)) (now («out_owners» .exit)) (now («out_numbers» .exit)) (now («out_values» .exit)) r ⌝ }
+    requires { ⌜ TurnedTo (now rule) (now owners) (now numbers) (now values) count (now before) (now after) (now times) base (now event) (now lows) most (now firsts) (now rows) (now at) x (place .cursor) (place .sets) (place .kept) × (x < nodeCount (now rule)) ⌝ }
+    ensures { λ r. ⌜ TurnGives (now (rule .entry)) (now (owners .entry)) (now (numbers .entry)) (now (values .entry)) count (now (before .entry)) (now (after .entry)) (now (times .entry)) base (now (event .entry)) (now (lows .entry)) most (now (firsts .exit)) (now (rows .exit)) (now (at .exit)) x (place .kept) (now («out_owners» .entry)) (now («out_numbers» .entry)) (now («out_values» .entry)) (now («out_owners» .exit)) (now («out_numbers» .exit)) (now («out_values» .exit)) r ⌝ }
 {
     let node = rulenodes::node_at(rule, x);
     let i = x as usize;
@@ -199,10 +199,10 @@ pub fn all_turns(
     out_numbers: &mut [u32],
     out_values: &mut [u32],
 ) -> Turns
-    requires { ⌜ Begun (now rule) (now owners) (now numbers) (now values) count (now before) (now after) (now times) (base .0) (now event) (now lows) (now wants) (now masks) points most ⌝ }
+    requires { ⌜ Begun (now rule) (now owners) (now numbers) (now values) count (now before) (now after) (now times) base (now event) (now lows) (now wants) (now masks) points most ⌝ }
     requires { ⌜ Roomy (now rows) (now at) (now firsts) (now ages) (now paired) (now «spare_ages») (now «spare_paired») count most (nodeCount (now rule)) ⌝ }
     requires { ⌜ Stands (now «out_owners») (now «out_numbers») (now «out_values») mostKept ⌝ }
-    ensures { λ r. ⌜ TurnsGive (now (rule .entry)) (now (owners .entry)) (now (numbers .entry)) (now (values .entry)) count (now (before .entry)) (now (after .entry)) (now (times .entry)) (base .0) (now (event .entry)) (now (lows .entry)) (now (firsts .exit)) (now (rows .exit)) (now (at .exit)) (now («out_owners» .entry)) (now («out_numbers» .entry)) (now («out_values» .entry)) (now («out_owners» .exit)) (now («out_numbers» .exit)) (now («out_values» .exit)) r ⌝ }
+    ensures { λ r. ⌜ TurnsGive (now (rule .entry)) (now (owners .entry)) (now (numbers .entry)) (now (values .entry)) count (now (before .entry)) (now (after .entry)) (now (times .entry)) base (now (event .entry)) (now (lows .entry)) (now (firsts .exit)) (now (rows .exit)) (now (at .exit)) (now («out_owners» .entry)) (now («out_numbers» .entry)) (now («out_values» .entry)) (now («out_owners» .exit)) (now («out_numbers» .exit)) (now («out_values» .exit)) r ⌝ }
 {
     at[0] = 0;
     let n = rule[2];

@@ -24,7 +24,7 @@ abbrev pub leads : Left → ℕ → (Point → List (List ℕ)) → Point → Po
 leads l mask sets i j u = all (leftTest l mask sets u) (pointsFrom (i .0) (j .0 - i .0))
 
 -- a node's sets at the points from i on before m stand in the words, where set `first` is its set at point `low`
-pub record Stand (rows at : List ℕ) (first low i m : ℕ) : Type 0 where
-  pub low-most : low ≤ i
-  pub ordered : i ≤ m
-  pub laid : Laid rows at (first + (m - low))
+pub record Stand (rows at : List ℕ) (first : ℕ) (low i : Point) (m : ℕ) : Type 0 where
+  pub low-most : low .0 ≤ i .0
+  pub ordered : i .0 ≤ m
+  pub laid : Laid rows at (first + (m - low .0))

@@ -49,7 +49,7 @@ pub fn elapsed(s: Stamp, t: Stamp) -> u32
 
 // How much older pairs grow up to point i: nothing at the first point.
 pub fn grown_by(times: &[u32], base: Point, i: Point) -> u32
-    ensures { λ r. ⌜ r ≡ grownBy (stampIn (base .0) (now (times .entry))) i ⌝ }
+    ensures { λ r. ⌜ r ≡ grownBy (stampIn base (now (times .entry))) i ⌝ }
 {
     if i.0 == 0 {
         return 0;
@@ -61,7 +61,7 @@ pub fn grown_by(times: &[u32], base: Point, i: Point) -> u32
 
 // The window holds what has elapsed from a stamp to point j's.
 fn due(times: &[u32], base: Point, w: Window, start: Stamp, j: Point) -> bool
-    ensures { λ r. ⌜ r ≡ inWindow w (elapsed start (stampIn (base .0) (now (times .entry)) j)) ⌝ }
+    ensures { λ r. ⌜ r ≡ inWindow w (elapsed start (stampIn base (now (times .entry)) j)) ⌝ }
 {
     in_window(w, elapsed(start, progress::time_in(times, base, j)))
 }
@@ -91,8 +91,8 @@ fn passes(left: Left, found: bool) -> bool
 
 // The row is in a node's set at point k.
 fn found_at(rows: &[u32], at: &[u32], first: usize, low: Point, k: Point, r: Row) -> bool
-    requires { ⌜ Stand (now rows) (now at) first (low .0) (k .0) (k .0 + 1) ⌝ }
-    ensures { λ t. ⌜ t ≡ lookUp (wordsOf r) (setAt (now (rows .entry)) (now (at .entry)) first (low .0) k) ⌝ }
+    requires { ⌜ Stand (now rows) (now at) first low k (k .0 + 1) ⌝ }
+    ensures { λ t. ⌜ t ≡ lookUp (wordsOf r) (setAt (now (rows .entry)) (now (at .entry)) first low k) ⌝ }
 {
     let set = set_part(at, first, low, k);
     rowset::contains(rows, set.from, set.to, r)
@@ -109,8 +109,8 @@ fn passes_from(
     i: Point,
     j: Point,
 ) -> bool
-    requires { ⌜ Stand (now rows) (now at) fa (la .0) (i .0) (j .0) ⌝ }
-    ensures { λ t. ⌜ t ≡ all (passesAt left (setAt (now (rows .entry)) (now (at .entry)) fa (la .0)) (wordsOf r)) (pointsFrom (i .0) (j .0 - i .0)) ⌝ }
+    requires { ⌜ Stand (now rows) (now at) fa la i (j .0) ⌝ }
+    ensures { λ t. ⌜ t ≡ all (passesAt left (setAt (now (rows .entry)) (now (at .entry)) fa la) (wordsOf r)) (pointsFrom (i .0) (j .0 - i .0)) ⌝ }
 {
     let end = j.0;
     let mut k = i.0;
@@ -136,8 +136,8 @@ fn leads(
     i: Point,
     j: Point,
 ) -> bool
-    requires { ⌜ Stand (now rows) (now at) fa (la .0) (i .0) (j .0) ⌝ }
-    ensures { λ t. ⌜ t ≡ leads left mask (setAt (now (rows .entry)) (now (at .entry)) fa (la .0)) i j (wordsOf u) ⌝ }
+    requires { ⌜ Stand (now rows) (now at) fa la i (j .0) ⌝ }
+    ensures { λ t. ⌜ t ≡ leads left mask (setAt (now (rows .entry)) (now (at .entry)) fa la) i j (wordsOf u) ⌝ }
 {
     if let Left::Always = left {
         return true;
@@ -160,10 +160,10 @@ fn put_leading(
     out: &mut [u32],
     n: usize,
 ) -> usize
-    requires { ⌜ Stand (now rows) (now at) fa (la .0) (i .0) (j .0) ⌝ }
+    requires { ⌜ Stand (now rows) (now at) fa la i (j .0) ⌝ }
     requires { ⌜ Run (now rows) from to ⌝ }
     requires { ⌜ Room (now out) n ⌝ }
-    ensures { λ k. ⌜ Added (now (out .entry)) n (now (out .exit)) k (select (leads left mask (setAt (now (rows .entry)) (now (at .entry)) fa (la .0)) i j) (rowsFrom (now (rows .entry)) from (to - from))) ⌝ }
+    ensures { λ k. ⌜ Added (now (out .entry)) n (now (out .exit)) k (select (leads left mask (setAt (now (rows .entry)) (now (at .entry)) fa la) i j) (rowsFrom (now (rows .entry)) from (to - from))) ⌝ }
 {
     let mut k = n;
     let mut x = from;
@@ -192,10 +192,10 @@ fn put_point_if(
     out: &mut [u32],
     n: usize,
 ) -> usize
-    requires { ⌜ Stand (now rows) (now at) fa (la .0) (i .0) (j .0) ⌝ }
-    requires { ⌜ Stand (now rows) (now at) fb (lb .0) (j .0) (j .0 + 1) ⌝ }
+    requires { ⌜ Stand (now rows) (now at) fa la i (j .0) ⌝ }
+    requires { ⌜ Stand (now rows) (now at) fb lb j (j .0 + 1) ⌝ }
     requires { ⌜ Room (now out) n ⌝ }
-    ensures { λ k. ⌜ Added (now (out .entry)) n (now (out .exit)) k (cond ok (leading (leftTest left mask (setAt (now (rows .entry)) (now (at .entry)) fa (la .0))) (setAt (now (rows .entry)) (now (at .entry)) fb (lb .0)) i j) []) ⌝ }
+    ensures { λ k. ⌜ Added (now (out .entry)) n (now (out .exit)) k (cond ok (leading (leftTest left mask (setAt (now (rows .entry)) (now (at .entry)) fa la)) (setAt (now (rows .entry)) (now (at .entry)) fb lb) i j) []) ⌝ }
 {
     if ok {
         let set = set_part(at, fb, lb, j);
@@ -222,10 +222,10 @@ pub fn until(
     out: &mut [u32],
     n: usize,
 ) -> usize
-    requires { ⌜ Stand (now rows) (now at) fa (la .0) (i .0) m ⌝ }
-    requires { ⌜ Stand (now rows) (now at) fb (lb .0) (i .0) m ⌝ }
+    requires { ⌜ Stand (now rows) (now at) fa la i m ⌝ }
+    requires { ⌜ Stand (now rows) (now at) fb lb i m ⌝ }
     requires { ⌜ Room (now out) n ⌝ }
-    ensures { λ k. ⌜ Added (now (out .entry)) n (now (out .exit)) k (untilRows (stampIn (base .0) (now (times .entry))) m w (leftTest left mask (setAt (now (rows .entry)) (now (at .entry)) fa (la .0))) (setAt (now (rows .entry)) (now (at .entry)) fb (lb .0)) i) ⌝ }
+    ensures { λ k. ⌜ Added (now (out .entry)) n (now (out .exit)) k (untilRows (stampIn base (now (times .entry))) m w (leftTest left mask (setAt (now (rows .entry)) (now (at .entry)) fa la)) (setAt (now (rows .entry)) (now (at .entry)) fb lb) i) ⌝ }
 {
     let start = progress::time_in(times, base, i);
     let mut k = n;

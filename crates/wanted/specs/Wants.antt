@@ -5,7 +5,8 @@ use mathlib.Core.Bool.{cond}
 use mathlib.Core.List.{List}
 use lib.ListN.{getD}
 use Rattle.meaning.specs.RuleFile.{isOneOf}
+use Rattle.meaning.specs.declared.Point.{Point}
 
 -- the words of the nodes cs are now the lower of their counts and first; the others stay
-pub record Wants (counts : List ℕ) (first : ℕ) (cs out out' : List ℕ) : Type 0 where
-  pub words : (y : ℕ) → getD out' y 0 ≡ cond (isOneOf cs y) (min (getD counts y 0) first) (getD out y 0)
+pub record Wants (counts : List ℕ) (first : Point) (cs out out' : List ℕ) : Type 0 where
+  pub words : (y : ℕ) → getD out' y 0 ≡ cond (isOneOf cs y) (min (getD counts y 0) (first .0)) (getD out y 0)

@@ -1,5 +1,6 @@
 // The point from which on each node's rows are kept for its parent.
 use meaning::Node;
+use meaning::Point;
 use rulenodes::Children;
 ghost use mathlib.Core.Path.{_≡_};
 ghost use mathlib.Core.List.{[], _∷_, List·Memᴰ};
@@ -13,39 +14,39 @@ ghost use Rattle.progress.specs.Bounds.{Within};
 ghost use Rattle.wanted.specs.Wants.{Wants};
 
 // The first point of a child that an unsettled point of its parent consults, with p points of the parent settled.
-fn first_wanted(node: Node, p: u32) -> u32
+fn first_wanted(node: Node, p: u32) -> Point
     requires { ⌜ p < 4294967295 ⌝ }
     ensures { λ r. ⌜ r ≡ firstWanted node p ⌝ }
 {
     match node {
-        Node::Atom(_, _) => p,
-        Node::And(_, _) => p,
-        Node::AndNot(_, _) => p,
-        Node::Keep(_, _, _) => p,
-        Node::Or(_, _) => p,
-        Node::Exists(_, _) => p,
-        Node::Previous(_, _) => progress::less(p, 1),
-        Node::Next(_, _) => p + 1,
-        Node::Since(_, _, _) => p,
-        Node::NotSince(_, _, _) => p,
-        Node::Until(_, _, _) => p,
-        Node::NotUntil(_, _, _) => p,
-        Node::Once(_, _) => p,
-        Node::Eventually(_, _) => p,
+        Node::Atom(_, _) => Point(p),
+        Node::And(_, _) => Point(p),
+        Node::AndNot(_, _) => Point(p),
+        Node::Keep(_, _, _) => Point(p),
+        Node::Or(_, _) => Point(p),
+        Node::Exists(_, _) => Point(p),
+        Node::Previous(_, _) => Point(progress::less(p, 1)),
+        Node::Next(_, _) => Point(p + 1),
+        Node::Since(_, _, _) => Point(p),
+        Node::NotSince(_, _, _) => Point(p),
+        Node::Until(_, _, _) => Point(p),
+        Node::NotUntil(_, _, _) => Point(p),
+        Node::Once(_, _) => Point(p),
+        Node::Eventually(_, _) => Point(p),
     }
 }
 
 // A child's rows are wanted from a point on, but no later than behind those that it has settled.
-fn want_child(counts: &[u32], first: u32, c: u8, out: &mut [u32])
+fn want_child(counts: &[u32], first: Point, c: u8, out: &mut [u32])
     requires { ⌜ (c < length (now counts)) × (c < length (now out)) ⌝ }
     ensures { λ _. ⌜ Wants (now (counts .entry)) first (c ∷ []) (now (out .entry)) (now (out .exit)) ⌝ }
 {
     let count = counts[c as usize];
-    out[c as usize] = progress::lower(count, first);
+    out[c as usize] = progress::lower(count, first.0);
 }
 
 // The same for a node's children.
-fn want_children(counts: &[u32], first: u32, children: Children, out: &mut [u32])
+fn want_children(counts: &[u32], first: Point, children: Children, out: &mut [u32])
     requires { ⌜ ((c : ℕ) → List·Memᴰ c (childrenIn children) → (c < length (now counts)) × (c < length (now out))) ⌝ }
     ensures { λ _. ⌜ Wants (now (counts .entry)) first (childrenIn children) (now (out .entry)) (now (out .exit)) ⌝ }
 {
@@ -63,7 +64,7 @@ fn want_children(counts: &[u32], first: u32, children: Children, out: &mut [u32]
 pub fn wanted(rule: &[u8], counts: &[u32], out: &mut [u32])
     requires { ⌜ ((a : Accepted) × (checking (now rule) ≡ given a)) ⌝ }
     requires { ⌜ (nodeCount (now rule) ≤ length (now counts)) × (nodeCount (now rule) ≤ length (now out)) × Within 4294967294 (now counts) ⌝ }
-    ensures { λ _. ⌜ ((x : ℕ) → x < nodeCount (now (rule .entry)) → getD (now (out .exit)) x 0 ≡ wantedFrom (now (rule .entry)) (λ y. getD (now (counts .entry)) y 0) x) ⌝ }
+    ensures { λ _. ⌜ ((x : ℕ) → x < nodeCount (now (rule .entry)) → getD (now (out .exit)) x 0 ≡ wantedFrom (now (rule .entry)) (λ y. getD (now (counts .entry)) y 0) x .0) ⌝ }
 {
     let n = rule[2];
     let mut x: u8 = 0;

@@ -85,7 +85,7 @@ row-length mask r = four (cond (inMask mask 0) (r .v0 ∷ []) []) (cond (inMask 
     four a b c d = simp (length-append, append-nil)
 
 -- a triple from a point's set, its count and its time
-pub triple-same : (at : List ℕ) (first low base : ℕ) (times : List ℕ) {j q count : ℕ} {t : Stamp} → q ≡ setOf first low j → count ≡ getD at (q + 1) 0 - getD at q 0 → t ≡ stampIn base times (point j) → j ∷ t .0 ∷ count ∷ [] ≡ tripleAt at first low base times j
+pub triple-same : (at : List ℕ) (first low base : ℕ) (times : List ℕ) {j q count : ℕ} {t : Stamp} → q ≡ setOf first low j → count ≡ getD at (q + 1) 0 - getD at q 0 → t ≡ stampIn (point base) times (point j) → j ∷ t .0 ∷ count ∷ [] ≡ tripleAt at first low base times j
 triple-same at first low base times e f g = cc
 
 -- a report's words are few enough to be counted
@@ -95,29 +95,29 @@ product-below {a} {b} h k = omega (arith, mul-le-mul-right b h)
 module _ (rows at : List ℕ) (first low : ℕ) where
   -- the rows of the sets of the points
   allRows : ℕ → ℕ → List (List ℕ)
-  allRows i points = gather (setAt rows at first low) (pointsFrom i points)
+  allRows i points = gather (setAt rows at first (point low)) (pointsFrom i points)
 
   module _ (base : ℕ) (times : List ℕ) (mask : ℕ) where
     reported-triples : (i points : ℕ) → gather triple (reportedFrom rows at first low base times mask i points) ≡ gather (tripleAt at first low base times) (range i points)
     unfolding reportedFrom
     reported-triples i zero = refl
     reported-triples i (suc points) =
-        let e : length (map (reportRow (inMask mask)) (setAt rows at first low (point i))) ≡ getD at (setOf first low i + 1) 0 - getD at (setOf first low i) 0
-        = length-map (setAt rows at first low (point i)) (reportRow (inMask mask)) ∙ rows-length rows _ _ in
+        let e : length (map (reportRow (inMask mask)) (setAt rows at first (point low) (point i))) ≡ getD at (setOf first low i + 1) 0 - getD at (setOf first low i) 0
+        = length-map (setAt rows at first (point low) (point i)) (reportRow (inMask mask)) ∙ rows-length rows _ _ in
         rw (e, reported-triples (suc i) points)
 
     reported-rows : (i points : ℕ) → gather rowWords (reportedFrom rows at first low base times mask i points) ≡ gather (reportRow (inMask mask)) (allRows i points)
     unfolding reportedFrom allRows
     reported-rows i zero = refl
     reported-rows i (suc points) =
-        rw (gather-append (reportRow (inMask mask)) (setAt rows at first low (point i)) (allRows (suc i) points))
-        (ap₂ (λ us vs. us ++ vs) (gather-map (reportRow (inMask mask)) (setAt rows at first low (point i))) (reported-rows (suc i) points))
+        rw (gather-append (reportRow (inMask mask)) (setAt rows at first (point low) (point i)) (allRows (suc i) points))
+        (ap₂ (λ us vs. us ++ vs) (gather-map (reportRow (inMask mask)) (setAt rows at first (point low) (point i))) (reported-rows (suc i) points))
 
     reported-total : (i points : ℕ) → total (map (λ e. length (e .rows)) (reportedFrom rows at first low base times mask i points)) ≡ length (allRows i points)
     unfolding reportedFrom allRows
     reported-total i zero = refl
     reported-total i (suc points) =
-        rw (length-append (setAt rows at first low (point i)) (allRows (suc i) points), length-map (setAt rows at first low (point i)) (reportRow (inMask mask)), reported-total (suc i) points)
+        rw (length-append (setAt rows at first (point low) (point i)) (allRows (suc i) points), length-map (setAt rows at first (point low) (point i)) (reportRow (inMask mask)), reported-total (suc i) points)
 
     reported-length : (i points : ℕ) → length (reportedFrom rows at first low base times mask i points) ≡ points
     unfolding reportedFrom
@@ -137,7 +137,7 @@ module _ (rows at : List ℕ) (first low : ℕ) where
       let rest = rw (f, e) at (all-run (suc i) points next) in
       let h : getD at (setOf first low i) 0 ≤ getD at (setOf first low i + 1) 0 = m .steps (setOf first low i) (omega arith) in
       let k : getD at (setOf first low i + 1) 0 ≤ getD at (setOf first low i + suc points) 0 = rw (f, e) at (marks-rise at (setOf first low (suc i)) points (next .steps)) in
-      ap (λ us. setAt rows at first low (point i) ++ us) rest ∙ rows-join rows _ _ _ h k
+      ap (λ us. setAt rows at first (point low) (point i) ++ us) rest ∙ rows-join rows _ _ _ h k
 
 -- the words of the triples, and of the rows from row `from` to row `to`
 abbrev pub triplesOf : List ℕ → ℕ → ℕ → ℕ → List ℕ → ℕ → ℕ → List ℕ

@@ -3,7 +3,7 @@ use Prim.Native.Nat.{ℕ, _+_, _-_, _^_, _≤_, _<_}
 use mathlib.Core.List.{List, [], _∷_, map}
 use lib.ListN.{length, getD}
 use Rattle.meaning.specs.Lists.{select}
-use Rattle.meaning.specs.Log.{pointsFrom}
+use Rattle.meaning.specs.Log.{point, pointsFrom}
 use Rattle.meaning.specs.Formula.{variables}
 use Rattle.meaning.specs.Report.{Reported, reportWords}
 use Rattle.meaning.specs.Keeper.{reportRow}
@@ -33,7 +33,7 @@ tripleAt at first low base times j = j ∷ getD times (j - base) 0 ∷ (getD at 
 -- Points i, i + 1, .., as many as `points` says.
 module _ (rows at : List ℕ) (first low base : ℕ) (times : List ℕ) (mask i points : ℕ) where
   unfoldable pub reportedFrom : List Reported
-  reportedFrom = map (λ j. record { at = j; time = stampIn base times j; rows = map (reportRow (inMask mask)) (setAt rows at first low j) }) (pointsFrom i points)
+  reportedFrom = map (λ j. record { at = j; time = stampIn (point base) times j; rows = map (reportRow (inMask mask)) (setAt rows at first (point low) j) }) (pointsFrom i points)
 
   unfoldable pub words : List ℕ
   unfolding reportedFrom

@@ -2,6 +2,7 @@
 use mathlib.Core.Path.{_≡_, sym, _∙_}
 use native.Mathlib.Omega.{arith}
 use lib.ListN.{getD}
+use Rattle.meaning.specs.Log.{stamp}
 use Rattle.meaning.specs.Lists.{range}
 use Rattle.events.specs.declared.Form.the-variants as form
 use Rattle.events.specs.declared.Rows.the-variants.{Fit}
@@ -20,7 +21,7 @@ event c = sym (c .before .m .given .1) ∙ c .before .before .before .form-of .e
 fit : (c : tie.After-enum-told2) → Fit ≡ rowsOf (c .before .before .before .before .before .before .before .before .before .args .rule .now) (c .before .before .before .before .before .before .before .before .before .args .event .now) (range 0 (c .before .before .before .before .m .given .0 .0))
 fit c = sym (c .enum-told2 .given .1) ∙ c .before .before .rows-of .ensures
 
-kept : (c : tie.After-enum-told4) → Kept ≡ orderOf (getD (c .before .before .before .before .before .before .before .before .before .before .before .before .before .args .event .now) 0 0) (c .before .before .before .before .before .before .before .before .before .before .before .before .before .args .last .0)
+kept : (c : tie.After-enum-told4) → Kept ≡ orderOf (stamp (getD (c .before .before .before .before .before .before .before .before .before .before .before .before .before .args .event .now) 0 0)) (c .before .before .before .before .before .before .before .before .before .before .before .before .before .args .last)
 kept c = sym (c .enum-told4 .given .1) ∙ c .before .before .order-of .ensures
 
 form-of-requires : tie.Need-form-of-requires

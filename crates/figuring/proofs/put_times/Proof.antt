@@ -24,7 +24,7 @@ same-length : tie.Need-same-length Inv-loop μ-loop
 same-length c = length-set (c .before .loop .out) _ _ ∙ c .before .loop .inv .2 .long
 
 returns : tie.Need-returns Inv-loop μ-loop
-returns c = let s = c .before .before in let l = c .before .loop in let e : l .k ≡ length (s .args .times .now) = omega arith in all-moved (length (s .args .times .now)) (s .args .time) refl (rw e at (l .inv .2)) (s .pre)
+returns c = let s = c .before .before in let l = c .before .loop in let e : l .k ≡ length (s .args .times .now) = omega arith in all-moved (length (s .args .times .now)) (s .args .time .0) refl (rw e at (l .inv .2)) (s .pre)
 
 pub put-times-spec : {M : Type 1} → statement M
 put-times-spec =

@@ -12,10 +12,10 @@ use Rattle.formed.proofs.node_end.Tie as tie
 -- behind the sets
 sets : (c : tie.After-known-told) →
     let a = c .before .before .before .before .before .before .before .before .args in
-    SetsTo (a .owners .now) (a .numbers .now) (a .values .now) (a .count) (a .cursor) (a .x) (a .low .0) (a .end .0 - a .low .0) (a .mask) (c .before .next .given .0 .0)
+    SetsTo (a .owners .now) (a .numbers .now) (a .values .now) (a .count) (a .cursor) (a .x) (a .low) (a .end .0 - a .low .0) (a .mask) (c .before .next .given .0 .0)
 sets c =
     let a = c .before .before .before .before .before .before .before .before .args in
-    subst (SetsWalked (a .owners .now) (a .numbers .now) (a .values .now) (a .count) (a .cursor) (a .x) (a .low .0) (a .end .0 - a .low .0) (a .mask)) (c .before .next .given .1) (c .before .before .before .sets-end .ensures)
+    subst (SetsWalked (a .owners .now) (a .numbers .now) (a .values .now) (a .count) (a .cursor) (a .x) (a .low) (a .end .0 - a .low .0) (a .mask)) (c .before .next .given .1) (c .before .before .before .sets-end .ensures)
 
 -- and the pairs there
 pairs : (c : tie.After-pair-run-end) →
@@ -29,7 +29,7 @@ returns : tie.Need-returns
 returns c =
     let s = c .before .before .before .before .before .before .before in
     let a = s .args in
-    set-stuck (s .pre .0 .2) (subst (SetsWalked (a .owners .now) (a .numbers .now) (a .values .now) (a .count) (a .cursor) (a .x) (a .low .0) (a .end .0 - a .low .0) (a .mask)) (c .enum-told .given .1) (c .before .before .sets-end .ensures))
+    set-stuck (s .pre .0 .2) (subst (SetsWalked (a .owners .now) (a .numbers .now) (a .values .now) (a .count) (a .cursor) (a .x) (a .low) (a .end .0 - a .low .0) (a .mask)) (c .enum-told .given .1) (c .before .before .sets-end .ensures))
 
 pairs-fit-requires : tie.Need-pairs-fit-requires
 pairs-fit-requires c κs =

@@ -4,12 +4,13 @@ use native.Mathlib.Omega.{arith}
 use mathlib.Core.Path.{sym, _∙_}
 use borrow.Author.Tests.{not-true, not-false}
 use borrow.Author.Needs.{needs}
+use Rattle.meaning.specs.Log.{point}
 use Rattle.formed.proofs.Runs.{RunFound, run-found, SetsGoing, going-none, going-more, going-stuck, going-all}
 use Rattle.formed.proofs.sets_end.Statement.{statement}
 use Rattle.formed.proofs.sets_end.Tie as tie
 
 abbrev Inv-loop : tie.InvT-loop
-Inv-loop owners numbers values cursor count x mask owner last next₀ number₀ next number = SetsGoing owners numbers values count cursor x number₀ last mask next number
+Inv-loop owners numbers values cursor count x mask owner last next₀ number₀ next number = SetsGoing owners numbers values count cursor x (point number₀) last mask next number
 
 abbrev μ-loop : tie.MeasureT-loop
 μ-loop owners numbers values cursor count x mask owner last next₀ number₀ next number = last - number
@@ -18,7 +19,7 @@ loop-holds : tie.Need-loop-holds Inv-loop μ-loop
 loop-holds c =
     let s = c .before .before .before in
     let a = s .args in
-    going-none (a .owners .now) (a .numbers .now) (a .values .now) (a .count) (a .cursor) (a .x) (a .low .0) (a .end .0) (a .mask) (s .pre .0)
+    going-none (a .owners .now) (a .numbers .now) (a .values .now) (a .count) (a .cursor) (a .x) (a .low) (a .end .0) (a .mask) (s .pre .0)
 
 -- the run at the cursor
 found : (c : tie.After-run-end Inv-loop μ-loop) →

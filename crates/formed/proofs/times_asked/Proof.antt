@@ -3,13 +3,14 @@ use Prim.Native.Nat.{_-_}
 use mathlib.Core.Path.{_≡_, sym, ap, _∙_}
 use borrow.Author.Tests.{eq-eqb, ne-eqb}
 use borrow.Author.Needs.{needs}
+use Rattle.meaning.specs.declared.Point.{Point}
 use Rattle.method.specs.Stored.{firstRetained}
 use Rattle.formed.proofs.times_asked.Statement.{statement}
 use Rattle.formed.proofs.times_asked.Tie as tie
 
 -- how many times the counts ask
-asked : (c : tie.After-less) → let a = c .before .before .before .before .args in c .less .result ≡ a .points - firstRetained (a .points) (a .counts .now)
-asked c = let a = c .before .before .before .before .args in c .less .ensures ∙ ap (λ k. a .points - k) (c .before .first-retained .ensures)
+asked : (c : tie.After-less) → let a = c .before .before .before .before .args in c .less .result ≡ a .points - firstRetained (a .points) (a .counts .now) .0
+asked c = let a = c .before .before .before .before .args in c .less .ensures ∙ ap (λ (k : Point). a .points - k .0) (c .before .first-retained .ensures)
 
 pub times-asked-spec : {M : Type 1} → statement M
 times-asked-spec =

@@ -12,8 +12,8 @@ use Rattle.progress.proofs.advance.Statement.{statement}
 use Rattle.progress.proofs.advance.Tie as tie
 
 -- the answer at a return, from the node as one of its kinds
-answered : (s : tie.Start) {kind : Node} {r : ℕ} → s .args .node ≡ kind → r ≡ advance (stampIn (s .args .base .0) (s .args .times .now)) (s .args .n) (λ y. getD (s .args .counts .now) y 0) (s .args .from) kind → (r ≡ advance (stampIn (s .args .base .0) (s .args .times .now)) (s .args .n) (λ y. getD (s .args .counts .now) y 0) (s .args .from) (s .args .node)) × (Within (s .args .n) (s .args .counts .now) → s .args .from ≤ s .args .n → r ≤ s .args .n)
-answered s = advanced (stampIn (s .args .base .0) (s .args .times .now)) (s .args .n) (s .args .counts .now) (s .args .from)
+answered : (s : tie.Start) {kind : Node} {r : ℕ} → s .args .node ≡ kind → r ≡ advance (stampIn (s .args .base) (s .args .times .now)) (s .args .n) (λ y. getD (s .args .counts .now) y 0) (s .args .from) kind → (r ≡ advance (stampIn (s .args .base) (s .args .times .now)) (s .args .n) (λ y. getD (s .args .counts .now) y 0) (s .args .from) (s .args .node)) × (Within (s .args .n) (s .args .counts .now) → s .args .from ≤ s .args .n → r ≤ s .args .n)
+answered s = advanced (stampIn (s .args .base) (s .args .times .now)) (s .args .n) (s .args .counts .now) (s .args .from)
 
 enum-told : tie.Need-enum-told
 enum-told c = search needs

@@ -19,7 +19,7 @@ returns : tie.Need-returns
 returns c =
     let a = c .before .before .before .before .before .before .before .before .before .before .before .before .args in
     added-as (c .before .before .until-at .ensures)
-    (ap (λ m. untilRows (stampIn (a .base .0) (a .times .now)) m (a .w) (λ u k. true) (nodeSet (a .rows .now) (a .at .now) (a .firsts .now) (a .lows .now) (a .a)) (a .i)) (min-same (getD (a .counts .now) (a .a) 0)))
+    (ap (λ m. untilRows (stampIn (a .base) (a .times .now)) m (a .w) (λ u k. true) (nodeSet (a .rows .now) (a .at .now) (a .firsts .now) (a .lows .now) (a .a)) (a .i)) (min-same (getD (a .counts .now) (a .a) 0)))
 
 pub eventually-at-spec : {M : Type 1} → statement M
 eventually-at-spec = tie.close (tie.spec until-at-requires (λ c. c .before .before .until-at .ensures .long) returns)

@@ -13,7 +13,7 @@ returns : tie.Need-returns
 returns c =
     let a = c .before .before .before .before .before .before .before .before .before .before .before .before .args in
     added-as (c .before .before .copy-if .ensures)
-    (at-next (λ j. inWindow (a .w) (elapsed (stampIn (a .base .0) (a .times .now) (a .i)) (stampIn (a .base .0) (a .times .now) j))) (nodeSet (a .rows .now) (a .at .now) (a .firsts .now) (a .lows .now) (a .a)) (a .i) (c .before .before .before .before .due .ensures))
+    (at-next (λ j. inWindow (a .w) (elapsed (stampIn (a .base) (a .times .now) (a .i)) (stampIn (a .base) (a .times .now) j))) (nodeSet (a .rows .now) (a .at .now) (a .firsts .now) (a .lows .now) (a .a)) (a .i) (c .before .before .before .before .due .ensures))
 
 pub next-at-spec : {M : Type 1} → statement M
 next-at-spec = tie.close (tie.spec (λ c. search needs) (λ c κs. search needs) (λ c κs. search needs) (λ c. c .before .before .copy-if .ensures .long) returns)

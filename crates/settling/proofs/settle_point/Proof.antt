@@ -17,16 +17,16 @@ use Rattle.settling.proofs.settle_point.Tie as tie
 sight : tie.Start → Sight
 sight s =
     let a = s .args in
-    sightIn (a .rule .now) (a .event .now) (a .rows .now) (a .at .now) (a .firsts .now) (a .lows .now) (a .masks .now) (a .counts .now) (a .times .now) (a .base .0)
+    sightIn (a .rule .now) (a .event .now) (a .rows .now) (a .at .now) (a .firsts .now) (a .lows .now) (a .masks .now) (a .counts .now) (a .times .now) (a .base)
 
 own : tie.Start → List (List ℕ)
 own s = pairsFrom (s .args .ages .now) (s .args .values .now) 0 (s .args .pairs)
 
 -- what is asked, for the kind that the node is
-told : (s : tie.Start) {kind : Node} → s .args .node ≡ kind → asked (s .args .rule .now) (s .args .event .now) (s .args .rows .now) (s .args .at .now) (s .args .firsts .now) (s .args .lows .now) (s .args .masks .now) (s .args .counts .now) (s .args .ages .now) (s .args .values .now) (s .args .pairs) (s .args .i .0) kind
+told : (s : tie.Start) {kind : Node} → s .args .node ≡ kind → asked (s .args .rule .now) (s .args .event .now) (s .args .rows .now) (s .args .at .now) (s .args .firsts .now) (s .args .lows .now) (s .args .masks .now) (s .args .counts .now) (s .args .ages .now) (s .args .values .now) (s .args .pairs) (s .args .i) kind
 told s e =
     let a = s .args in
-    subst (asked (a .rule .now) (a .event .now) (a .rows .now) (a .at .now) (a .firsts .now) (a .lows .now) (a .masks .now) (a .counts .now) (a .ages .now) (a .values .now) (a .pairs) (a .i .0)) e (s .pre .0)
+    subst (asked (a .rule .now) (a .event .now) (a .rows .now) (a .at .now) (a .firsts .now) (a .lows .now) (a .masks .now) (a .counts .now) (a .ages .now) (a .values .now) (a .pairs) (a .i)) e (s .pre .0)
 
 atom-requires : tie.Need-atom-requires
 atom-requires c κs =

@@ -21,7 +21,7 @@ returns : tie.Need-returns
 returns c =
     let a = c .before .before .before .before .before .before .before .before .before .before .before .before .before .before .before .before .before .before .before .before .args in
     added-as (c .before .before .until .ensures)
-    (ap (λ m. untilRows (stampIn (a .base .0) (a .times .now)) m (a .w) (leftTest (a .left) (getD (a .masks .now) (a .a) 0) (nodeSet (a .rows .now) (a .at .now) (a .firsts .now) (a .lows .now) (a .a))) (nodeSet (a .rows .now) (a .at .now) (a .firsts .now) (a .lows .now) (a .b)) (a .i)) (c .before .before .before .before .lower .ensures))
+    (ap (λ m. untilRows (stampIn (a .base) (a .times .now)) m (a .w) (leftTest (a .left) (getD (a .masks .now) (a .a) 0) (nodeSet (a .rows .now) (a .at .now) (a .firsts .now) (a .lows .now) (a .a))) (nodeSet (a .rows .now) (a .at .now) (a .firsts .now) (a .lows .now) (a .b)) (a .i)) (c .before .before .before .before .lower .ensures))
 
 pub until-at-spec : {M : Type 1} → statement M
 until-at-spec = tie.close (tie.spec (λ c. search needs) (λ c. search needs) (λ c. search needs) (λ c. search needs) (λ c. search needs) (λ c. search needs) (λ c. search needs) (λ c. search needs) (λ c. search needs) (λ c. search needs) (λ c. search needs) (λ c. search needs) (λ c. search needs) (λ c. search needs) (λ c. search needs) (λ c κs. search needs) until-requires (λ c. c .before .before .until .ensures .long) returns)

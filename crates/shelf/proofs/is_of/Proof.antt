@@ -7,8 +7,8 @@ use Rattle.shelf.proofs.is_of.Tie as tie
 
 returns : tie.Need-returns
 returns c =
-    let a = c .before .before .before .args in
-    rw (eq-eqb (getD (a .owners .now) (a .k) 0) (a .owner) (c .before .if1 .taken))
+    let a = c .before .before .before .before .args in
+    rw (eq-eqb (getD (a .owners .now) (a .k) 0) (a .owner) (c .before .before .if1 .taken))
 
 returns-2 : tie.Need-returns-2
 returns-2 c =

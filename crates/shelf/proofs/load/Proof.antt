@@ -10,14 +10,14 @@ use Rattle.shelf.proofs.load.Tie as tie
 
 -- as many rows are pushed as the run has entries
 counted : (c : tie.After-run-end) → let a = c .before .before .before .before .before .before .args in
-    c .run-end .result - a .cursor ≡ runOf (a .owners .now) (a .numbers .now) (a .cursor) (a .count) (a .owner) (a .number)
+    c .run-end .result - a .cursor ≡ runOf (a .owners .now) (a .numbers .now) (a .cursor) (a .count) (a .owner) (a .number .0)
 counted c = omega (arith, c .run-end .ensures)
 
 push-requires : tie.Need-push-requires
 push-requires c κs =
     let s = c .before .before .before .before .before .before .before .before in
     let a = s .args in
-    let w = run-within (a .owners .now) (a .numbers .now) (a .values .now) (a .cursor) (a .count) (a .owner) (a .number) (s .pre .0) in
+    let w = run-within (a .owners .now) (a .numbers .now) (a .values .now) (a .cursor) (a .count) (a .owner) (a .number .0) (s .pre .0) in
     (record { ordered = omega (arith, c .before .before .run-end .ensures); there = omega (arith, c .before .before .run-end .ensures, s .pre .1) }, rw (counted (c .before .before)) (s .pre .2))
 
 returns : tie.Need-returns

@@ -13,12 +13,12 @@ returns : tie.Need-returns
 returns c =
     let s = c .before .before .before .before .before .before .before .before in
     let a = s .args in
-    packed-one (a .k) (a .owner) (a .number) (a .row) (s .pre) (c .before .before .before .before .if1 .taken) (c .before .before .put-row .ensures)
+    packed-one (a .k) (a .owner) (a .number .0) (a .row) (s .pre) (c .before .before .before .before .if1 .taken) (c .before .before .put-row .ensures)
 
 returns-2 : tie.Need-returns-2
 returns-2 c =
     let a = c .before .before .before .before .args in
-    packed-full (a .owners .now) (a .numbers .now) (a .values .now) (a .k) (a .k + 1) (ownedBy (a .owner) (a .number) (wordsOf (a .row)) ∷ []) (omega arith) (omega (arith, c .if1 .left))
+    packed-full (a .owners .now) (a .numbers .now) (a .values .now) (a .k) (a .k + 1) (ownedBy (a .owner) (a .number .0) (wordsOf (a .row)) ∷ []) (omega arith) (omega (arith, c .if1 .left))
 
 pub put-entry-spec : {M : Type 1} → statement M
 put-entry-spec =

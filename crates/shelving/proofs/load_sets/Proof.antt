@@ -7,7 +7,7 @@ use Rattle.shelving.proofs.load_sets.Tie as tie
 
 abbrev Inv-loop : tie.InvT-loop
 Inv-loop owners numbers values cursor count x low n rows₀ at₀ sets next₀ k₀ rows at next k =
-    Loading owners numbers values cursor count x (low .0) n rows₀ at₀ rows at sets next k
+    Loading owners numbers values cursor count x low n rows₀ at₀ rows at sets next k
 
 abbrev μ-loop : tie.MeasureT-loop
 μ-loop owners numbers values cursor count x low n rows₀ at₀ sets next₀ k₀ rows at next k = n - k
@@ -16,7 +16,7 @@ loop-holds : tie.Need-loop-holds Inv-loop μ-loop
 loop-holds c =
     let s = c .before .before .before .before .before in
     let a = s .args in
-    loading-none (a .owners .now) (a .numbers .now) (a .values .now) (a .cursor) (a .count) (a .x) (a .low .0) (a .n) (s .pre .0) (s .pre .2 .laid)
+    loading-none (a .owners .now) (a .numbers .now) (a .values .now) (a .cursor) (a .count) (a .x) (a .low) (a .n) (s .pre .0) (s .pre .2 .laid)
 
 load-requires : tie.Need-load-requires Inv-loop μ-loop
 load-requires c κs =

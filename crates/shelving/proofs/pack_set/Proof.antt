@@ -10,7 +10,7 @@ returns : tie.Need-returns
 returns c =
     let p = c .before .before .before .before .before .before in
     let a = p .before .before .before .before .before .before .before .before .before .before .before .args in
-    (p .pack .ensures .0, packed-as (p .pack .ensures .1) (owned-set (a .x) (a .number) (setIn (a .rows .now) (a .at .now) (a .q))))
+    (p .pack .ensures .0, packed-as (p .pack .ensures .1) (owned-set (a .x) (a .i .0) (setIn (a .rows .now) (a .at .now) (a .q))))
 
 pub pack-set-spec : {M : Type 1} → statement M
 pack-set-spec =

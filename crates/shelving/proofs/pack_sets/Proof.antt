@@ -7,7 +7,7 @@ use Rattle.shelving.proofs.pack_sets.Tie as tie
 
 abbrev Inv-loop : tie.InvT-loop
 Inv-loop rows at first low from n x owners₀ numbers₀ values₀ kept k₀ i₀ owners numbers values k i =
-    PackingSets rows at first (low .0) (from .0) n x owners₀ numbers₀ values₀ kept owners numbers values k i
+    PackingSets rows at first low from n x owners₀ numbers₀ values₀ kept owners numbers values k i
 
 abbrev μ-loop : tie.MeasureT-loop
 μ-loop rows at first low from n x owners₀ numbers₀ values₀ kept k₀ i₀ owners numbers values k i = n - i
@@ -20,7 +20,7 @@ loop-holds c =
 
 pack-set-requires : tie.Need-pack-set-requires Inv-loop μ-loop
 pack-set-requires c κs =
-    let t = c .before .before .before .before .before in
+    let t = c .before .before .before .before .before .before in
     let l = t .before .loop in
     let s = t .before .before .before .before .before .before .before in
     (set-there (s .pre .0) (l .i) (t .loop-test .taken), set-run (s .pre .0) (l .i) (t .loop-test .taken), room-stays (l .inv .done) (s .pre .1), packs-small (s .pre .0) (l .inv), s .pre .2)
@@ -28,7 +28,7 @@ pack-set-requires c κs =
 loop-again : tie.Need-loop-again Inv-loop μ-loop
 loop-again c =
     let p = c .before .before .before .before .before .before in
-    let t = p .before .before .before .before .before .before in
+    let t = p .before .before .before .before .before .before .before in
     let s = t .before .before .before .before .before .before .before in
     packs-more (s .pre .0) (t .before .loop .inv) (t .loop-test .taken) (p .pack-set .ensures .0) (p .pack-set .ensures .1)
 

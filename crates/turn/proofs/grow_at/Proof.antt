@@ -22,7 +22,7 @@ returns c =
     let r = c .before .before .before .before .before .before .before .before .before in
     let s = entry r in
     let a = s .args in
-    grow-made (a .i) (s .pre .0) (r .before .set-part .ensures) (r .set-part2 .ensures) (a .left) (a .w) (a .times .now) (a .base .0) (c .before .before .before .before .before .before .before .grown-by .result) (a .old) (pairsFrom (a .old-ages .now) (a .old-values .now) 0 (a .old))
+    grow-made (a .i) (s .pre .0) (r .before .set-part .ensures) (r .set-part2 .ensures) (a .left) (a .w) (a .times .now) (a .base) (c .before .before .before .before .before .before .before .grown-by .result) (a .old) (pairsFrom (a .old-ages .now) (a .old-values .now) 0 (a .old))
     (c .before .before .before .before .before .before .before .grown-by .ensures) (c .before .before .before .before .grow .ensures)
 
 pub grow-at-spec : {M : Type 1} → statement M

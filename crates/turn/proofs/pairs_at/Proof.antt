@@ -16,18 +16,18 @@ abbrev held : tie.Start → List (List ℕ)
 held s = pairsFrom (s .args .old-ages .now) (s .args .old-values .now) 0 (s .args .old)
 
 -- what is asked, for the kind that the node is
-told : (s : tie.Start) {kind : Node} → s .args .node ≡ kind → askedPairs (s .args .rows .now) (s .args .at .now) (s .args .firsts .now) (s .args .lows .now) (s .args .masks .now) (s .args .i .0) kind
+told : (s : tie.Start) {kind : Node} → s .args .node ≡ kind → askedPairs (s .args .rows .now) (s .args .at .now) (s .args .firsts .now) (s .args .lows .now) (s .args .masks .now) (s .args .i) kind
 told s e =
     let a = s .args in
-    subst (askedPairs (a .rows .now) (a .at .now) (a .firsts .now) (a .lows .now) (a .masks .now) (a .i .0)) e (s .pre .0)
+    subst (askedPairs (a .rows .now) (a .at .now) (a .firsts .now) (a .lows .now) (a .masks .now) (a .i)) e (s .pre .0)
 
 -- what the kind gives, the node gives
 gives : (s : tie.Start) {kind : Node} {ages values : List ℕ} {k : ℕ} → s .args .node ≡ kind
-    → ((b w counts : List ℕ) → PairsGrown (s .args .ages .now) (s .args .values .now) ages values k (s .args .old + 32) (pairsNow (sightIn b w (s .args .rows .now) (s .args .at .now) (s .args .firsts .now) (s .args .lows .now) (s .args .masks .now) counts (s .args .times .now) (s .args .base .0)) (held s) (s .args .i) kind))
-    → PairsAt (s .args .rows .now) (s .args .at .now) (s .args .firsts .now) (s .args .lows .now) (s .args .masks .now) (s .args .times .now) (s .args .base .0) (s .args .i) (s .args .node) (held s) (s .args .ages .now) (s .args .values .now) ages values k
+    → ((b w counts : List ℕ) → PairsGrown (s .args .ages .now) (s .args .values .now) ages values k (s .args .old + 32) (pairsNow (sightIn b w (s .args .rows .now) (s .args .at .now) (s .args .firsts .now) (s .args .lows .now) (s .args .masks .now) counts (s .args .times .now) (s .args .base)) (held s) (s .args .i) kind))
+    → PairsAt (s .args .rows .now) (s .args .at .now) (s .args .firsts .now) (s .args .lows .now) (s .args .masks .now) (s .args .times .now) (s .args .base) (s .args .i) (s .args .node) (held s) (s .args .ages .now) (s .args .values .now) ages values k
 gives s e h =
     let a = s .args in
-    pairs-by (a .rows .now) (a .at .now) (a .firsts .now) (a .lows .now) (a .masks .now) (a .times .now) (a .base .0) (a .i) (a .old-ages .now) (a .old-values .now) (a .old) e h
+    pairs-by (a .rows .now) (a .at .now) (a .firsts .now) (a .lows .now) (a .masks .now) (a .times .now) (a .base) (a .i) (a .old-ages .now) (a .old-values .now) (a .old) e h
 
 grow-at-requires : tie.Need-grow-at-requires
 grow-at-requires c κs =

@@ -3,6 +3,7 @@ use Prim.Native.Nat.{_+_}
 use native.Mathlib.Omega.{arith}
 use mathlib.Core.Path.{refl}
 use borrow.Author.Needs.{needs}
+use Rattle.meaning.specs.Log.{point}
 use Rattle.kinds.specs.Kinds.{pairsFrom}
 use Rattle.turn.proofs.Standing.{due-at}
 use Rattle.turn.proofs.Joined.{crowded-more}
@@ -14,13 +15,13 @@ settle-next-requires : tie.Need-settle-next-requires
 settle-next-requires c κs =
     let s = c .before .before .before .before .before .before .before .before .before .before .before .before .before .before .before .before .before .before .before in
     let l = s .pre .1 .0 in
-    (due-at (s .pre .0) (s .args .start .0) (omega arith) l, (space-one (s .pre .1 .1 .0) (omega arith), (s .pre .1 .1 .1 .0, pairs-there (s .pre .1 .1 .1 .1 .0) refl refl (omega arith))))
+    (due-at (s .pre .0) (s .args .start) (omega arith) l, (space-one (s .pre .1 .1 .0) (omega arith), (s .pre .1 .1 .1 .0, pairs-there (s .pre .1 .1 .1 .1 .0) refl refl (omega arith))))
 
 returns : tie.Need-returns
 returns c =
     let s = c .before .before .before .before .before .before .before .before .before .before .before .before .before .before .before .before .before .before .before .before .before .before .before .before .before .before .before .before .before .before in
     let a = s .args in
-    crowded-more (a .rule .now) (a .event .now) (a .rows .now) (a .at .now) (a .firsts .now) (a .lows .now) (a .masks .now) (a .counts .now) (a .times .now) (a .base .0) (a .start .0) (a .start .0 + 1) (a .end .0) (a .node) (pairsFrom (a .old-ages .now) (a .old-values .now) 0 (a .old))
+    crowded-more (a .rule .now) (a .event .now) (a .rows .now) (a .at .now) (a .firsts .now) (a .lows .now) (a .masks .now) (a .counts .now) (a .times .now) (a .base) (a .start) (point (a .start .0 + 1)) (a .end) (a .node) (pairsFrom (a .old-ages .now) (a .old-values .now) 0 (a .old))
     (omega (arith, s .pre .1 .0)) (rw (c .enum-told .given .1) at (c .before .before .before .before .before .before .before .before .before .before .settle-next .ensures))
 
 settle-rest-requires : tie.Need-settle-rest-requires

@@ -31,7 +31,7 @@ returns c =
     let p = c .before .before .before .before .before .before .before .before .before .before .before .before in
     let s = entry p in
     let a = s .args in
-    point-crowded (a .rule .now) (a .event .now) (a .rows .now) (a .at .now) (a .firsts .now) (a .lows .now) (a .masks .now) (a .counts .now) (a .times .now) (a .base .0) (a .sets) (a .i .0) (a .node) (pairsFrom (a .old-ages .now) (a .old-values .now) 0 (a .old))
+    point-crowded (a .rule .now) (a .event .now) (a .rows .now) (a .at .now) (a .firsts .now) (a .lows .now) (a .masks .now) (a .counts .now) (a .times .now) (a .base) (a .sets) (a .i) (a .node) (pairsFrom (a .old-ages .now) (a .old-values .now) 0 (a .old))
     (s .pre .0) (p .pairs-at .ensures) (c .before .before .settle-point .ensures) (c .if1 .taken)
 
 push-requires : tie.Need-push-requires
@@ -45,7 +45,7 @@ returns-2 c =
     let p = c .before .before .before .before .before .before .before .before .before .before .before .before .before .before .before .before .before .before .before .before in
     let s = entry p in
     let a = s .args in
-    point-settled (a .rule .now) (a .event .now) (a .rows .now) (a .at .now) (a .firsts .now) (a .lows .now) (a .masks .now) (a .counts .now) (a .times .now) (a .base .0) (a .sets) (a .i .0) (a .node) (pairsFrom (a .old-ages .now) (a .old-values .now) 0 (a .old))
+    point-settled (a .rule .now) (a .event .now) (a .rows .now) (a .at .now) (a .firsts .now) (a .lows .now) (a .masks .now) (a .counts .now) (a .times .now) (a .base) (a .sets) (a .i) (a .node) (pairsFrom (a .old-ages .now) (a .old-values .now) 0 (a .old))
     (s .pre .0) (p .pairs-at .ensures) (c .before .before .before .before .before .before .before .before .before .before .settle-point .ensures) (c .before .before .before .before .before .before .before .before .if1 .left) (c .before .before .before .before .push .ensures)
 
 pub settle-next-spec : {M : Type 1} → statement M

@@ -3,13 +3,14 @@ use Prim.Native.Nat.{_-_}
 use native.Mathlib.Omega.{arith}
 use mathlib.Core.Path.{_∙_}
 use borrow.Author.Needs.{needs}
+use Rattle.meaning.specs.Log.{point}
 use Rattle.turn.proofs.Going.{pairs-there, Going, going-none, turned-so, pairs-most, space-next, due-next, going-more, going-crowded, going-all}
 use Rattle.turn.proofs.settle_rest.Statement.{statement}
 use Rattle.turn.proofs.settle_rest.Tie as tie
 
 abbrev Inv-loop : tie.InvT-loop
 Inv-loop node rule rows₀ at₀ sets firsts lows masks counts times base event start end ages₀ values₀ pairs spare-ages₀ spare-values₀ n₀ i₀ rows at ages values spare-ages spare-values n i =
-    Going rule event rows₀ at₀ firsts lows masks counts times (base .0) (start .0) (end .0) node sets ages₀ values₀ pairs spare-ages₀ spare-values₀ rows at ages values spare-ages spare-values n i
+    Going rule event rows₀ at₀ firsts lows masks counts times base start end node sets ages₀ values₀ pairs spare-ages₀ spare-values₀ rows at ages values spare-ages spare-values n (point i)
 
 abbrev μ-loop : tie.MeasureT-loop
 μ-loop node rule rows₀ at₀ sets firsts lows masks counts times base event start end ages₀ values₀ pairs spare-ages₀ spare-values₀ n₀ i₀ rows at ages values spare-ages spare-values n i =
@@ -19,7 +20,7 @@ loop-holds : tie.Need-loop-holds Inv-loop μ-loop
 loop-holds c =
     let s = c .before .before .before .before .before .before .before .before .before .before .before .before .before in
     let a = s .args in
-    going-none (a .times .now) (a .base .0) (a .ages .now) (a .values .now) (a .pairs) (a .spare-ages .now) (a .spare-values .now) (s .pre .0)
+    going-none (a .times .now) (a .base) (a .ages .now) (a .values .now) (a .pairs) (a .spare-ages .now) (a .spare-values .now) (s .pre .0)
 
 -- the place behind the test, and where the function begins
 abbrev entry : tie.Then1 Inv-loop μ-loop → tie.Start Inv-loop μ-loop

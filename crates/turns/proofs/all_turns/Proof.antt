@@ -13,7 +13,7 @@ use Rattle.turns.proofs.all_turns.Tie as tie
 
 abbrev Inv-loop : tie.InvT-loop
 Inv-loop rule owners numbers values count lows wants masks before after times base points event most rows₀ at₀ firsts₀ ages₀ paired₀ spare-ages₀ spare-paired₀ out-owners₀ out-numbers₀ out-values₀ n place₀ x₀ rows at firsts ages paired spare-ages spare-paired out-owners out-numbers out-values place x =
-    TurnedTo rule owners numbers values count before after times (base .0) event lows most firsts rows at x (place .cursor) (place .sets) (place .kept) × PackedTo rule owners numbers values count before after times (base .0) event out-owners₀ out-numbers₀ out-values₀ out-owners out-numbers out-values x (place .kept)
+    TurnedTo rule owners numbers values count before after times base event lows most firsts rows at x (place .cursor) (place .sets) (place .kept) × PackedTo rule owners numbers values count before after times base event out-owners₀ out-numbers₀ out-values₀ out-owners out-numbers out-values x (place .kept)
     × AsLong rows₀ at₀ firsts₀ ages₀ paired₀ spare-ages₀ spare-paired₀ rows at firsts ages paired spare-ages spare-paired
 
 abbrev μ-loop : tie.MeasureT-loop
@@ -34,7 +34,7 @@ loop-holds c =
     let s = c .before .before .before .before .before .before .before .before .before .before .before .before .before .before .before .before .before .before .before .before .before .before in
     let a = s .args in (
       turned-none (s .pre .0) (s .pre .1 .0),
-      packed-to-none (a .rule .now) (a .owners .now) (a .numbers .now) (a .values .now) (a .count) (a .before .now) (a .after .now) (a .times .now) (a .base .0) (a .event .now) (a .out-owners .now) (a .out-numbers .now) (a .out-values .now),
+      packed-to-none (a .rule .now) (a .owners .now) (a .numbers .now) (a .values .now) (a .count) (a .before .now) (a .after .now) (a .times .now) (a .base) (a .event .now) (a .out-owners .now) (a .out-numbers .now) (a .out-values .now),
       record { rowsLong = refl; atLong = refl; firstsLong = refl; agesLong = refl; pairedLong = refl; spareAgesLong = refl; sparePairedLong = refl },
     )
 

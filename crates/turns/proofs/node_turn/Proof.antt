@@ -6,6 +6,7 @@ use borrow.Author.Needs.{needs}
 use Rattle.meaning.proofs.Accepted.{accepted}
 use Rattle.turns.proofs.Parts.{Among}
 use Rattle.turns.proofs.Taking.{Figures, figures, load-spaces, among, finishable, crowds, taken}
+use Rattle.meaning.specs.Log.{point}
 use Rattle.meaning.specs.RuleFile.{nodeCount}
 use Rattle.turns.proofs.node_turn.Statement.{statement}
 use Rattle.turns.proofs.node_turn.Tie as tie
@@ -25,7 +26,7 @@ finished c = c .before .before .before .before .before .before .before .before .
 
 -- the node's figures, and where its pairs are
 figures-at : (s : tie.Start)
-    → Figures (s .args .x) (s .args .most) (nodeCount (s .args .rule .now)) (getD (s .args .lows .now) (s .args .x) 0) (getD (s .args .wants .now) (s .args .x) 0) (getD (s .args .before .now) (s .args .x) 0) (getD (s .args .after .now) (s .args .x) 0)
+    → Figures (s .args .x) (s .args .most) (nodeCount (s .args .rule .now)) (point (getD (s .args .lows .now) (s .args .x) 0)) (point (getD (s .args .wants .now) (s .args .x) 0)) (point (getD (s .args .before .now) (s .args .x) 0)) (point (getD (s .args .after .now) (s .args .x) 0))
 figures-at s = figures (s .pre .0) (s .args .x) (s .pre .1 .1 .1)
 
 among-at : (l : tie.After-load-node) → Among (entry (decoded l) .args .numbers .now) (entry (decoded l) .args .values .now) (l .load-node .result .pairs) (l .load-node .result .end)

@@ -17,7 +17,7 @@ use Rattle.untils.proofs.passes_from.Tie as tie
 
 abbrev Inv-loop : tie.InvT-loop
 Inv-loop left r rows at fa la end k₀ k =
-    (k₀ ≤ k) × (k ≤ end) × (all (passesAt left (setAt rows at fa (la .0)) (wordsOf r)) (pointsFrom k₀ (end - k₀)) ≡ all (passesAt left (setAt rows at fa (la .0)) (wordsOf r)) (pointsFrom k (end - k)))
+    (k₀ ≤ k) × (k ≤ end) × (all (passesAt left (setAt rows at fa la) (wordsOf r)) (pointsFrom k₀ (end - k₀)) ≡ all (passesAt left (setAt rows at fa la) (wordsOf r)) (pointsFrom k (end - k)))
 
 abbrev μ-loop : tie.MeasureT-loop
 μ-loop left r rows at fa la end k₀ k = end - k

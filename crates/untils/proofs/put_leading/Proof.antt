@@ -15,7 +15,7 @@ use Rattle.untils.proofs.put_leading.Tie as tie
 
 abbrev Inv-loop : tie.InvT-loop
 Inv-loop left mask rows at fa la from to i j out₀ n k₀ x₀ out k x =
-    Through (rowAt rows) (select (leads left mask (setAt rows at fa (la .0)) i j)) to out₀ n (select (leads left mask (setAt rows at fa (la .0)) i j) (rowsFrom rows from (to - from))) out k x
+    Through (rowAt rows) (select (leads left mask (setAt rows at fa la) i j)) to out₀ n (select (leads left mask (setAt rows at fa la) i j) (rowsFrom rows from (to - from))) out k x
 
 abbrev μ-loop : tie.MeasureT-loop
 μ-loop left mask rows at fa la from to i j out₀ n k₀ x₀ out k x = to - x
@@ -27,7 +27,7 @@ loop-holds c = begun (c .before .before .before .pre .1 .0 .ordered) (c .before 
 loop-again : tie.Need-loop-again Inv-loop μ-loop
 loop-again c =
     let a = c .before .before .before .before .before .before .before .before .before .before .before .args in
-    let p : List ℕ → Bool = leads (a .left) (a .mask) (setAt (a .rows .now) (a .at .now) (a .fa) (a .la .0)) (a .i) (a .j) in
+    let p : List ℕ → Bool = leads (a .left) (a .mask) (setAt (a .rows .now) (a .at .now) (a .fa) (a .la)) (a .i) (a .j) in
     turned (c .before .before .before .before .before .before .before .loop .inv) (λ u. cond (p u) (u ∷ []) []) (select-one p) (c .before .before .before .before .before .before .loop-test .taken) (c .before .before .add-if .ensures)
     (chosen p (λ u. u) (c .before .before .before .before .leads .ensures) refl (c .before .before .before .before .before .row-at .ensures))
 

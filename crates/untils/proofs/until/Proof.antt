@@ -20,7 +20,7 @@ use Rattle.untils.proofs.until.Tie as tie
 
 abbrev Inv-loop : tie.InvT-loop
 Inv-loop left mask rows at fa la fb lb times base w i m out₀ n start k₀ j₀ out k j =
-    (i .0 ≤ j) × Through point (overPoints (stampIn (base .0) times) w (leftTest left mask (setAt rows at fa (la .0))) (setAt rows at fb (lb .0)) i) m out₀ n (untilRows (stampIn (base .0) times) m w (leftTest left mask (setAt rows at fa (la .0))) (setAt rows at fb (lb .0)) i) out k j
+    (i .0 ≤ j) × Through point (overPoints (stampIn base times) w (leftTest left mask (setAt rows at fa la)) (setAt rows at fb lb) i) m out₀ n (untilRows (stampIn base times) m w (leftTest left mask (setAt rows at fa la)) (setAt rows at fb lb) i) out k j
 
 abbrev μ-loop : tie.MeasureT-loop
 μ-loop left mask rows at fa la fb lb times base w i m out₀ n start k₀ j₀ out k j = m - j
@@ -34,14 +34,14 @@ put-point-if-requires : tie.Need-put-point-if-requires Inv-loop μ-loop
 put-point-if-requires c κs =
     let s = c .before .before .before .before .before .before .before .before .before .pre in
     let j : ℕ = c .before .before .before .loop .j in
-    (stand-part (s .0) _ j (omega arith) (omega arith) (omega arith), (stand-part (s .1 .0) j (j + 1) (omega arith) (omega arith) (omega arith), search needs))
+    (stand-part (s .0) _ j (omega arith) (omega arith) (omega arith), (stand-part (s .1 .0) (point j) (j + 1) (omega arith) (omega arith) (omega arith), search needs))
 
 loop-again : tie.Need-loop-again Inv-loop μ-loop
 loop-again c =
     let a = c .before .before .before .before .before .before .before .before .before .before .before .before .args in
-    let τ : Point → Stamp = stampIn (a .base .0) (a .times .now) in
-    let left : List ℕ → Point → Bool = leftTest (a .left) (a .mask) (setAt (a .rows .now) (a .at .now) (a .fa) (a .la .0)) in
-    let right : Point → List (List ℕ) = setAt (a .rows .now) (a .at .now) (a .fb) (a .lb .0) in
+    let τ : Point → Stamp = stampIn (a .base) (a .times .now) in
+    let left : List ℕ → Point → Bool = leftTest (a .left) (a .mask) (setAt (a .rows .now) (a .at .now) (a .fa) (a .la)) in
+    let right : Point → List (List ℕ) = setAt (a .rows .now) (a .at .now) (a .fb) (a .lb) in
     let v = c .before .before .before .before .before .before .loop .inv in (
       omega arith,
       turned (v .1) (atPoint τ (a .w) left right (a .i)) (point-one τ (a .w) left right (a .i)) (c .before .before .before .before .before .loop-test .taken) (c .before .before .put-point-if .ensures)
