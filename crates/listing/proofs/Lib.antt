@@ -1,2 +1,0 @@
--- Facts that several needs of the program rest on.
-pub mod Digits
