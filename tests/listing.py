@@ -4,10 +4,11 @@
     rt check listing
     listing.py [--program PROGRAM] [--seed SEED] CASES [FOLDER ..]
 
-CASES inputs are generated: rules of up to seven nodes (one in five damaged in a byte) with up to 40 events, then in part cut,
-lengthened by stray bytes, given a wrong length word, or replaced by garbage. In each FOLDER every NAME.in is run and what is
-printed compared with NAME.out. The default program is target/bin/listing. Exits with 1 on any difference, or where one of the
-ways to end a run was met less than once in 200 cases.
+First inputs at the limits: rules of 32 nodes, 652 and 653 bytes, events of 32 and 33 rows, 400 events, a report of 4,326 words, and
+a small input cut at every byte. Then CASES inputs are generated: rules of up to seven nodes (one in five damaged in a byte) with up to
+40 events, then in part cut, lengthened by stray bytes, given a wrong length word, or replaced by garbage. In each FOLDER every NAME.in
+is run and what is printed compared with NAME.out. The default program is target/bin/listing. Exits with 1 on any difference, or where
+one of the ways to end a run was met less than once in 200 cases.
 """
 import argparse
 import collections
@@ -19,6 +20,7 @@ import sys
 
 import definitions
 import plain
+import text
 
 TOP = pathlib.Path(__file__).resolve().parent.parent
 CASES_TO_A_MEETING = 200
@@ -69,6 +71,53 @@ def generated(rng):
     return how, whole
 
 
+def event(time, rows):
+    """An event's bytes; each row is a relation number and its values."""
+    words = [time, len(rows)] + [r for r, _ in rows] + [w for _, values in rows for w in (list(values) + [0] * 4)[:4]]
+    return struct.pack(f"<{len(words)}I", *words)
+
+
+def atom(values):
+    return 1, (), (0, [(0, k) for k in range(values)])
+
+
+def chain(tree, kind, window, nodes):
+    """The tree below so many nodes of one kind that there are `nodes` in all."""
+    while text.size(tree) < nodes:
+        tree = kind, (tree,), window
+    return tree
+
+
+def limits(rng):
+    """What each input reaches, and its bytes."""
+    small = text.file_of(atom(1), [1])
+    most = text.file_of(chain(atom(1), 13, (0, 5), 32), [1])
+    days = b"".join(event(20 * k, [(0, [k % 7])]) for k in range(8))
+    yield "32 nodes", struct.pack("<I", 652) + most + days
+    yield "653 bytes", struct.pack("<I", 653) + most + b"\0" + days
+    yield "651 bytes", struct.pack("<I", 651) + most[:651] + days
+    for _ in range(20):
+        maker = text.Maker(rng)
+        maker.early = 0
+        tree = maker.tree(32)
+        if text.size(tree) == 32:
+            yield "32 nodes", struct.pack("<I", 652) + text.file_of(tree, maker.arities) + b"".join(event(9 * k, []) for k in range(4))
+    for m in (31, 32, 33):
+        rows = [(0, [k]) for k in range(m)]
+        yield f"{m} rows", struct.pack("<I", 32) + small + event(1, rows) + event(2, rows[:2])
+    yield "400 events", struct.pack("<I", 32) + small + b"".join(event(k // 3, [(0, [2**32 - 1 - 997 * k])] * (k % 3)) for k in range(400))
+
+    # 33 points of 32 rows of 4 values in one report: what is before a point that eventually [0, 1000) reaches from each
+    late = text.file_of((7, ((14, (atom(4),), (0, 1000)),), (0, 0)), [4])
+    rows = [(0, [7, 2**32 - 1, k // 4, 31 - k]) for k in range(32)]
+    events = [event(10 * i, rows if i == 32 else []) for i in range(33)] + [event(1320, [])]
+    yield "4,326 words", struct.pack("<I", len(late)) + late + b"".join(events)
+
+    whole = struct.pack("<I", 32) + small + event(5, [(0, [10])]) + event(6, [(0, [99]), (0, [100])])
+    for n in range(len(whole) + 1):
+        yield "cut at every byte", whole[:n]
+
+
 def run(program, data):
     """What the program prints. It ends by itself, whatever it is fed."""
     done = subprocess.run([program], input=data, stdout=subprocess.PIPE, stderr=subprocess.STDOUT, timeout=60)
@@ -78,6 +127,13 @@ def run(program, data):
 def differ(what, data, printed, expected):
     print(f"difference: {what}\ninput {data.hex()}\nprinted\n{printed.decode(errors='replace')}expected\n{expected.decode()}")
     sys.exit(1)
+
+
+def compare(program, what, data):
+    expected, printed = plain.listing(data).encode(), run(program, data)
+    if printed != expected:
+        differ(what, data, printed, expected)
+    return expected
 
 
 def main():
@@ -96,18 +152,20 @@ def main():
         printed = run(args.program, data)
         if printed != expected:
             differ(file.name, data, printed, expected)
+    at_limits = collections.Counter()
+    for what, data in limits(rng):
+        compare(args.program, what, data)
+        at_limits[what] += 1
     for k in range(args.cases):
         how, data = generated(rng)
-        expected = plain.listing(data).encode()
-        printed = run(args.program, data)
-        if printed != expected:
-            differ(f"case {k} of seed {args.seed}, {how}", data, printed, expected)
+        expected = compare(args.program, f"case {k} of seed {args.seed}, {how}", data)
         met[how] += 1
         for line in expected.decode().split("\n"):
             words = line.split()
             if words:
                 lines[" ".join(words[:2]) if words[0] == "refused" else words[0] if words[0].isalpha() else "row"] += 1
     print(f"{len(files)} files and {args.cases} generated inputs compared; no difference")
+    print("limits: " + ", ".join(f"{what} {n}" for what, n in sorted(at_limits.items())))
     print("inputs: " + ", ".join(f"{how} {n}" for how, n in sorted(met.items())))
     print("lines: " + ", ".join(f"{what} {n}" for what, n in sorted(lines.items())))
     wanted = [lines[what] for what in ("point", "row", "open", "refused 1", "refused 4", "refused 9", "refused 10", "refused 11", "refused 13")]

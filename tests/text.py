@@ -442,4 +442,5 @@ def main():
     sys.exit(failures > 0 or bool(rare))
 
 
-main()
+if __name__ == "__main__":
+    main()

@@ -1,35 +1,29 @@
 // Checks the rule file on standard input and prints its reach, or the refusal and its place.
 use libc::STDIN_FILENO;
 use libc::STDOUT_FILENO;
-use refusals::Told;
-use refusals::of_rule;
-use rulefile::Checked;
+use lines::put_checked;
 use rulefile::check;
+ghost use mathlib.Core.Path.{_≡_};
+ghost use mathlib.Core.List.{List};
+ghost use Prim.Native.Nat.{ℕ, _≤_};
+ghost use lib.ListN.{length, take};
+ghost use Rattle.meaning.specs.RuleFile.{checking};
+ghost use Rattle.writer.specs.Puts.{Put};
+ghost use Rattle.lines.specs.Answers.{checkedText};
 
-fn print_accepted(reach: u32) {
-    io::write_all(STDOUT_FILENO, b"rule ok reach ");
-    io::print_decimal(STDOUT_FILENO, reach as u64);
-    io::write_all(STDOUT_FILENO, b"\n");
+// Puts the answer for a whole file, of which the first 653 bytes were read, n of them if it has no more. A rule has at most 652, so that these are enough.
+fn put_file(out: &mut [u8], file: &[u8], n: usize) -> usize
+    requires { ⌜ (64 ≤ length (now out)) × (653 ≡ length (now file)) × (n ≤ 653) ⌝ }
+    ensures { λ r. ⌜ ((whole : List ℕ) → take 653 whole ≡ take n (now (file .entry)) → Put (now (out .entry)) 0 (checkedText (checking whole)) (now (out .exit)) r) ⌝ }
+    ensures { λ r. ⌜ r ≤ 64 ⌝ }
+{
+    put_checked(out, check(&file[0..n]))
 }
 
-fn print_refused(told: Told) {
-    io::write_all(STDOUT_FILENO, b"refused ");
-    io::print_decimal(STDOUT_FILENO, told.0 as u64);
-    io::write_all(STDOUT_FILENO, b" place ");
-    io::print_decimal(STDOUT_FILENO, told.1 as u64);
-    io::write_all(STDOUT_FILENO, b"\n");
-}
-
-fn print_checked(answer: Checked) {
-    match answer {
-        Checked::Accepted(reach, _) => print_accepted(reach),
-        _ => print_refused(of_rule(answer)),
-    }
-}
-
-// A rule has at most 652 bytes: one more shows that the file is too long.
 fn main() {
     let mut file = [0u8; 653];
     let n = io::read_full(STDIN_FILENO, &mut file);
-    print_checked(check(&file[..n]));
+    let mut line = [0u8; 64];
+    let end = put_file(&mut line, &file, n);
+    io::write_all(STDOUT_FILENO, &line[0..end]);
 }

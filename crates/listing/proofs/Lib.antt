@@ -1,2 +1,2 @@
 -- Facts that several needs of the program rest on.
-pub mod Digits
+pub mod Texts

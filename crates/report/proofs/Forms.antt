@@ -87,3 +87,6 @@ module _ (r : List ℕ) where
       let s₂ = both (sizesFit r && sumTest) pointsTest (s₃ .0) in
       let s₁ = both (sizesFit r) sumTest (s₂ .0) in
       summed-by (s₁ .0) (s₁ .1)
+
+  pub rows-test : inForm r ≡ true → rowsTest ≡ true
+  rows-test e = both (sizesFit r && sumTest && pointsTest) rowsTest (sym form-is ∙ e) .1

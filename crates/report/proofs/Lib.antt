@@ -1,8 +1,8 @@
 -- Lemmas on plain lists and numbers, for the proofs of this crate's functions, and the theorems on well-made reports.
 mod Compare
-mod Runs
-mod Sums
-mod Forms
+pub mod Runs
+pub mod Sums
+pub mod Forms
 mod Entries
 mod Reading
 mod Lists

@@ -155,7 +155,7 @@ fn rows_ascend(report: &[u32]) -> bool
 }
 
 // Whether the words are a report: each test is made once the one before it has passed.
-fn in_form(report: &[u32]) -> bool
+pub fn in_form(report: &[u32]) -> bool
     ensures { λ r. ⌜ r ≡ inForm (now (report .entry)) ⌝ }
 {
     if !sizes_fit(report) {

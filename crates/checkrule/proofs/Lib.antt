@@ -1,0 +1,2 @@
+-- What is read of a longer file is enough.
+pub mod Files

@@ -1,0 +1,7 @@
+-- Facts that several needs rest on.
+pub mod Digits
+pub mod Lines
+pub mod Putting
+pub mod Points
+pub mod Room
+pub mod Inputs

@@ -1,0 +1,45 @@
+-- The text of a refused event, and how long the texts at the end of a run are at most.
+use Prim.Native.Nat.{ℕ, _≤_}
+use native.Mathlib.Omega.{arith}
+use mathlib.Core.Path.{_≡_, refl}
+use mathlib.Core.Bool.{Bool, true, false, cond}
+use mathlib.Core.List.{List}
+use lib.ListN.{length}
+use Rattle.method.specs.Stored.{Stored}
+use Rattle.method.specs.Step.{keptStored, openStored}
+use Rattle.method.specs.WellFormed.{wellFormed}
+use Rattle.refusals.specs.Told.{toldOf}
+use Rattle.refusals.specs.declared.Told.{Told}
+use Rattle.weighing.specs.Weighs.{refusalOf}
+use Rattle.weighing.specs.declared.Refusal.{Refusal}
+use Rattle.weighing.specs.declared.Refusal.the-variants.{NotWellFormed, NotAnEvent, RowOut, TimeFalls, LogFull, Crowded, Backlog, KeptOver, BufferShort}
+use Rattle.lines.specs.Text.{refusedLine, lastLine}
+use Rattle.lines.specs.Answers.{answerText}
+use Rattle.lines.specs.declared.input.Next.{Next}
+use Rattle.lines.specs.declared.input.Next.the-variants.{Event, Cut, Ended}
+use Rattle.lines.proofs.Lines.{refused-short, last-short}
+use Rattle.listing.specs.Ends.{cutText, figuresText}
+
+pub refused-text : (r : Refusal) (t : Told) (buffer : List ℕ) → t ≡ toldOf (refusalOf r) → answerText (refusalOf r) buffer ≡ refusedLine (t .0) (t .1)
+refused-text NotWellFormed t buffer e = rw e
+refused-text NotAnEvent t buffer e = rw e
+refused-text (RowOut k) t buffer e = rw e
+refused-text TimeFalls t buffer e = rw e
+refused-text LogFull t buffer e = rw e
+refused-text (Crowded x) t buffer e = rw e
+refused-text Backlog t buffer e = rw e
+refused-text KeptOver t buffer e = rw e
+refused-text (BufferShort n) t buffer e = rw e
+
+pub cut-short : (next : Next) → length (cutText next) ≤ 36
+cut-short Cut = refused-short 9 0
+cut-short (Event n) = omega arith
+cut-short Ended = omega arith
+
+pub figures-short : (s : Stored) → length (figuresText s) ≤ 64
+unfolding figuresText
+figures-short s = go (wellFormed s)
+  where
+    go : (t : Bool) → length (cond t (lastLine (openStored s) (keptStored s)) (refusedLine 8 0)) ≤ 64
+    go true = omega (arith, last-short (openStored s) (keptStored s))
+    go false = omega (arith, refused-short 8 0)
