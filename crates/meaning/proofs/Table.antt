@@ -2,8 +2,8 @@
 use Prim.Native.Nat.{ℕ, _/_, _%_}
 use mathlib.Core.Path.{_≡_, refl}
 use mathlib.Core.List.{List, [], _∷_, _++_, map}
-use lib.ListN.{length, take, replicate}
-use Rattle.meaning.specs.Lists.{gather}
+use lib.ListN.{length, getD, take, drop, replicate}
+use Rattle.meaning.specs.Lists.{range, gather}
 use Rattle.meaning.specs.Outcome.{Outcome, refused, given}
 use Rattle.meaning.specs.Log.{Log, time, rowsAt, latest}
 use Rattle.meaning.specs.RuleFile.{Accepted, wordAt, sizesFit, headAt, bodyAt, nodeOf, nodeAt, formulaAt, shapeFits, rangeFits, timesChild, weighNode, checking}
@@ -18,23 +18,26 @@ pub record Case : Type 0 where
   pub events : List (List ℕ)
   -- what checking answers: the reach and the free variables
   pub checked : Outcome Accepted
-  -- what each taking is answered, and the words of its report
-  pub reports : List (List ℕ)
+  -- what each taking is given back: the answer, and every word of its buffer
+  pub givens : List Given
   -- the kept figure after each event
   pub kepts : List ℕ
   -- the `open` figure after the last
   pub left : ℕ
 
--- Buffers of 16 zeros; what stands in them past the report shows that words past it stay.
+-- Each taking's buffer: 16 words, none of which a report has.
 abbrev room : List ℕ
-room = replicate 16 0
+room = range 1000 16
 
 abbrev takings : Case → List Taking
 takings c = map (λ e. record { event = e; buffer = room }) (c .events)
 
--- the answer's words, cut off the buffer; a refusal gives number and place
-abbrev words : Given → List ℕ
-words g = elim (g .answer) [ refused number place ↦ number ∷ place ∷ [] | given n ↦ take n (g .buffer) ]
+-- a report's words, and behind them the buffer as it was; a refusal, and the whole buffer as it was
+abbrev written : List ℕ → Given
+written words = record { answer = given (length words); buffer = words ++ drop (length words) room }
+
+abbrev turned : ℕ → ℕ → Given
+turned number place = record { answer = refused number place; buffer = room }
 
 abbrev logs : List ℕ → Log → List Taking → List Log
 logs b l [] = []
@@ -47,7 +50,7 @@ run c =
       rule = c .rule;
       events = c .events;
       checked = checking (c .rule);
-      reports = map words (keeper (c .rule) [] (takings c));
+      givens = keeper (c .rule) [] (takings c);
       kepts = map (kept (c .rule)) (logs (c .rule) [] (takings c));
       left = openPoints (c .rule) (keeperLog (c .rule) [] (takings c));
     }
@@ -76,17 +79,30 @@ binary kind c d = sizes 0 3 ++ atoms ++ head kind 0 1 ++ body 0 0 ++ body 0 0 ++
 abbrev unary : ℕ → ℕ → ℕ → List ℕ
 unary kind c d = sizes 0 2 ++ head 1 0 0 ++ head kind 0 0 ++ body 0 0 ++ body c d
 
--- an event at a time, of rows without columns
-abbrev facts : ℕ → List ℕ → List ℕ
-facts t rs = t ∷ length rs ∷ (rs ++ gather (λ r. word 0) rs)
+-- two atoms and their "and": relation 0 of variables 0 and 1, relation 1 of variables 1 and 2
+abbrev joinHeads : List ℕ
+joinHeads = atoms ++ head 2 0 1
 
--- an event at a time, of rows of relation 0 with two columns
-abbrev pairsOfWords : ℕ → List (List ℕ) → List ℕ
-pairsOfWords t rows = t ∷ length rows ∷ (map (λ r. 0) rows ++ gather (λ r. r ++ 0 ∷ 0 ∷ []) rows)
+abbrev joinBodies : List ℕ
+joinBodies = body 0 1 ++ body 1 2 ++ body 0 0
+
+-- an event at a time, of rows that are a relation and its columns; of rows without columns; of rows of one column
+abbrev event : ℕ → List (List ℕ) → List ℕ
+event t rows = t ∷ length rows ∷ (map (λ r. getD r 0 0) rows ++ gather (λ r. take 4 (drop 1 r ++ word 0)) rows)
+
+abbrev facts : ℕ → List ℕ → List ℕ
+facts t rs = event t (map (λ r. r ∷ []) rs)
+
+abbrev columns : ℕ → List ℕ → List (List ℕ)
+columns r vs = map (λ v. r ∷ v ∷ []) vs
 
 -- "Rule L: leak (relation 0) and-not eventually [0, 61) close (relation 1), both of variable 0: node 0 leak, 1 close, 2 eventually, 3 and-not"
 abbrev ruleL : List ℕ
 ruleL = sizes 1 4 ++ atoms ++ head 14 1 0 ++ head 3 0 2 ++ body 0 0 ++ body 0 0 ++ body 0 61 ++ body 0 0
+
+-- its leak alone
+abbrev leaking : List ℕ
+leaking = sizes 1 1 ++ head 1 0 0 ++ body 0 0
 
 abbrev leak : ℕ
 leak = 0
@@ -101,14 +117,14 @@ abbrev one : ℕ → ℕ → ℕ → List ℕ
 one t r v = t ∷ 1 ∷ r ∷ v ∷ 0 ∷ 0 ∷ 0 ∷ []
 
 -- no point settled; a point with no row; a point with one row of no words
-abbrev none : ℕ → List ℕ
-none f = 0 ∷ f ∷ 0 ∷ []
+abbrev none : ℕ → Given
+none f = written (0 ∷ f ∷ 0 ∷ [])
 
-abbrev denied : ℕ → ℕ → List ℕ
-denied i t = 1 ∷ 0 ∷ 0 ∷ i ∷ t ∷ 0 ∷ []
+abbrev denied : ℕ → ℕ → Given
+denied i t = written (1 ∷ 0 ∷ 0 ∷ i ∷ t ∷ 0 ∷ [])
 
-abbrev met : ℕ → ℕ → List ℕ
-met i t = 1 ∷ 0 ∷ 1 ∷ i ∷ t ∷ 1 ∷ []
+abbrev met : ℕ → ℕ → Given
+met i t = written (1 ∷ 0 ∷ 1 ∷ i ∷ t ∷ 1 ∷ [])
 
 abbrev reaching : ℕ → ℕ → Outcome Accepted
 reaching r f = given (record { reach = r; free = f })
@@ -118,9 +134,9 @@ abbrev keeping : ℕ → List ℕ → Case
 keeping comparison words =
     record {
       rule = 1 ∷ 1 ∷ 2 ∷ 0 ∷ 2 ∷ 0 ∷ 0 ∷ 0 ∷ 0 ∷ 0 ∷ 0 ∷ 0 ∷ (head 1 0 0 ++ head 4 0 comparison ++ body 0 1 ++ body 0 1);
-      events = pairsOfWords 3 ((1 ∷ 2 ∷ []) ∷ (2 ∷ 1 ∷ []) ∷ (2 ∷ 2 ∷ []) ∷ []) ∷ [];
+      events = event 3 ((0 ∷ 1 ∷ 2 ∷ []) ∷ (0 ∷ 2 ∷ 1 ∷ []) ∷ (0 ∷ 2 ∷ 2 ∷ []) ∷ []) ∷ [];
       checked = reaching 0 3;
-      reports = words ∷ [];
+      givens = written words ∷ [];
       kepts = 0 ∷ [];
       left = 0;
     }
@@ -132,7 +148,7 @@ cases =
       rule = ruleL;
       events = leaks ∷ one 130 close 9 ∷ one 161 close 7 ∷ one 191 leak 9 ∷ [];
       checked = reaching 61 1;
-      reports = none 1 ∷ none 1 ∷ (1 ∷ 1 ∷ 1 ∷ 0 ∷ 100 ∷ 1 ∷ 7 ∷ []) ∷ (1 ∷ 1 ∷ 0 ∷ 1 ∷ 130 ∷ 0 ∷ []) ∷ [];
+      givens = none 1 ∷ none 1 ∷ written (1 ∷ 1 ∷ 1 ∷ 0 ∷ 100 ∷ 1 ∷ 7 ∷ []) ∷ written (1 ∷ 1 ∷ 0 ∷ 1 ∷ 130 ∷ 0 ∷ []) ∷ [];
       kepts = 2 ∷ 3 ∷ 2 ∷ 2 ∷ [];
       left = 2;
     }
@@ -141,7 +157,7 @@ cases =
       rule = ruleL;
       events = leaks ∷ one 130 close 9 ∷ one 160 close 7 ∷ one 191 leak 9 ∷ [];
       checked = reaching 61 1;
-      reports = none 1 ∷ none 1 ∷ none 1 ∷ (2 ∷ 1 ∷ 0 ∷ 0 ∷ 100 ∷ 0 ∷ 1 ∷ 130 ∷ 0 ∷ []) ∷ [];
+      givens = none 1 ∷ none 1 ∷ none 1 ∷ written (2 ∷ 1 ∷ 0 ∷ 0 ∷ 100 ∷ 0 ∷ 1 ∷ 130 ∷ 0 ∷ []) ∷ [];
       kepts = 2 ∷ 3 ∷ 4 ∷ 2 ∷ [];
       left = 2;
     }
@@ -150,7 +166,7 @@ cases =
       rule = binary 11 0 5;
       events = facts 10 (1 ∷ []) ∷ facts 15 [] ∷ [];
       checked = reaching 5 0;
-      reports = none 0 ∷ met 0 10 ∷ [];
+      givens = none 0 ∷ met 0 10 ∷ [];
       kepts = 1 ∷ 0 ∷ [];
       left = 1;
     }
@@ -159,7 +175,7 @@ cases =
       rule = binary 9 0 5;
       events = facts 10 (1 ∷ []) ∷ facts 14 (0 ∷ []) ∷ [];
       checked = reaching 0 0;
-      reports = met 0 10 ∷ met 1 14 ∷ [];
+      givens = met 0 10 ∷ met 1 14 ∷ [];
       kepts = 1 ∷ 1 ∷ [];
       left = 0;
     }
@@ -168,7 +184,7 @@ cases =
       rule = binary 9 0 5;
       events = facts 10 (1 ∷ []) ∷ facts 15 (0 ∷ []) ∷ [];
       checked = reaching 0 0;
-      reports = met 0 10 ∷ denied 1 15 ∷ [];
+      givens = met 0 10 ∷ denied 1 15 ∷ [];
       kepts = 1 ∷ 0 ∷ [];
       left = 0;
     }
@@ -177,7 +193,7 @@ cases =
       rule = binary 9 0 5;
       events = facts 10 (1 ∷ []) ∷ facts 14 [] ∷ [];
       checked = reaching 0 0;
-      reports = met 0 10 ∷ denied 1 14 ∷ [];
+      givens = met 0 10 ∷ denied 1 14 ∷ [];
       kepts = 1 ∷ 0 ∷ [];
       left = 0;
     }
@@ -186,7 +202,7 @@ cases =
       rule = unary 7 1 3;
       events = facts 10 (0 ∷ []) ∷ facts 10 [] ∷ [];
       checked = reaching 0 0;
-      reports = denied 0 10 ∷ denied 1 10 ∷ [];
+      givens = denied 0 10 ∷ denied 1 10 ∷ [];
       kepts = 1 ∷ 0 ∷ [];
       left = 0;
     }
@@ -195,7 +211,7 @@ cases =
       rule = unary 7 0 3;
       events = facts 10 (0 ∷ []) ∷ facts 10 [] ∷ [];
       checked = reaching 0 0;
-      reports = denied 0 10 ∷ met 1 10 ∷ [];
+      givens = denied 0 10 ∷ met 1 10 ∷ [];
       kepts = 1 ∷ 0 ∷ [];
       left = 0;
     }
@@ -204,7 +220,7 @@ cases =
       rule = unary 7 1 3;
       events = facts 10 (0 ∷ []) ∷ facts 12 [] ∷ [];
       checked = reaching 0 0;
-      reports = denied 0 10 ∷ met 1 12 ∷ [];
+      givens = denied 0 10 ∷ met 1 12 ∷ [];
       kepts = 1 ∷ 0 ∷ [];
       left = 0;
     }
@@ -213,7 +229,7 @@ cases =
       rule = unary 7 1 3;
       events = facts 10 (0 ∷ []) ∷ facts 13 [] ∷ [];
       checked = reaching 0 0;
-      reports = denied 0 10 ∷ denied 1 13 ∷ [];
+      givens = denied 0 10 ∷ denied 1 13 ∷ [];
       kepts = 1 ∷ 0 ∷ [];
       left = 0;
     }
@@ -222,7 +238,7 @@ cases =
       rule = binary 11 2 4;
       events = facts 0 (0 ∷ []) ∷ facts 1 (0 ∷ []) ∷ facts 2 (1 ∷ []) ∷ facts 4 [] ∷ facts 5 [] ∷ [];
       checked = reaching 4 0;
-      reports = none 0 ∷ none 0 ∷ none 0 ∷ met 0 0 ∷ denied 1 1 ∷ [];
+      givens = none 0 ∷ none 0 ∷ none 0 ∷ met 0 0 ∷ denied 1 1 ∷ [];
       kepts = 1 ∷ 2 ∷ 3 ∷ 2 ∷ 1 ∷ [];
       left = 3;
     }
@@ -231,7 +247,7 @@ cases =
       rule = unary 13 5 10;
       events = facts 0 (0 ∷ []) ∷ facts 4 (0 ∷ []) ∷ facts 6 [] ∷ [];
       checked = reaching 0 0;
-      reports = denied 0 0 ∷ denied 1 4 ∷ met 2 6 ∷ [];
+      givens = denied 0 0 ∷ denied 1 4 ∷ met 2 6 ∷ [];
       kepts = 1 ∷ 2 ∷ 2 ∷ [];
       left = 0;
     }
@@ -240,7 +256,7 @@ cases =
       rule = unary 13 5 0;
       events = facts 0 (0 ∷ []) ∷ facts 4 (0 ∷ []) ∷ facts 11 [] ∷ [];
       checked = reaching 0 0;
-      reports = denied 0 0 ∷ denied 1 4 ∷ met 2 11 ∷ [];
+      givens = denied 0 0 ∷ denied 1 4 ∷ met 2 11 ∷ [];
       kepts = 1 ∷ 2 ∷ 1 ∷ [];
       left = 0;
     }
@@ -249,7 +265,7 @@ cases =
       rule = binary 9 0 5;
       events = facts 10 (1 ∷ []) ∷ facts 10 [] ∷ [];
       checked = reaching 0 0;
-      reports = met 0 10 ∷ denied 1 10 ∷ [];
+      givens = met 0 10 ∷ denied 1 10 ∷ [];
       kepts = 1 ∷ 0 ∷ [];
       left = 0;
     }
@@ -257,7 +273,7 @@ cases =
       rule = binary 10 0 5;
       events = facts 10 (1 ∷ []) ∷ facts 10 [] ∷ facts 10 (0 ∷ []) ∷ [];
       checked = reaching 0 0;
-      reports = met 0 10 ∷ met 1 10 ∷ denied 2 10 ∷ [];
+      givens = met 0 10 ∷ met 1 10 ∷ denied 2 10 ∷ [];
       kepts = 1 ∷ 1 ∷ 0 ∷ [];
       left = 0;
     }
@@ -266,16 +282,16 @@ cases =
       rule = unary 8 1 3;
       events = facts 10 [] ∷ facts 12 (0 ∷ []) ∷ facts 11 [] ∷ facts 15 (0 ∷ []) ∷ [];
       checked = reaching 0 0;
-      reports = none 0 ∷ met 0 10 ∷ (11 ∷ 0 ∷ []) ∷ denied 1 12 ∷ [];
+      givens = none 0 ∷ met 0 10 ∷ turned 11 0 ∷ denied 1 12 ∷ [];
       kepts = 0 ∷ 0 ∷ 0 ∷ 0 ∷ [];
       left = 1;
     }
     -- rows ascend by variable 0, then by variable 1, and a repeated row counts as one
     ∷ record {
       rule = 1 ∷ 1 ∷ 1 ∷ 0 ∷ 2 ∷ 0 ∷ 0 ∷ 0 ∷ 0 ∷ 0 ∷ 0 ∷ 0 ∷ (head 1 0 0 ++ body 0 1);
-      events = pairsOfWords 3 ((2 ∷ 1 ∷ []) ∷ (1 ∷ 5 ∷ []) ∷ (1 ∷ 3 ∷ []) ∷ (2 ∷ 1 ∷ []) ∷ []) ∷ [];
+      events = event 3 ((0 ∷ 2 ∷ 1 ∷ []) ∷ (0 ∷ 1 ∷ 5 ∷ []) ∷ (0 ∷ 1 ∷ 3 ∷ []) ∷ (0 ∷ 2 ∷ 1 ∷ []) ∷ []) ∷ [];
       checked = reaching 0 3;
-      reports = (1 ∷ 2 ∷ 3 ∷ 0 ∷ 3 ∷ 3 ∷ 1 ∷ 3 ∷ 1 ∷ 5 ∷ 2 ∷ 1 ∷ []) ∷ [];
+      givens = written (1 ∷ 2 ∷ 3 ∷ 0 ∷ 3 ∷ 3 ∷ 1 ∷ 3 ∷ 1 ∷ 5 ∷ 2 ∷ 1 ∷ []) ∷ [];
       kepts = 0 ∷ [];
       left = 0;
     }
@@ -284,6 +300,71 @@ cases =
     ∷ keeping 1 (1 ∷ 2 ∷ 2 ∷ 0 ∷ 3 ∷ 2 ∷ 1 ∷ 2 ∷ 2 ∷ 1 ∷ [])
     ∷ keeping 2 (1 ∷ 2 ∷ 1 ∷ 0 ∷ 3 ∷ 1 ∷ 1 ∷ 2 ∷ [])
     ∷ keeping 3 (1 ∷ 2 ∷ 2 ∷ 0 ∷ 3 ∷ 2 ∷ 2 ∷ 1 ∷ 2 ∷ 2 ∷ [])
+    -- and: rows that agree where both have the variable, here variable 1
+    ∷ record {
+      rule = sizes 2 3 ++ joinHeads ++ joinBodies;
+      events = event 3 ((0 ∷ 1 ∷ 2 ∷ []) ∷ (0 ∷ 3 ∷ 4 ∷ []) ∷ (1 ∷ 2 ∷ 6 ∷ []) ∷ (1 ∷ 2 ∷ 5 ∷ []) ∷ (1 ∷ 9 ∷ 9 ∷ []) ∷ []) ∷ [];
+      checked = reaching 0 7;
+      givens = written (1 ∷ 3 ∷ 2 ∷ 0 ∷ 3 ∷ 2 ∷ 1 ∷ 2 ∷ 5 ∷ 1 ∷ 2 ∷ 6 ∷ []) ∷ [];
+      kepts = 0 ∷ [];
+      left = 0;
+    }
+    -- exists: the same without variable 1, so that two rows become one
+    ∷ record {
+      rule = sizes 2 4 ++ joinHeads ++ head 6 2 0 ++ joinBodies ++ body 1 0;
+      events = event 3 ((0 ∷ 1 ∷ 2 ∷ []) ∷ (0 ∷ 1 ∷ 4 ∷ []) ∷ (1 ∷ 2 ∷ 6 ∷ []) ∷ (1 ∷ 4 ∷ 6 ∷ []) ∷ (1 ∷ 4 ∷ 5 ∷ []) ∷ []) ∷ [];
+      checked = reaching 0 5;
+      givens = written (1 ∷ 2 ∷ 2 ∷ 0 ∷ 3 ∷ 2 ∷ 1 ∷ 5 ∷ 1 ∷ 6 ∷ []) ∷ [];
+      kepts = 0 ∷ [];
+      left = 0;
+    }
+    -- or: the rows of both, one that both have once
+    ∷ record {
+      rule = sizes 1 3 ++ atoms ++ head 5 0 1 ++ body 0 0 ++ body 0 0 ++ body 0 0;
+      events = event 3 (columns 0 (3 ∷ 2 ∷ []) ++ columns 1 (1 ∷ 3 ∷ [])) ∷ [];
+      checked = reaching 0 1;
+      givens = written (1 ∷ 1 ∷ 3 ∷ 0 ∷ 3 ∷ 3 ∷ 1 ∷ 2 ∷ 3 ∷ []) ∷ [];
+      kepts = 0 ∷ [];
+      left = 0;
+    }
+    -- not-until [0, 5): right at 11 and 13, left at 12; 18 settles four points at once
+    ∷ record {
+      rule = binary 12 0 5;
+      events = facts 10 [] ∷ facts 11 (1 ∷ []) ∷ facts 12 (0 ∷ []) ∷ facts 13 (1 ∷ []) ∷ facts 18 [] ∷ [];
+      checked = reaching 5 0;
+      givens = none 0 ∷ none 0 ∷ none 0 ∷ none 0 ∷ written (4 ∷ 0 ∷ 3 ∷ 0 ∷ 10 ∷ 1 ∷ 1 ∷ 11 ∷ 1 ∷ 2 ∷ 12 ∷ 0 ∷ 3 ∷ 13 ∷ 1 ∷ []) ∷ [];
+      kepts = 0 ∷ 1 ∷ 2 ∷ 3 ∷ 0 ∷ [];
+      left = 1;
+    }
+    -- "9: under 2 words, m above 32, or wrong length"; 32 rows are taken. "10: a relation not below R or an unused column not 0; place is the first such row". "11: time below the last point's"
+    ∷ record {
+      rule = leaking;
+      events =
+          (5 ∷ []) ∷ (5 ∷ 1 ∷ leak ∷ 7 ∷ 0 ∷ 0 ∷ []) ∷ event 5 (columns leak (replicate 33 7)) ∷ event 5 (columns leak (replicate 32 7))
+          ∷ event 5 ((leak ∷ 7 ∷ []) ∷ (leak ∷ 7 ∷ 0 ∷ 0 ∷ 1 ∷ []) ∷ (2 ∷ 7 ∷ []) ∷ []) ∷ event 5 ((2 ∷ 7 ∷ []) ∷ []) ∷ one 4 leak 7 ∷ [];
+      checked = reaching 0 1;
+      givens = turned 9 0 ∷ turned 9 0 ∷ turned 9 0 ∷ written (1 ∷ 1 ∷ 1 ∷ 0 ∷ 5 ∷ 1 ∷ 7 ∷ []) ∷ turned 10 1 ∷ turned 10 0 ∷ turned 11 0 ∷ [];
+      kepts = 0 ∷ 0 ∷ 0 ∷ 0 ∷ 0 ∷ 0 ∷ 0 ∷ [];
+      left = 0;
+    }
+    -- "13, some node has over 32 valuations", the "and" of 4 × 8 rows and of 3 × 11
+    ∷ record {
+      rule = sizes 1 4 ++ joinHeads ++ head 6 2 0 ++ body 0 0 ++ body 1 0 ++ body 0 0 ++ body 1 0;
+      events = event 5 (columns 0 (range 1 4) ++ columns 1 (range 1 8)) ∷ event 5 (columns 0 (range 1 3) ++ columns 1 (range 1 11)) ∷ [];
+      checked = reaching 0 1;
+      givens = written (1 ∷ 1 ∷ 4 ∷ 0 ∷ 5 ∷ 4 ∷ 1 ∷ 2 ∷ 3 ∷ 4 ∷ []) ∷ turned 13 2 ∷ [];
+      kepts = 0 ∷ 0 ∷ [];
+      left = 0;
+    }
+    -- "16, report buffer too short, place the words needed": a report of 16 words fits, one of 17 doesn't
+    ∷ record {
+      rule = leaking;
+      events = event 5 (columns leak (range 1 11)) ∷ event 5 (columns leak (range 1 10)) ∷ [];
+      checked = reaching 0 1;
+      givens = turned 16 17 ∷ written (1 ∷ 1 ∷ 10 ∷ 0 ∷ 5 ∷ 10 ∷ range 1 10) ∷ [];
+      kepts = 0 ∷ 0 ∷ [];
+      left = 0;
+    }
     ∷ []
 
 -- every case of the table
