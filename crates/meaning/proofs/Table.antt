@@ -1,12 +1,15 @@
 -- The starred bench cases of 01, and cases that guard what meaning and evaluator share, as one table with one proof: from a rule's bytes and its events' words to the report's words and the kept figures, by the keeper's definitions.
-use Prim.Native.Nat.{ℕ, _/_, _%_}
+use Prim.Native.Nat.{ℕ, _+_, _*_, _/_, _%_}
 use mathlib.Core.Path.{_≡_, refl}
+use mathlib.Core.Bool.{not}
 use mathlib.Core.List.{List, [], _∷_, _++_, map}
 use lib.ListN.{length, getD, take, drop, replicate}
-use Rattle.meaning.specs.Lists.{range, gather}
+use lib.Dec.{eqb}
+use Rattle.meaning.specs.Lists.{any, range, gather}
 use Rattle.meaning.specs.Outcome.{Outcome, refused, given}
 use Rattle.meaning.specs.Log.{Log, time, rowsAt, latest}
-use Rattle.meaning.specs.RuleFile.{Accepted, wordAt, sizesFit, headAt, bodyAt, nodeOf, nodeAt, formulaAt, shapeFits, rangeFits, timesChild, weighNode, checking}
+use Rattle.meaning.specs.Formula.{withoutNext}
+use Rattle.meaning.specs.RuleFile.{Accepted, nodeCount, pattern, wordAt, sizesFit, headAt, bodyAt, nodeOf, nodeAt, formulaAt, shapeFits, rangeFits, timesChild, weighNode, checking}
 use Rattle.meaning.specs.Kept.{lastPairs, consulted, parentOf, pointEntries, ageEntries, entriesOf, entries, kept, openPoints}
 use Rattle.meaning.specs.Event.{isEvent, rowFits, pointOf}
 use Rattle.meaning.specs.Report.{reportWords}
@@ -25,9 +28,9 @@ pub record Case : Type 0 where
   -- the `open` figure after the last
   pub left : ℕ
 
--- Each taking's buffer: 16 words, none of which a report has.
+-- Each taking's buffer: 18 words, none of which a report has.
 abbrev room : List ℕ
-room = range 1000 16
+room = range 1000 18
 
 abbrev takings : Case → List Taking
 takings c = map (λ e. record { event = e; buffer = room }) (c .events)
@@ -65,19 +68,19 @@ body c d = word c ++ word d ++ word 0 ++ word 0
 abbrev head : ℕ → ℕ → ℕ → List ℕ
 head kind left right = kind ∷ left ∷ right ∷ 0 ∷ []
 
--- two relations of one arity
-abbrev sizes : ℕ → ℕ → List ℕ
-sizes a n = 1 ∷ 2 ∷ n ∷ 0 ∷ a ∷ a ∷ 0 ∷ 0 ∷ 0 ∷ 0 ∷ 0 ∷ 0 ∷ []
+-- two relations and their arities, and so many nodes
+abbrev sizes : ℕ → ℕ → ℕ → List ℕ
+sizes a a' n = 1 ∷ 2 ∷ n ∷ 0 ∷ a ∷ a' ∷ 0 ∷ 0 ∷ 0 ∷ 0 ∷ 0 ∷ 0 ∷ []
 
 abbrev atoms : List ℕ
 atoms = head 1 0 0 ++ head 1 1 0
 
 -- relation 0 and relation 1 without columns, and a kind over both, or over the first
 abbrev binary : ℕ → ℕ → ℕ → List ℕ
-binary kind c d = sizes 0 3 ++ atoms ++ head kind 0 1 ++ body 0 0 ++ body 0 0 ++ body c d
+binary kind c d = sizes 0 0 3 ++ atoms ++ head kind 0 1 ++ body 0 0 ++ body 0 0 ++ body c d
 
 abbrev unary : ℕ → ℕ → ℕ → List ℕ
-unary kind c d = sizes 0 2 ++ head 1 0 0 ++ head kind 0 0 ++ body 0 0 ++ body c d
+unary kind c d = sizes 0 0 2 ++ head 1 0 0 ++ head kind 0 0 ++ body 0 0 ++ body c d
 
 -- two atoms and their "and": relation 0 of variables 0 and 1, relation 1 of variables 1 and 2
 abbrev joinHeads : List ℕ
@@ -98,11 +101,11 @@ columns r vs = map (λ v. r ∷ v ∷ []) vs
 
 -- "Rule L: leak (relation 0) and-not eventually [0, 61) close (relation 1), both of variable 0: node 0 leak, 1 close, 2 eventually, 3 and-not"
 abbrev ruleL : List ℕ
-ruleL = sizes 1 4 ++ atoms ++ head 14 1 0 ++ head 3 0 2 ++ body 0 0 ++ body 0 0 ++ body 0 61 ++ body 0 0
+ruleL = sizes 1 1 4 ++ atoms ++ head 14 1 0 ++ head 3 0 2 ++ body 0 0 ++ body 0 0 ++ body 0 61 ++ body 0 0
 
 -- its leak alone
 abbrev leaking : List ℕ
-leaking = sizes 1 1 ++ head 1 0 0 ++ body 0 0
+leaking = sizes 1 1 1 ++ head 1 0 0 ++ body 0 0
 
 abbrev leak : ℕ
 leak = 0
@@ -140,6 +143,29 @@ keeping comparison words =
       kepts = 0 ∷ [];
       left = 0;
     }
+
+-- a kind with [0, 5) over relation 0 of variable 0 and relation 1 of variables 0 and 1: left is asked for its own variable alone
+abbrev asking : ℕ → ℕ → List Given → List ℕ → ℕ → Case
+asking kind reach givens kepts left =
+    record {
+      rule = sizes 1 2 3 ++ atoms ++ head kind 0 1 ++ body 0 0 ++ body 0 1 ++ body 0 5;
+      events = event 10 ((0 ∷ 1 ∷ []) ∷ []) ∷ event 12 ((1 ∷ 1 ∷ 2 ∷ []) ∷ (1 ∷ 3 ∷ 4 ∷ []) ∷ []) ∷ event 13 ((0 ∷ 1 ∷ []) ∷ []) ∷ event 20 [] ∷ [];
+      checked = reaching reach 3;
+      givens = givens;
+      kepts = kepts;
+      left = left;
+    }
+
+-- a rule alone, and what checking answers; rule L with another byte at one place
+abbrev checks : List ℕ → Outcome Accepted → Case
+checks b answer = record { rule = b; events = []; checked = answer; givens = []; kepts = []; left = 0 }
+
+abbrev changed : ℕ → ℕ → Outcome Accepted → Case
+changed at byte answer = checks (take at ruleL ++ byte ∷ drop (at + 1) ruleL) answer
+
+-- a kind over eventually [0, 5) and eventually [0, 3)
+abbrev over : ℕ → ℕ → ℕ → List ℕ
+over kind c d = sizes 0 0 5 ++ atoms ++ head 14 0 0 ++ head 14 1 0 ++ head kind 2 3 ++ body 0 0 ++ body 0 0 ++ body 0 5 ++ body 0 3 ++ body c d
 
 abbrev pub cases : List Case
 cases =
@@ -251,12 +277,12 @@ cases =
       kepts = 1 ∷ 2 ∷ 2 ∷ [];
       left = 0;
     }
-    -- with no end, ages above c count as c: 7 and 11 are one pair
+    -- with no end, ages above c count as c: 5 and 9 are one pair
     ∷ record {
       rule = unary 13 5 0;
-      events = facts 0 (0 ∷ []) ∷ facts 4 (0 ∷ []) ∷ facts 11 [] ∷ [];
+      events = facts 0 (0 ∷ []) ∷ facts 4 (0 ∷ []) ∷ facts 9 [] ∷ [];
       checked = reaching 0 0;
-      givens = denied 0 0 ∷ denied 1 4 ∷ met 2 11 ∷ [];
+      givens = denied 0 0 ∷ denied 1 4 ∷ met 2 9 ∷ [];
       kepts = 1 ∷ 2 ∷ 1 ∷ [];
       left = 0;
     }
@@ -302,7 +328,7 @@ cases =
     ∷ keeping 3 (1 ∷ 2 ∷ 2 ∷ 0 ∷ 3 ∷ 2 ∷ 2 ∷ 1 ∷ 2 ∷ 2 ∷ [])
     -- and: rows that agree where both have the variable, here variable 1
     ∷ record {
-      rule = sizes 2 3 ++ joinHeads ++ joinBodies;
+      rule = sizes 2 2 3 ++ joinHeads ++ joinBodies;
       events = event 3 ((0 ∷ 1 ∷ 2 ∷ []) ∷ (0 ∷ 3 ∷ 4 ∷ []) ∷ (1 ∷ 2 ∷ 6 ∷ []) ∷ (1 ∷ 2 ∷ 5 ∷ []) ∷ (1 ∷ 9 ∷ 9 ∷ []) ∷ []) ∷ [];
       checked = reaching 0 7;
       givens = written (1 ∷ 3 ∷ 2 ∷ 0 ∷ 3 ∷ 2 ∷ 1 ∷ 2 ∷ 5 ∷ 1 ∷ 2 ∷ 6 ∷ []) ∷ [];
@@ -311,7 +337,7 @@ cases =
     }
     -- exists: the same without variable 1, so that two rows become one
     ∷ record {
-      rule = sizes 2 4 ++ joinHeads ++ head 6 2 0 ++ joinBodies ++ body 1 0;
+      rule = sizes 2 2 4 ++ joinHeads ++ head 6 2 0 ++ joinBodies ++ body 1 0;
       events = event 3 ((0 ∷ 1 ∷ 2 ∷ []) ∷ (0 ∷ 1 ∷ 4 ∷ []) ∷ (1 ∷ 2 ∷ 6 ∷ []) ∷ (1 ∷ 4 ∷ 6 ∷ []) ∷ (1 ∷ 4 ∷ 5 ∷ []) ∷ []) ∷ [];
       checked = reaching 0 5;
       givens = written (1 ∷ 2 ∷ 2 ∷ 0 ∷ 3 ∷ 2 ∷ 1 ∷ 5 ∷ 1 ∷ 6 ∷ []) ∷ [];
@@ -320,7 +346,7 @@ cases =
     }
     -- or: the rows of both, one that both have once
     ∷ record {
-      rule = sizes 1 3 ++ atoms ++ head 5 0 1 ++ body 0 0 ++ body 0 0 ++ body 0 0;
+      rule = sizes 1 1 3 ++ atoms ++ head 5 0 1 ++ body 0 0 ++ body 0 0 ++ body 0 0;
       events = event 3 (columns 0 (3 ∷ 2 ∷ []) ++ columns 1 (1 ∷ 3 ∷ [])) ∷ [];
       checked = reaching 0 1;
       givens = written (1 ∷ 1 ∷ 3 ∷ 0 ∷ 3 ∷ 3 ∷ 1 ∷ 2 ∷ 3 ∷ []) ∷ [];
@@ -349,25 +375,88 @@ cases =
     }
     -- "13, some node has over 32 valuations", the "and" of 4 × 8 rows and of 3 × 11
     ∷ record {
-      rule = sizes 1 4 ++ joinHeads ++ head 6 2 0 ++ body 0 0 ++ body 1 0 ++ body 0 0 ++ body 1 0;
+      rule = sizes 1 1 4 ++ joinHeads ++ head 6 2 0 ++ body 0 0 ++ body 1 0 ++ body 0 0 ++ body 1 0;
       events = event 5 (columns 0 (range 1 4) ++ columns 1 (range 1 8)) ∷ event 5 (columns 0 (range 1 3) ++ columns 1 (range 1 11)) ∷ [];
       checked = reaching 0 1;
       givens = written (1 ∷ 1 ∷ 4 ∷ 0 ∷ 5 ∷ 4 ∷ 1 ∷ 2 ∷ 3 ∷ 4 ∷ []) ∷ turned 13 2 ∷ [];
       kepts = 0 ∷ 0 ∷ [];
       left = 0;
     }
-    -- "16, report buffer too short, place the words needed": a report of 16 words fits, one of 17 doesn't
+    -- "16, report buffer too short, place the words needed": a report of 18 words fits, one of 19 doesn't
     ∷ record {
       rule = leaking;
-      events = event 5 (columns leak (range 1 11)) ∷ event 5 (columns leak (range 1 10)) ∷ [];
+      events = event 5 (columns leak (range 1 13)) ∷ event 5 (columns leak (range 1 12)) ∷ [];
       checked = reaching 0 1;
-      givens = turned 16 17 ∷ written (1 ∷ 1 ∷ 10 ∷ 0 ∷ 5 ∷ 10 ∷ range 1 10) ∷ [];
+      givens = turned 16 19 ∷ written (1 ∷ 1 ∷ 12 ∷ 0 ∷ 5 ∷ 12 ∷ range 1 12) ∷ [];
       kepts = 0 ∷ 0 ∷ [];
       left = 0;
     }
+    -- since, not-since, until, not-until where left has fewer variables; and-not where right has
+    ∷ asking 9 0 (written (1 ∷ 2 ∷ 0 ∷ 0 ∷ 10 ∷ 0 ∷ []) ∷ written (1 ∷ 2 ∷ 2 ∷ 1 ∷ 12 ∷ 2 ∷ 1 ∷ 2 ∷ 3 ∷ 4 ∷ []) ∷ written (1 ∷ 2 ∷ 1 ∷ 2 ∷ 13 ∷ 1 ∷ 1 ∷ 2 ∷ []) ∷ written (1 ∷ 2 ∷ 0 ∷ 3 ∷ 20 ∷ 0 ∷ []) ∷ []) (0 ∷ 2 ∷ 1 ∷ 0 ∷ []) 0
+    ∷ asking 10 0 (written (1 ∷ 2 ∷ 0 ∷ 0 ∷ 10 ∷ 0 ∷ []) ∷ written (1 ∷ 2 ∷ 2 ∷ 1 ∷ 12 ∷ 2 ∷ 1 ∷ 2 ∷ 3 ∷ 4 ∷ []) ∷ written (1 ∷ 2 ∷ 1 ∷ 2 ∷ 13 ∷ 1 ∷ 3 ∷ 4 ∷ []) ∷ written (1 ∷ 2 ∷ 0 ∷ 3 ∷ 20 ∷ 0 ∷ []) ∷ []) (0 ∷ 2 ∷ 1 ∷ 0 ∷ []) 0
+    ∷ asking 11 5 (none 2 ∷ none 2 ∷ none 2 ∷ written (3 ∷ 2 ∷ 3 ∷ 0 ∷ 10 ∷ 1 ∷ 1 ∷ 12 ∷ 2 ∷ 2 ∷ 13 ∷ 0 ∷ 1 ∷ 2 ∷ 1 ∷ 2 ∷ 3 ∷ 4 ∷ []) ∷ []) (1 ∷ 3 ∷ 4 ∷ 0 ∷ []) 1
+    ∷ asking 12 5 (none 2 ∷ none 2 ∷ none 2 ∷ written (3 ∷ 2 ∷ 3 ∷ 0 ∷ 10 ∷ 1 ∷ 1 ∷ 12 ∷ 2 ∷ 2 ∷ 13 ∷ 0 ∷ 3 ∷ 4 ∷ 1 ∷ 2 ∷ 3 ∷ 4 ∷ []) ∷ []) (1 ∷ 3 ∷ 4 ∷ 0 ∷ []) 1
+    ∷ record {
+      rule = sizes 2 1 3 ++ atoms ++ head 3 0 1 ++ body 0 1 ++ body 0 0 ++ body 0 0;
+      events = event 3 ((0 ∷ 1 ∷ 2 ∷ []) ∷ (0 ∷ 3 ∷ 4 ∷ []) ∷ (1 ∷ 1 ∷ []) ∷ []) ∷ [];
+      checked = reaching 0 3;
+      givens = written (1 ∷ 2 ∷ 1 ∷ 0 ∷ 3 ∷ 1 ∷ 3 ∷ 4 ∷ []) ∷ [];
+      kepts = 0 ∷ [];
+      left = 0;
+    }
+    -- "A term is a constant if its mask bit is set": an atom of variable 0, the constant 67,305,985 (bytes 1, 2, 3, 4), variable 2 and the constant 6; kept where variable 2 is less than 7
+    ∷ record {
+      rule = sizes 4 0 2 ++ (1 ∷ 0 ∷ 0 ∷ 10 ∷ 4 ∷ 0 ∷ 2 ∷ 2 ∷ []) ++ word 0 ++ (1 ∷ 2 ∷ 3 ∷ 4 ∷ []) ++ word 2 ++ word 6 ++ body 2 7;
+      events = event 3 ((0 ∷ 9 ∷ 67305985 ∷ 5 ∷ 6 ∷ []) ∷ (0 ∷ 8 ∷ 67305985 ∷ 7 ∷ 6 ∷ []) ∷ (0 ∷ 9 ∷ 1 ∷ 4 ∷ 6 ∷ []) ∷ (0 ∷ 9 ∷ 67305985 ∷ 4 ∷ 5 ∷ []) ∷ []) ∷ [];
+      checked = reaching 0 5;
+      givens = written (1 ∷ 2 ∷ 1 ∷ 0 ∷ 3 ∷ 1 ∷ 9 ∷ 5 ∷ []) ∷ [];
+      kepts = 0 ∷ [];
+      left = 0;
+    }
+    -- reach: "d plus the greatest reach of their children; any other node has its children's greatest"
+    ∷ checks (over 2 0 0) (reaching 5 0)
+    ∷ checks (over 3 0 0) (reaching 5 0)
+    ∷ checks (over 5 0 0) (reaching 5 0)
+    ∷ checks (over 9 0 2) (reaching 5 0)
+    ∷ checks (over 10 0 2) (reaching 5 0)
+    ∷ checks (over 11 0 2) (reaching 7 0)
+    ∷ checks (over 12 0 2) (reaching 7 0)
+    ∷ checks (sizes 0 0 3 ++ head 1 0 0 ++ head 14 0 0 ++ head 8 1 0 ++ body 0 0 ++ body 0 5 ++ body 0 2) (reaching 5 0)
+    -- windows at 01's limits
+    ∷ checks (unary 13 0 604800) (reaching 0 0)
+    ∷ checks (unary 13 0 604801) (refused 5 1)
+    ∷ checks (unary 13 604799 0) (reaching 0 0)
+    ∷ checks (unary 13 604800 0) (refused 5 1)
+    ∷ checks (unary 13 5 5) (refused 5 1)
+    ∷ checks (unary 14 5 0) (refused 5 1)
+    -- rule L cut or lengthened, and with one byte changed: version; R, N, the zero byte, an arity, one beyond R; kind, relation, unnamed field, mask bit, child, variable; variables of and-not; a child twice
+    ∷ checks (take 11 ruleL) (refused 1 0)
+    ∷ checks (ruleL ++ 0 ∷ []) (refused 1 0)
+    ∷ changed 0 2 (refused 2 0)
+    ∷ changed 1 8 (reaching 61 1)
+    ∷ changed 1 9 (refused 3 0)
+    ∷ changed 2 33 (refused 3 0)
+    ∷ changed 3 1 (refused 3 0)
+    ∷ changed 4 5 (refused 3 0)
+    ∷ changed 6 1 (refused 3 0)
+    ∷ changed 12 15 (refused 4 0)
+    ∷ changed 13 2 (refused 4 0)
+    ∷ changed 14 1 (refused 4 0)
+    ∷ changed 15 2 (refused 4 0)
+    ∷ changed 21 2 (refused 4 2)
+    ∷ changed 44 4 (refused 4 1)
+    ∷ changed 44 1 (refused 6 3)
+    ∷ changed 26 1 (refused 7 1)
+    -- 32 nodes: 31 times "previous" over an atom
+    ∷ checks (sizes 0 0 32 ++ head 1 0 0 ++ gather (λ x. head 7 x 0) (range 0 31) ++ body 0 0 ++ gather (λ x. body 0 0) (range 0 31)) (reaching 0 0)
     ∷ []
 
 -- every case of the table
 pub starred : map run cases ≡ cases
 unfolding time rowsAt latest wordAt sizesFit headAt bodyAt nodeOf nodeAt formulaAt shapeFits rangeFits timesChild weighNode checking lastPairs consulted parentOf pointEntries ageEntries entriesOf entries kept openPoints isEvent rowFits pointOf reportWords newlySettled reported report admitted weighed crowdedAt answer step answered
 starred = refl
+
+-- of these rules, those without "next" are the ones that have no head of kind 8
+pub nextless : map (λ c. withoutNext (pattern (c .rule))) cases ≡ map (λ c. not (any (λ x. eqb (getD (c .rule) (12 + 4 * x) 0) 8) (range 0 (nodeCount (c .rule))))) cases
+unfolding wordAt headAt bodyAt nodeOf nodeAt formulaAt
+nextless = refl
