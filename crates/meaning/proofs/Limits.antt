@@ -18,7 +18,7 @@ use Rattle.meaning.specs.Settled.{settled}
 use Rattle.meaning.specs.RuleFile.{relationCount, arity, formulaAt}
 use Rattle.meaning.specs.Event.{rowCount, relationOf, isEvent, rowFits, columnsOf}
 use Rattle.meaning.specs.Keeper.{newlySettled, weighRows, weighCrowds, admitted, weighed, crowdedAt}
-use Rattle.meaning.specs.Limits.{EventForm, RowForm, Formed, Admits, Weighs, Crowded}
+use Rattle.meaning.specs.Limits.{EventForm, RowForm, EventFits, Admits, Weighs, Crowded}
 use Rattle.meaning.proofs.Points.{both, first, second}
 use Rattle.meaning.proofs.Rows.{any-at, any-of, select-at, select-of, points-at, points-of}
 use Rattle.meaning.specs.declared.Point.{Point}
@@ -128,7 +128,7 @@ module _ (b w : List ℕ) (last points : ℕ) (rest : Outcome ℕ) where
   unfolding admitted
   event-passed f = rw (event-of w f) (rows-each b w (range 0 (rowCount w)) _)
 
-  rows-passed : Formed b w → admitted b w last points rest ≡ when (ltb (getD w 0 0) last) 11 0 (when (leb 10000000 points) 12 0 rest)
+  rows-passed : EventFits b w → admitted b w last points rest ≡ when (ltb (getD w 0 0) last) 11 0 (when (leb 10000000 points) 12 0 rest)
   rows-passed f = event-passed (f .event) ∙ none-fails (λ k. not (rowFits b w k)) 10 _ 0 (rowCount w) (λ k u o. ap not (row-of b w k (f .rows k (omega arith))))
 
   pub admitted-exact : Admits b w last points rest (admitted b w last points rest)

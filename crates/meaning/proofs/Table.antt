@@ -133,10 +133,13 @@ abbrev reaching : ℕ → ℕ → Outcome Accepted
 reaching r f = given (record { reach = r; free = f })
 
 -- relation 0 of two columns, kept by a comparison of the two
+abbrev comparing : ℕ → List ℕ
+comparing comparison = sizes 2 0 2 ++ head 1 0 0 ++ head 4 0 comparison ++ body 0 1 ++ body 0 1
+
 abbrev keeping : ℕ → List ℕ → Case
 keeping comparison words =
     record {
-      rule = 1 ∷ 1 ∷ 2 ∷ 0 ∷ 2 ∷ 0 ∷ 0 ∷ 0 ∷ 0 ∷ 0 ∷ 0 ∷ 0 ∷ (head 1 0 0 ++ head 4 0 comparison ++ body 0 1 ++ body 0 1);
+      rule = comparing comparison;
       events = event 3 ((0 ∷ 1 ∷ 2 ∷ []) ∷ (0 ∷ 2 ∷ 1 ∷ []) ∷ (0 ∷ 2 ∷ 2 ∷ []) ∷ []) ∷ [];
       checked = reaching 0 3;
       givens = written words ∷ [];
@@ -156,16 +159,76 @@ asking kind reach givens kepts left =
       left = left;
     }
 
--- a rule alone, and what checking answers; rule L with another byte at one place
+-- a rule alone, and what checking answers; a rule with another byte at one place; a rule with another byte at each of some places in turn, which 4 refuses at node x
 abbrev checks : List ℕ → Outcome Accepted → Case
 checks b answer = record { rule = b; events = []; checked = answer; givens = []; kepts = []; left = 0 }
 
-abbrev changed : ℕ → ℕ → Outcome Accepted → Case
-changed at byte answer = checks (take at ruleL ++ byte ∷ drop (at + 1) ruleL) answer
+abbrev changed : List ℕ → ℕ → ℕ → Outcome Accepted → Case
+changed b at byte answer = checks (take at b ++ byte ∷ drop (at + 1) b) answer
+
+abbrev spoilt : List ℕ → ℕ → ℕ → List ℕ → List Case
+spoilt b x byte places = map (λ at. changed b at byte (refused 4 x)) places
 
 -- a kind over eventually [0, 5) and eventually [0, 3)
 abbrev over : ℕ → ℕ → ℕ → List ℕ
 over kind c d = sizes 0 0 5 ++ atoms ++ head 14 0 0 ++ head 14 1 0 ++ head kind 2 3 ++ body 0 0 ++ body 0 0 ++ body 0 5 ++ body 0 3 ++ body c d
+
+-- exists of rule L's leak
+abbrev existing : List ℕ
+existing = sizes 1 1 2 ++ head 1 0 0 ++ head 6 0 0 ++ body 0 0 ++ body 0 0
+
+-- "Check a rule"
+abbrev rules : List Case
+rules =
+    -- 1 to 3: cut, longer; version; R, N, the zero byte, arities
+    checks (take 11 ruleL) (refused 1 0)
+    ∷ checks (ruleL ++ 0 ∷ []) (refused 1 0)
+    ∷ changed ruleL 0 2 (refused 2 0)
+    ∷ changed ruleL 1 0 (refused 3 0)
+    ∷ changed ruleL 1 8 (reaching 61 1)
+    ∷ changed ruleL 1 9 (refused 3 0)
+    ∷ changed ruleL 2 0 (refused 3 0)
+    ∷ changed ruleL 2 33 (refused 3 0)
+    ∷ changed ruleL 3 1 (refused 3 0)
+    ∷ changed ruleL 4 5 (refused 3 0)
+    ∷ changed ruleL 11 1 (refused 3 0)
+    -- 32 nodes: 31 times "previous" over an atom
+    ∷ checks (sizes 0 0 32 ++ head 1 0 0 ++ gather (λ x. head 7 x 0) (range 0 31) ++ body 0 0 ++ gather (λ x. body 0 0) (range 0 31)) (reaching 0 0)
+    -- 6 and 7: variables of and-not and of exists; a child twice
+    ∷ changed ruleL 44 1 (refused 6 3)
+    ∷ changed existing 36 1 (refused 6 1)
+    ∷ changed ruleL 26 1 (refused 7 1)
+    -- 5: windows at 01's limits, without length, without end
+    ∷ checks (unary 13 0 604800) (reaching 0 0)
+    ∷ checks (unary 13 0 604801) (refused 5 1)
+    ∷ checks (unary 13 604799 0) (reaching 0 0)
+    ∷ checks (unary 13 604800 0) (refused 5 1)
+    ∷ map (λ kind. checks (unary kind 5 5) (refused 5 1)) (7 ∷ 8 ∷ 13 ∷ 14 ∷ [])
+    ++ map (λ kind. checks (binary kind 5 5) (refused 5 2)) (9 ∷ 10 ∷ 11 ∷ 12 ∷ [])
+    ++ map (λ kind. checks (unary kind 5 0) (reaching 0 0)) (7 ∷ 8 ∷ 13 ∷ [])
+    ++ map (λ kind. checks (binary kind 5 0) (reaching 0 0)) (9 ∷ 10 ∷ [])
+    ++ map (λ kind. checks (binary kind 5 0) (refused 5 2)) (11 ∷ 12 ∷ [])
+    ++ map (λ kind. checks (unary kind 5 0) (refused 5 1)) (14 ∷ [])
+    -- 4 of an atom, and, keep, exists, once and since: kind, child, relation, variable, comparison, and each field that isn't named
+    ++ spoilt ruleL 0 15 (12 ∷ [])
+    ++ spoilt ruleL 0 2 (13 ∷ 15 ∷ [])
+    ++ spoilt ruleL 0 16 (15 ∷ [])
+    ++ spoilt ruleL 0 4 (28 ∷ [])
+    ++ spoilt ruleL 0 1 (14 ∷ 32 ∷ 36 ∷ 40 ∷ [])
+    ++ spoilt (binary 2 0 0) 2 2 (21 ∷ 22 ∷ [])
+    ++ spoilt (binary 2 0 0) 2 1 (23 ∷ 56 ∷ 60 ∷ 64 ∷ 68 ∷ [])
+    ++ spoilt (comparing 2) 1 4 (18 ∷ 19 ∷ 36 ∷ 40 ∷ [])
+    ++ spoilt (comparing 2) 1 1 (17 ∷ 44 ∷ 48 ∷ [])
+    ++ spoilt existing 1 4 (36 ∷ [])
+    ++ spoilt existing 1 1 (17 ∷ 18 ∷ 19 ∷ 40 ∷ 44 ∷ 48 ∷ [])
+    ++ spoilt (unary 13 0 5) 1 1 (17 ∷ 18 ∷ 19 ∷ 44 ∷ 48 ∷ [])
+    ++ spoilt (binary 9 0 5) 2 2 (21 ∷ 22 ∷ [])
+    ++ spoilt (binary 9 0 5) 2 1 (23 ∷ 64 ∷ 68 ∷ [])
+    -- reach: "d plus the greatest reach of their children; any other node has its children's greatest"
+    ++ map (λ kind. checks (over kind 0 0) (reaching 5 0)) (2 ∷ 3 ∷ 5 ∷ [])
+    ++ map (λ kind. checks (over kind 0 2) (reaching 5 0)) (9 ∷ 10 ∷ [])
+    ++ map (λ kind. checks (over kind 0 2) (reaching 7 0)) (11 ∷ 12 ∷ [])
+    ++ checks (sizes 0 0 3 ++ head 1 0 0 ++ head 14 0 0 ++ head 8 1 0 ++ body 0 0 ++ body 0 5 ++ body 0 2) (reaching 5 0) ∷ []
 
 abbrev pub cases : List Case
 cases =
@@ -413,43 +476,7 @@ cases =
       kepts = 0 ∷ [];
       left = 0;
     }
-    -- reach: "d plus the greatest reach of their children; any other node has its children's greatest"
-    ∷ checks (over 2 0 0) (reaching 5 0)
-    ∷ checks (over 3 0 0) (reaching 5 0)
-    ∷ checks (over 5 0 0) (reaching 5 0)
-    ∷ checks (over 9 0 2) (reaching 5 0)
-    ∷ checks (over 10 0 2) (reaching 5 0)
-    ∷ checks (over 11 0 2) (reaching 7 0)
-    ∷ checks (over 12 0 2) (reaching 7 0)
-    ∷ checks (sizes 0 0 3 ++ head 1 0 0 ++ head 14 0 0 ++ head 8 1 0 ++ body 0 0 ++ body 0 5 ++ body 0 2) (reaching 5 0)
-    -- windows at 01's limits
-    ∷ checks (unary 13 0 604800) (reaching 0 0)
-    ∷ checks (unary 13 0 604801) (refused 5 1)
-    ∷ checks (unary 13 604799 0) (reaching 0 0)
-    ∷ checks (unary 13 604800 0) (refused 5 1)
-    ∷ checks (unary 13 5 5) (refused 5 1)
-    ∷ checks (unary 14 5 0) (refused 5 1)
-    -- rule L cut or lengthened, and with one byte changed: version; R, N, the zero byte, an arity, one beyond R; kind, relation, unnamed field, mask bit, child, variable; variables of and-not; a child twice
-    ∷ checks (take 11 ruleL) (refused 1 0)
-    ∷ checks (ruleL ++ 0 ∷ []) (refused 1 0)
-    ∷ changed 0 2 (refused 2 0)
-    ∷ changed 1 8 (reaching 61 1)
-    ∷ changed 1 9 (refused 3 0)
-    ∷ changed 2 33 (refused 3 0)
-    ∷ changed 3 1 (refused 3 0)
-    ∷ changed 4 5 (refused 3 0)
-    ∷ changed 6 1 (refused 3 0)
-    ∷ changed 12 15 (refused 4 0)
-    ∷ changed 13 2 (refused 4 0)
-    ∷ changed 14 1 (refused 4 0)
-    ∷ changed 15 2 (refused 4 0)
-    ∷ changed 21 2 (refused 4 2)
-    ∷ changed 44 4 (refused 4 1)
-    ∷ changed 44 1 (refused 6 3)
-    ∷ changed 26 1 (refused 7 1)
-    -- 32 nodes: 31 times "previous" over an atom
-    ∷ checks (sizes 0 0 32 ++ head 1 0 0 ++ gather (λ x. head 7 x 0) (range 0 31) ++ body 0 0 ++ gather (λ x. body 0 0) (range 0 31)) (reaching 0 0)
-    ∷ []
+    ∷ rules
 
 -- every case of the table
 pub starred : map run cases ≡ cases

@@ -24,7 +24,7 @@ pub record RowForm (b w : List ℕ) (k : ℕ) : Type 0 where
   pub unused : (c : ℕ) → arity b (getD w (2 + k) 0) ≤ c → c < 4 → getD w (2 + getD w 1 0 + 4 * k + c) 0 ≡ 0
 
 -- the event passes 9 and 10
-pub record Formed (b w : List ℕ) : Type 0 where
+pub record EventFits (b w : List ℕ) : Type 0 where
   pub event : EventForm w
   pub rows : (k : ℕ) → k < getD w 1 0 → RowForm b w k
 
@@ -34,10 +34,10 @@ pub record Admits (b w : List ℕ) (last points : ℕ) (rest answer : Outcome �
   -- "place is the first such row, from 0"
   pub rowOut : EventForm w → (k : ℕ) → k < getD w 1 0 → (RowForm b w k → ⊥) → ((j : ℕ) → j < k → RowForm b w j) → answer ≡ refused 10 k
   -- "11: time below the last point's"
-  pub timeFalls : Formed b w → getD w 0 0 < last → answer ≡ refused 11 0
+  pub timeFalls : EventFits b w → getD w 0 0 < last → answer ≡ refused 11 0
   -- "12: 10,000,000 points already"
-  pub logFull : Formed b w → last ≤ getD w 0 0 → 10000000 ≤ points → answer ≡ refused 12 0
-  pub passed : Formed b w → last ≤ getD w 0 0 → points < 10000000 → answer ≡ rest
+  pub logFull : EventFits b w → last ≤ getD w 0 0 → 10000000 ≤ points → answer ≡ refused 12 0
+  pub passed : EventFits b w → last ≤ getD w 0 0 → points < 10000000 → answer ≡ rest
 
 -- 13 to 16, by the nodes that are crowded, the points left unsettled, the entries kept, the report's words and the buffer's
 pub record Weighs (crowds : ℕ → Bool) (nodes unsettled entries words room : ℕ) (answer : Outcome ℕ) : Type 0 where
