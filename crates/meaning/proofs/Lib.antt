@@ -13,4 +13,5 @@ pub mod Settles
 pub mod Steady
 pub mod Ground
 pub mod Takings
+pub mod Limits
 pub mod Table

@@ -13,3 +13,4 @@ pub mod Kept
 pub mod Event
 pub mod Report
 pub mod Keeper
+pub mod Limits
