@@ -23,7 +23,7 @@ use Rattle.method.proofs.Turns.{map-points, turns-at}
 use Rattle.kinds.specs.Kinds.{inMask}
 use Rattle.room.specs.Room.{setAt}
 use Rattle.shelf.specs.Entries.{entriesFrom}
-use Rattle.writer.specs.Words.{setOf, reportedFrom, words}
+use Rattle.writer.specs.Words.{reportedFrom, words}
 use Rattle.writer.proofs.Reports.{reportable}
 use Rattle.turns.specs.Turns.{figure, turnIn, crowdedIn, Begun, AllTurned, FirstCrowded}
 use Rattle.weighing.specs.declared.Refusal.the-variants.{Crowded}
@@ -119,7 +119,7 @@ module _ {b os ns vs : List ℕ} {count : ℕ} {before after times : List ℕ} {
     low-before : figure lows x ≤ figure before x
     low-before = omega (arith, low-is, h .low-before x last-node)
 
-    pub last-ready : 32 ≤ length firsts → Last b rows at firsts lows masks before after points
+    pub last-ready : 32 ≤ length firsts → Last b rows at firsts lows masks before after (point base) points
     last-ready n =
         let nodes : lastNode b < nodeCount b = last-node in
         let long : length b ≡ _ = accepted b (h .accepted .0) (h .accepted .1) .long in
@@ -134,7 +134,7 @@ module _ {b os ns vs : List ℕ} {count : ℕ} {before after times : List ℕ} {
           grown = h .before-after x last-node;
           settled = h .after-most x last-node;
           sets = reportable low-before (t .sets .laid) (omega (arith, low-before, h .before-after x last-node, t .placed x last-node)) (omega (arith, h .after-most x last-node, h .before-after x last-node, h .some-points));
-          few = λ q o. t .sets .few (setOf (figure firsts x) (figure lows x) (figure before x) + q) (omega (arith, low-before, h .before-after x last-node, t .placed x last-node));
+          few = λ q u o. t .sets .few q (omega (arith, low-before, h .before-after x last-node, t .placed x last-node));
           few-points = omega (arith, low-is, low-before, h .span x last-node);
         }
 
@@ -152,14 +152,14 @@ module _ {b os ns vs : List ℕ} {count : ℕ} {before after times : List ℕ} {
     free-is : (v : ℕ) → v < 4 → inMask (figure masks x) v ≡ free (pattern b) v
     free-is = h .mask x last-node
 
-    pub report-same : lastWords b rows at firsts lows masks before after (base .0) times ≡ reportIn b os ns vs count before after times base w
+    pub report-same : lastWords b rows at firsts lows masks before after base times ≡ reportIn b os ns vs count before after times base w
     unfolding words reportedFrom reportIn reportedAt
     report-same =
         ap₂ reportWords (count-same (inMask (figure masks x)) (free (pattern b)) free-is)
         (map-points _ _ (figure before x) (figure after x - figure before x)
         (λ j u o. ap (reportedAt j base times) (map-alike _ _ (shown-same (inMask (figure masks x)) (free (pattern b)) free-is) (setAt rows at (figure firsts x) (point (figure lows x)) j) ∙ ap (map (reportRow (free (pattern b)))) (set-is j u o))))
 
-    pub weighed-settles : {buffer buffer' : List ℕ} {r : Weighed} → Weighs (points - figure after x) k (lastWords b rows at firsts lows masks before after (base .0) times) buffer buffer' r
+    pub weighed-settles : {buffer buffer' : List ℕ} {r : Weighed} → Weighs (points - figure after x) k (lastWords b rows at firsts lows masks before after base times) buffer buffer' r
         → SettledAll b os ns vs count before after times base w points buffer buffer' os' ns' vs' r
     unfolding weighed entriesFrom
     weighed-settles {buffer} {buffer'} {r} s =

@@ -1,10 +1,17 @@
 // Refusals 14 to 16, and the report where none applies: what the turns of a call leave weighed, and the report written.
 use meaning::Point;
-ghost use Prim.Native.Nat.{_-_, _<_};
+use writer::Points;
+use writer::Wrote;
+ghost use Prim.Native.Nat.{_-_, _<_, _^_};
 ghost use lib.ListN.{length, getD};
 ghost use Rattle.meaning.specs.RuleFile.{lastNode};
 ghost use Rattle.writer.specs.Words.{words, Reportable};
 ghost use Rattle.weighing.specs.Weighs.{Weighs, Last, lastWords};
+
+// The most points that may be unsettled for the last node, and the most entries that may be kept.
+pub const MOST_OPEN: u32 = 32;
+
+pub const MOST_KEPT: usize = 512;
 
 // A refusal of a taking, with its place where it has one.
 pub enum Refusal {
@@ -25,48 +32,31 @@ pub enum Weighed {
     Written(u32, u32),
 }
 
-// Refusals 14 to 16, and the report where none applies: on so many points from i on, which the last node has newly settled. `unsettled` points are left for it, and `kept` entries would be kept.
+// Refusals 14 to 16, and the report where none applies: on points that the last node has newly settled. `unsettled` points are left for it, and `kept` entries would be kept.
 fn weigh(
+    report: &mut [u32],
     rows: &[u32],
     marks: &[u32],
-    first: usize,
-    low: Point,
     times: &[u32],
-    base: Point,
-    mask: u8,
-    i: Point,
-    points: u32,
+    p: Points,
     unsettled: u32,
     kept: usize,
-    report: &mut [u32],
 ) -> Weighed
-    requires { ⌜ Reportable (now rows) (now marks) first (low .0) (i .0) points ⌝ }
-    requires { ⌜ length (words (now rows) (now marks) first (low .0) (base .0) (now times) mask (i .0) points) < 4294967296 ⌝ }
-    ensures { λ r. ⌜ Weighs unsettled kept (words (now (rows .entry)) (now (marks .entry)) first (low .0) (base .0) (now (times .entry)) mask (i .0) points) (now (report .entry)) (now (report .exit)) r ⌝ }
+    requires { ⌜ Reportable (now rows) (now marks) p ⌝ }
+    requires { ⌜ length (words (now rows) (now marks) (now times) p) < 2 ^ 32 ⌝ }
+    ensures { λ r. ⌜ Weighs unsettled kept (words (now (rows .entry)) (now (marks .entry)) (now (times .entry)) p) (now (report .entry)) (now (report .exit)) r ⌝ }
 {
-    if 32 < unsettled {
+    if MOST_OPEN < unsettled {
         return Weighed::Refused(Refusal::Backlog);
     }
-    if 512 < kept {
+    if MOST_KEPT < kept {
         return Weighed::Refused(Refusal::KeptOver);
     }
-    let needed = writer::words_needed(marks, first, low, i, points, mask);
-    if report.len() < needed {
-        return Weighed::Refused(Refusal::BufferShort(needed as u32));
+    let wrote = writer::write(report, rows, marks, times, p);
+    match wrote {
+        Wrote::Short(needed) => Weighed::Refused(Refusal::BufferShort(needed as u32)),
+        Wrote::Words(words) => Weighed::Written(words as u32, kept as u32),
     }
-    let written = writer::write(
-        rows,
-        marks,
-        first,
-        low,
-        times,
-        base,
-        mask,
-        i,
-        points,
-        report,
-    );
-    Weighed::Written(written as u32, kept as u32)
 }
 
 // The same from the figures of all nodes, after their turns.
@@ -85,24 +75,19 @@ pub fn weigh_last(
     kept: usize,
     report: &mut [u32],
 ) -> Weighed
-    requires { ⌜ Last (now rule) (now rows) (now marks) (now firsts) (now lows) (now masks) (now before) (now after) points ⌝ }
-    ensures { λ r. ⌜ Weighs (points - getD (now (after .entry)) (lastNode (now (rule .entry))) 0) kept (lastWords (now (rule .entry)) (now (rows .entry)) (now (marks .entry)) (now (firsts .entry)) (now (lows .entry)) (now (masks .entry)) (now (before .entry)) (now (after .entry)) (base .0) (now (times .entry))) (now (report .entry)) (now (report .exit)) r ⌝ }
+    requires { ⌜ Last (now rule) (now rows) (now marks) (now firsts) (now lows) (now masks) (now before) (now after) base points ⌝ }
+    ensures { λ r. ⌜ Weighs (points - getD (now (after .entry)) (lastNode (now (rule .entry))) 0) kept (lastWords (now (rule .entry)) (now (rows .entry)) (now (marks .entry)) (now (firsts .entry)) (now (lows .entry)) (now (masks .entry)) (now (before .entry)) (now (after .entry)) base (now (times .entry))) (now (report .entry)) (now (report .exit)) r ⌝ }
 {
     let x = (rule[2] - 1) as usize;
     let settled = after[x];
     let i = before[x];
-    weigh(
-        rows,
-        marks,
-        firsts[x] as usize,
-        Point(lows[x]),
-        times,
-        base,
-        masks[x],
-        Point(i),
-        settled - i,
-        points - settled,
-        kept,
-        report,
-    )
+    let p = Points {
+        from: Point(i),
+        count: settled - i,
+        first: firsts[x] as usize,
+        low: Point(lows[x]),
+        base: base,
+        mask: masks[x],
+    };
+    weigh(report, rows, marks, times, p, points - settled, kept)
 }

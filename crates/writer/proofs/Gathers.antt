@@ -15,9 +15,9 @@ module _ {A B : Type 0} (f : A → List B) where
       rw (length-append (f x) (gather f xs), mul-suc n (length xs))
       (omega (arith, h x, gather-length n h xs))
 
-pub gather-map : {A B : Type 0} (f : A → List B) (xs : List A) → gather (λ r. r) (map f xs) ≡ gather f xs
-gather-map f [] = refl
-gather-map f (x ∷ xs) = ap (λ us. f x ++ us) (gather-map f xs)
+pub gather-map : {A B C : Type 0} (f : B → List C) (g : A → B) (xs : List A) → gather f (map g xs) ≡ gather (λ x. f (g x)) xs
+gather-map f g [] = refl
+gather-map f g (x ∷ xs) = ap (λ us. f (g x) ++ us) (gather-map f g xs)
 
 -- what numbers in a row give, from the front
 module _ (give : ℕ → List ℕ) (to i : ℕ) where

@@ -2,4 +2,5 @@
 pub mod Gathers
 pub mod Putting
 pub mod Reports
-pub mod Held
+pub mod Writing
+pub mod Again

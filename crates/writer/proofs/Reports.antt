@@ -9,8 +9,9 @@ use lib.ListN.{length, getD, length-append, length-map}
 use Rattle.meaning.specs.Lists.{range, select, gather, total}
 use Rattle.meaning.specs.Log.{point, pointsFrom}
 use Rattle.meaning.specs.Formula.{variables}
-use Rattle.meaning.specs.Report.{triple, rowWords, reportWords}
+use Rattle.meaning.specs.Report.{Reported, triple, rowWords, reportWords}
 use Rattle.meaning.specs.Keeper.{reportRow}
+use Rattle.meaning.specs.declared.Point.{Point}
 use Rattle.meaning.specs.declared.Stamp.{Stamp}
 use Rattle.meaning.proofs.Lists.{range-length, gather-append}
 use Rattle.method.specs.Stored.{stampIn}
@@ -20,10 +21,10 @@ use Rattle.rowset.proofs.Runs.{rows-length, rows-append}
 use Rattle.room.proofs.Laid.{marks-rise, laid-fewer}
 use Rattle.room.specs.Room.{setAt, Laid}
 use Rattle.kinds.specs.Kinds.{inMask}
-use Rattle.writer.specs.Puts.{Put}
+use Rattle.writer.specs.declared.Points.{Points}
+use Rattle.writer.specs.declared.Part.the-variants.{Sizes, Triples, Rows}
+use Rattle.writer.specs.Words.{freeCount, pointsOf, setOf, firstSet, endSet, firstRow, endRow, tripleAt, partWords, reportedFrom, words, Marked, Reportable}
 use Rattle.writer.proofs.Gathers.{gather-length, gather-map}
-use Rattle.writer.proofs.Putting.{Putting, putting-none, putting-more}
-use Rattle.writer.specs.Words.{freeCount, setOf, firstRow, endRow, tripleAt, reportedFrom, words, Marked, Reportable}
 
 -- one more where the test passed
 select-one : (f : ℕ → Bool) (x : ℕ) (xs : List ℕ) → length (select f (x ∷ xs)) ≡ cond (f x) 1 0 + length (select f xs)
@@ -84,102 +85,83 @@ row-length mask r = four (cond (inMask mask 0) (r .v0 ∷ []) []) (cond (inMask 
     four : (a b c d : List ℕ) → length (a ++ (b ++ (c ++ (d ++ [])))) ≡ length a + (length b + (length c + length d))
     four a b c d = simp (length-append, append-nil)
 
--- a triple from a point's set, its count and its time
-pub triple-same : (at : List ℕ) (first low base : ℕ) (times : List ℕ) {j q count : ℕ} {t : Stamp} → q ≡ setOf first low j → count ≡ getD at (q + 1) 0 - getD at q 0 → t ≡ stampIn (point base) times (point j) → j ∷ t .0 ∷ count ∷ [] ≡ tripleAt at first low base times j
-triple-same at first low base times e f g = cc
+-- a triple from the marks of a point's set and its time
+pub triple-same : (at times : List ℕ) (p : Points) {j q from to : ℕ} {t : Stamp} → q ≡ setOf p (point j) → to ≡ getD at (q + 1) 0 → from ≡ getD at q 0 → t ≡ stampIn (p .base) times (point j) → j ∷ t .0 ∷ (to - from) ∷ [] ≡ tripleAt at times p (point j)
+triple-same at times p e f g h = cc
 
 -- a report's words are few enough to be counted
 pub product-below : {a b : ℕ} → a ≤ 4 → b < 2 ^ 32 → a * b < 2 ^ 34
 product-below {a} {b} h k = omega (arith, mul-le-mul-right b h)
 
-module _ (rows at : List ℕ) (first low : ℕ) where
-  -- the rows of the sets of the points
-  allRows : ℕ → ℕ → List (List ℕ)
-  allRows i points = gather (setAt rows at first (point low)) (pointsFrom i points)
+module _ (rows at : List ℕ) (p : Points) where
+  abbrev setFor : Point → List (List ℕ)
+  setFor = setAt rows at (p .first) (p .low)
 
-  module _ (base : ℕ) (times : List ℕ) (mask : ℕ) where
-    reported-triples : (i points : ℕ) → gather triple (reportedFrom rows at first low base times mask i points) ≡ gather (tripleAt at first low base times) (range i points)
-    unfolding reportedFrom
-    reported-triples i zero = refl
-    reported-triples i (suc points) =
-        let e : length (map (reportRow (inMask mask)) (setAt rows at first (point low) (point i))) ≡ getD at (setOf first low i + 1) 0 - getD at (setOf first low i) 0
-        = length-map (setAt rows at first (point low) (point i)) (reportRow (inMask mask)) ∙ rows-length rows _ _ in
-        rw (e, reported-triples (suc i) points)
+  abbrev show : List ℕ → List ℕ
+  show = reportRow (inMask (p .mask))
 
-    reported-rows : (i points : ℕ) → gather rowWords (reportedFrom rows at first low base times mask i points) ≡ gather (reportRow (inMask mask)) (allRows i points)
-    unfolding reportedFrom allRows
-    reported-rows i zero = refl
-    reported-rows i (suc points) =
-        rw (gather-append (reportRow (inMask mask)) (setAt rows at first (point low) (point i)) (allRows (suc i) points))
-        (ap₂ (λ us vs. us ++ vs) (gather-map (reportRow (inMask mask)) (setAt rows at first (point low) (point i))) (reported-rows (suc i) points))
+  -- what is reported of points, by their sets
+  module _ (times : List ℕ) where
+    abbrev reportedAt : Point → Reported
+    reportedAt i = record { at = i; time = stampIn (p .base) times i; rows = map show (setFor i) }
 
-    reported-total : (i points : ℕ) → total (map (λ e. length (e .rows)) (reportedFrom rows at first low base times mask i points)) ≡ length (allRows i points)
-    unfolding reportedFrom allRows
-    reported-total i zero = refl
-    reported-total i (suc points) =
-        rw (length-append (setAt rows at first (point low) (point i)) (allRows (suc i) points), length-map (setAt rows at first (point low) (point i)) (reportRow (inMask mask)), reported-total (suc i) points)
+    reported-triples : (is : List Point) → gather triple (map reportedAt is) ≡ gather (tripleAt at times p) is
+    reported-triples [] = refl
+    reported-triples (i ∷ is) =
+        let e : length (map show (setFor i)) ≡ getD at (setOf p i + 1) 0 - getD at (setOf p i) 0 = length-map (setFor i) show ∙ rows-length rows _ _ in
+        rw (e, reported-triples is)
 
-    reported-length : (i points : ℕ) → length (reportedFrom rows at first low base times mask i points) ≡ points
-    unfolding reportedFrom
-    reported-length i zero = refl
-    reported-length i (suc points) = ap suc (reported-length (suc i) points)
+    reported-rows : (is : List Point) → gather rowWords (map reportedAt is) ≡ gather show (gather setFor is)
+    reported-rows [] = refl
+    reported-rows (i ∷ is) = rw (gather-append show (setFor i) (gather setFor is)) (ap₂ (λ us vs. us ++ vs) (gather-map (λ r. r) show (setFor i)) (reported-rows is))
 
-  -- the sets of the points are one run of rows
-  all-run : (i points : ℕ) → Marked at first low i points → allRows i points ≡ rowsFrom rows (firstRow at first low i) (endRow at first low i points - firstRow at first low i)
-  unfolding allRows rowsFrom
-  all-run i zero m =
-      let e : firstRow at first low i - firstRow at first low i ≡ 0 = omega arith in
+    reported-total : (is : List Point) → total (map (λ e. length (e .rows)) (map reportedAt is)) ≡ length (gather setFor is)
+    reported-total [] = refl
+    reported-total (i ∷ is) = rw (length-append (setFor i) (gather setFor is), length-map (setFor i) show, reported-total is)
+
+    reported-length : length (map reportedAt (pointsOf p)) ≡ p .count
+    reported-length = length-map (pointsOf p) reportedAt ∙ length-map (range (p .from .0) (p .count)) point ∙ range-length (p .from .0) (p .count)
+
+  -- the sets of points in a row are one run of rows
+  all-run : (i n : ℕ) → p .low .0 ≤ i → ((q : ℕ) → q < setOf p (point i) + n → getD at q 0 ≤ getD at (q + 1) 0)
+      → gather setFor (pointsFrom i n) ≡ rowsFrom rows (getD at (setOf p (point i)) 0) (getD at (setOf p (point i) + n) 0 - getD at (setOf p (point i)) 0)
+  unfolding rowsFrom
+  all-run i zero l steps =
+      let e : getD at (setOf p (point i)) 0 - getD at (setOf p (point i)) 0 ≡ 0 = omega arith in
       rw (add-zero, e)
-  all-run i (suc points) m =
-      let e : setOf first low (suc i) ≡ setOf first low i + 1 = omega (arith, m .from) in
-      let f : setOf first low (suc i) + points ≡ setOf first low i + suc points = omega (arith, m .from) in
-      let next : Marked at first low (suc i) points = record { from = omega (arith, m .from); there = omega (arith, m .there); steps = λ q l. m .steps q (omega arith) } in
-      let rest = rw (f, e) at (all-run (suc i) points next) in
-      let h : getD at (setOf first low i) 0 ≤ getD at (setOf first low i + 1) 0 = m .steps (setOf first low i) (omega arith) in
-      let k : getD at (setOf first low i + 1) 0 ≤ getD at (setOf first low i + suc points) 0 = rw (f, e) at (marks-rise at (setOf first low (suc i)) points (next .steps)) in
-      ap (λ us. setAt rows at first (point low) (point i) ++ us) rest ∙ rows-join rows _ _ _ h k
+  all-run i (suc n) l steps =
+      let e : setOf p (point (suc i)) ≡ setOf p (point i) + 1 = omega arith in
+      let f : setOf p (point (suc i)) + n ≡ setOf p (point i) + suc n = omega arith in
+      let after : (q : ℕ) → q < setOf p (point (suc i)) + n → getD at q 0 ≤ getD at (q + 1) 0 = λ q o. steps q (omega arith) in
+      let rest = rw (f, e) at (all-run (suc i) n (omega arith) after) in
+      let h : getD at (setOf p (point i)) 0 ≤ getD at (setOf p (point i) + 1) 0 = steps (setOf p (point i)) (omega arith) in
+      let k : getD at (setOf p (point i) + 1) 0 ≤ getD at (setOf p (point i) + suc n) 0 = rw (f, e) at (marks-rise at (setOf p (point (suc i))) n after) in
+      ap (λ us. setFor (point i) ++ us) rest ∙ rows-join rows _ _ _ h k
 
--- the words of the triples, and of the rows from row `from` to row `to`
-abbrev pub triplesOf : List ℕ → ℕ → ℕ → ℕ → List ℕ → ℕ → ℕ → List ℕ
-triplesOf at first low base times i points = gather (tripleAt at first low base times) (range i points)
-
-abbrev pub rowsOf : List ℕ → ℕ → ℕ → ℕ → List ℕ
-rowsOf rows mask from to = gather (reportRow (inMask mask)) (rowsFrom rows from (to - from))
-
--- the report's parts: the sizes, the triples, the rows
-module _ (rows at : List ℕ) (first low base : ℕ) (times : List ℕ) (mask i points : ℕ) (m : Marked at first low i points) where
-  words-parts : words rows at first low base times mask i points
-      ≡ points ∷ freeCount mask ∷ (endRow at first low i points - firstRow at first low i)
-      ∷ (triplesOf at first low base times i points ++ rowsOf rows mask (firstRow at first low i) (endRow at first low i points))
-  unfolding words reportWords
+-- a report is its parts
+module _ (rows at times : List ℕ) (p : Points) (m : Marked at p) where
+  pub words-parts : words rows at times p ≡ partWords Sizes rows at times p ++ (partWords Triples rows at times p ++ partWords Rows rows at times p)
+  unfolding words reportedFrom reportWords
   words-parts =
-      let run = all-run rows at first low i points m in
-      let t = reported-total rows at first low base times mask i points ∙ ap length run ∙ rows-length rows _ _ in
-      rw (reported-length rows at first low base times mask i points, t, reported-triples rows at first low base times mask i points, reported-rows rows at first low base times mask i points, run)
+      let run = all-run rows at p (p .from .0) (p .count) (m .from) (m .steps) in
+      let t = reported-total rows at p times (pointsOf p) ∙ ap length run ∙ rows-length rows _ _ in
+      rw (reported-length rows at p times, t, reported-triples rows at p times (pointsOf p), reported-rows rows at p times (pointsOf p), run)
 
-  pub words-length : length (words rows at first low base times mask i points) ≡ 3 + 3 * points + freeCount mask * (endRow at first low i points - firstRow at first low i)
+  pub words-length : length (words rows at times p) ≡ 3 + 3 * p .count + freeCount (p .mask) * (endRow at p - firstRow at p)
   words-length =
-      let ts = gather-length (tripleAt at first low base times) 3 (λ j. refl) (range i points) in
-      let rs = gather-length (reportRow (inMask mask)) (freeCount mask) (λ u. row-words (inMask mask) u variables) (rowsFrom rows (firstRow at first low i) (endRow at first low i points - firstRow at first low i)) in
-      let ps : length (range i points) ≡ points = range-length i points in
-      rw (words-parts, length-append, ts, rs, ps, rows-length) (omega arith)
+      let ts = gather-length (tripleAt at times p) 3 (λ i. refl) (pointsOf p) in
+      let rs = gather-length (reportRow (inMask (p .mask))) (freeCount (p .mask)) (λ u. row-words (inMask (p .mask)) u variables) (rowsFrom rows (firstRow at p) (endRow at p - firstRow at p)) in
+      let ps : length (pointsOf p) ≡ p .count = length-map (range (p .from .0) (p .count)) point ∙ range-length (p .from .0) (p .count) in
+      rw (words-parts, length-append (partWords Triples rows at times p) (partWords Rows rows at times p), ts, rs, ps, rows-length) (omega arith)
 
 -- the rows of the points are a run
-pub run-ordered : {at : List ℕ} {first low i points from to : ℕ} → Marked at first low i points → from ≡ firstRow at first low i → to ≡ endRow at first low i points → from ≤ to
-run-ordered {at} {first} {low} {i} {points} m f t = omega (arith, marks-rise at (setOf first low i) points (m .steps))
-
--- the report as it is written: the sizes are there, and the triples and the rows are to come
-module _ (rows at : List ℕ) (first low base : ℕ) (times : List ℕ) (mask i points : ℕ) (m : Marked at first low i points) {from to : ℕ} (f : from ≡ firstRow at first low i) (t : to ≡ endRow at first low i points) where
-  parts : points ∷ freeCount mask ∷ (to - from) ∷ (triplesOf at first low base times i points ++ rowsOf rows mask from to) ≡ words rows at first low base times mask i points
-  parts = rw (f, t) (sym (words-parts rows at first low base times mask i points m))
-
-  pub sizes-put : {before between : List ℕ} {place middle free : ℕ} → place + length (words rows at first low base times mask i points) ≤ length before → free ≡ freeCount mask → Put before place (points ∷ free ∷ (to - from) ∷ []) between middle → Putting before place (words rows at first low base times mask i points) between middle (triplesOf at first low base times i points ++ rowsOf rows mask from to)
-  sizes-put room g p = putting-more (putting-none parts room) (rw g at p)
+pub rows-ordered : {at : List ℕ} {p : Points} → Marked at p → firstRow at p ≤ endRow at p
+rows-ordered {at} {p} m = marks-rise at (firstSet p) (p .count) (m .steps)
 
 -- points can be reported whose sets are among those that stand in the words, and these have their marks
-module _ {rows at : List ℕ} {first low i points : ℕ} where
-  pub reportable : {n : ℕ} → low ≤ i → Laid rows at n → setOf first low i + points ≤ n → i + points < 2 ^ 32 → Reportable rows at first low i points
+module _ {rows at : List ℕ} {p : Points} where
+  pub reportable : {n : ℕ} → p .low .0 ≤ p .from .0 → Laid rows at n → endSet p ≤ n → p .from .0 + p .count < 2 ^ 32 → Reportable rows at p
   reportable h l k m = record { from = h; laid = laid-fewer l _ k; numbers = m }
 
-  pub marked : Reportable rows at first low i points → Marked at first low i points
+  pub marked : Reportable rows at p → Marked at p
   marked r = record { from = r .from; there = r .laid .marks; steps = r .laid .steps }

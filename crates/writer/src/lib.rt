@@ -4,17 +4,40 @@ use meaning::Stamp;
 use rowset::Row;
 ghost use mathlib.Core.Path.{_≡_};
 ghost use mathlib.Core.Bool.{cond};
-ghost use mathlib.Core.List.{List, [], _∷_, _++_};
+ghost use mathlib.Core.List.{List, [], _∷_};
 ghost use Prim.Native.Nat.{ℕ, _+_, _-_, _*_, _/_, _%_, _^_, _≤_, _<_};
-ghost use lib.ListN.{length, getD, drop};
+ghost use lib.ListN.{length, getD};
 ghost use lib.Dec.{eqb};
-ghost use Rattle.meaning.specs.Lists.{range, gather};
+ghost use Rattle.meaning.specs.Lists.{gather};
 ghost use Rattle.meaning.specs.Keeper.{reportRow};
 ghost use Rattle.rowset.specs.Rows.{wordsOf, rowsFrom};
 ghost use Rattle.rowset.specs.Sets.{Run};
 ghost use Rattle.kinds.specs.Kinds.{inMask};
-ghost use Rattle.writer.specs.Words.{freeCount, setOf, tripleAt, words, Marked, Reportable};
-ghost use Rattle.writer.specs.Puts.{Put};
+ghost use Rattle.writer.specs.Words.{freeCount, setOf, firstRow, endRow, triples, partWords, words, Marked, Reportable};
+ghost use Rattle.writer.specs.Puts.{Put, handed, wrote, writtenTo};
+
+// What a report is on: `count` points from `from` on, and the mask of the free variables. Set `first` of those lent is that of point `low`, and the first time lent is that of point `base`.
+pub struct Points {
+    pub from: Point,
+    pub count: u32,
+    pub first: usize,
+    pub low: Point,
+    pub base: Point,
+    pub mask: u8,
+}
+
+// The parts of a report, in the order in which they are written.
+pub enum Part {
+    Sizes,
+    Triples,
+    Rows,
+}
+
+// What writing a report gives: how many words were written, or how many it needs.
+pub enum Wrote {
+    Words(usize),
+    Short(usize),
+}
 
 // Whether the variable is free whose bit of the mask is 1, 2, 4 or 8.
 fn is_free(mask: u8, bit: u8) -> bool
@@ -44,12 +67,12 @@ fn free_count(mask: u8) -> u32
     a + (b + (c + d))
 }
 
-// The set of point i, where set `first` is that of point `low`.
-fn set_of(first: usize, low: Point, i: Point) -> usize
-    requires { ⌜ (low .0 ≤ i .0) × (setOf first (low .0) (i .0) < 2 ^ 64) ⌝ }
-    ensures { λ r. ⌜ r ≡ setOf first (low .0) (i .0) ⌝ }
+// The set of point i.
+fn set_of(p: Points, i: Point) -> usize
+    requires { ⌜ (p .low .0 ≤ i .0) × (setOf p i < 2 ^ 64) ⌝ }
+    ensures { λ r. ⌜ r ≡ setOf p i ⌝ }
 {
-    first + (i.0 - low.0) as usize
+    p.first + (i.0 - p.low.0) as usize
 }
 
 // The row where set q begins.
@@ -60,42 +83,38 @@ fn mark(marks: &[u32], q: usize) -> u32
     marks[q]
 }
 
-// How many rows the sets from a to b have, without set b.
-fn rows_between(marks: &[u32], a: usize, b: usize) -> u32
-    requires { ⌜ (a < length (now marks)) × (b < length (now marks)) × (getD (now marks) a 0 ≤ getD (now marks) b 0) ⌝ }
-    ensures { λ r. ⌜ r ≡ getD (now (marks .entry)) b 0 - getD (now (marks .entry)) a 0 ⌝ }
+// The row where the sets of the points begin.
+fn first_row(marks: &[u32], p: Points) -> u32
+    requires { ⌜ Marked (now marks) p ⌝ }
+    ensures { λ r. ⌜ r ≡ firstRow (now (marks .entry)) p ⌝ }
 {
-    mark(marks, b) - mark(marks, a)
+    mark(marks, set_of(p, p.from))
 }
 
-// How many words the report on the points has.
-pub fn words_needed(
-    marks: &[u32],
-    first: usize,
-    low: Point,
-    i: Point,
-    points: u32,
-    mask: u8,
-) -> usize
-    requires { ⌜ Marked (now marks) first (low .0) (i .0) points ⌝ }
-    ensures { λ r. ⌜ ((rows times : List ℕ) (base : ℕ) → r ≡ length (words rows (now (marks .entry)) first (low .0) base times mask (i .0) points)) ⌝ }
+// The row after their last.
+fn end_row(marks: &[u32], p: Points) -> u32
+    requires { ⌜ Marked (now marks) p ⌝ }
+    ensures { λ r. ⌜ r ≡ endRow (now (marks .entry)) p ⌝ }
 {
-    let q = set_of(first, low, i);
-    let total = rows_between(marks, q, q + points as usize);
-    let free = free_count(mask);
-    3 + 3 * (points as usize) + (free as usize) * (total as usize)
+    mark(marks, set_of(p, p.from) + p.count as usize)
 }
 
-// The buffer of a report, and where its next word goes.
-pub struct Writer<'a> {
-    pub buf: &'a mut [u32],
-    pub at: usize,
+// How many rows they have.
+fn row_count(marks: &[u32], p: Points) -> u32
+    requires { ⌜ Marked (now marks) p ⌝ }
+    ensures { λ r. ⌜ r ≡ endRow (now (marks .entry)) p - firstRow (now (marks .entry)) p ⌝ }
+{
+    end_row(marks, p) - first_row(marks, p)
 }
 
-fn new<'a>(buf: &'a mut [u32], at: usize) -> Writer<'a>
-    ensures { λ r. ⌜ (r .buf ≡ buf .entry) × (r .at ≡ at) ⌝ }
+// How many words the report has.
+fn words_needed(marks: &[u32], p: Points) -> usize
+    requires { ⌜ Marked (now marks) p ⌝ }
+    ensures { λ r. ⌜ ((rows times : List ℕ) → r ≡ length (words rows (now (marks .entry)) times p)) ⌝ }
 {
-    Writer { buf: buf, at: at }
+    let total = row_count(marks, p);
+    let free = free_count(p.mask);
+    3 + 3 * (p.count as usize) + (free as usize) * (total as usize)
 }
 
 // Stores one word; where the next one goes.
@@ -107,23 +126,6 @@ fn put_at(buf: &mut [u32], at: usize, word: u32) -> usize
     at + 1
 }
 
-// Writes one word at the writer's place; where the next one goes.
-fn put<'a>(w: Writer<'a>, word: u32) -> usize
-    requires { ⌜ w .at + 1 ≤ length (now (w .buf)) ⌝ }
-    ensures { λ r. ⌜ Put (now (w .entry .buf)) (w .entry .at) (word ∷ []) (now (w .exit .0)) r ⌝ }
-{
-    let at = w.at;
-    put_at(&mut *w.buf, at, word)
-}
-
-// Writes one word through a writer; its contract says nothing of one.
-fn put_word(buf: &mut [u32], at: usize, word: u32) -> usize
-    requires { ⌜ at + 1 ≤ length (now buf) ⌝ }
-    ensures { λ r. ⌜ Put (now (buf .entry)) at (word ∷ []) (now (buf .exit)) r ⌝ }
-{
-    put(new(buf, at), word)
-}
-
 // Writes a word where the variable of that bit is free.
 fn put_free(mask: u8, bit: u8, buf: &mut [u32], at: usize, word: u32) -> usize
     requires { ⌜ 0 < bit ⌝ }
@@ -131,7 +133,7 @@ fn put_free(mask: u8, bit: u8, buf: &mut [u32], at: usize, word: u32) -> usize
     ensures { λ r. ⌜ Put (now (buf .entry)) at (cond (eqb (mask / bit % 2) 1) (word ∷ []) []) (now (buf .exit)) r ⌝ }
 {
     if is_free(mask, bit) {
-        return put_word(buf, at, word);
+        return put_at(buf, at, word);
     }
     at
 }
@@ -140,9 +142,9 @@ fn put_three(buf: &mut [u32], at: usize, a: u32, b: u32, c: u32) -> usize
     requires { ⌜ at + 3 ≤ length (now buf) ⌝ }
     ensures { λ r. ⌜ Put (now (buf .entry)) at (a ∷ b ∷ c ∷ []) (now (buf .exit)) r ⌝ }
 {
-    let second = put_word(buf, at, a);
-    let third = put_word(buf, second, b);
-    put_word(buf, third, c)
+    let second = put_at(buf, at, a);
+    let third = put_at(buf, second, b);
+    put_at(buf, third, c)
 }
 
 // Writes a point's triple.
@@ -153,30 +155,20 @@ fn put_triple(buf: &mut [u32], at: usize, i: Point, t: Stamp, count: u32) -> usi
     put_three(buf, at, i.0, t.0, count)
 }
 
-// Writes the triples of points i, i + 1, .., as many as `points` says.
-fn put_triples(
-    marks: &[u32],
-    first: usize,
-    low: Point,
-    times: &[u32],
-    base: Point,
-    i: Point,
-    points: u32,
-    buf: &mut [u32],
-    at: usize,
-) -> usize
-    requires { ⌜ Marked (now marks) first (low .0) (i .0) points ⌝ }
-    requires { ⌜ i .0 + points < 2 ^ 32 ⌝ }
-    requires { ⌜ at + length (gather (tripleAt (now marks) first (low .0) (base .0) (now times)) (range (i .0) points)) ≤ length (now buf) ⌝ }
-    ensures { λ r. ⌜ Put (now (buf .entry)) at (gather (tripleAt (now (marks .entry)) first (low .0) (base .0) (now (times .entry))) (range (i .0) points)) (now (buf .exit)) r ⌝ }
+// Writes the triples of the points.
+fn put_triples(marks: &[u32], times: &[u32], p: Points, buf: &mut [u32], at: usize) -> usize
+    requires { ⌜ Marked (now marks) p ⌝ }
+    requires { ⌜ p .from .0 + p .count < 2 ^ 32 ⌝ }
+    requires { ⌜ at + length (triples (now marks) (now times) p) ≤ length (now buf) ⌝ }
+    ensures { λ r. ⌜ Put (now (buf .entry)) at (triples (now (marks .entry)) (now (times .entry)) p) (now (buf .exit)) r ⌝ }
 {
-    let end = i.0 + points;
+    let end = p.from.0 + p.count;
     let mut k = at;
-    let mut j = i.0;
+    let mut j = p.from.0;
     while j < end {
-        let q = set_of(first, low, Point(j));
-        let count = rows_between(marks, q, q + 1);
-        let t = progress::time_in(times, base, Point(j));
+        let q = set_of(p, Point(j));
+        let count = mark(marks, q + 1) - mark(marks, q);
+        let t = progress::time_in(times, p.base, Point(j));
         k = put_triple(buf, k, Point(j), t, count);
         j += 1;
     }
@@ -209,61 +201,75 @@ fn put_rows(mask: u8, rows: &[u32], from: usize, to: usize, buf: &mut [u32], at:
     k
 }
 
-// Writes the report on the points from a place on: the sizes, the triples, the rows.
-fn write_at(
-    rows: &[u32],
-    marks: &[u32],
-    first: usize,
-    low: Point,
-    times: &[u32],
-    base: Point,
-    mask: u8,
-    i: Point,
-    points: u32,
+// Writes a part of the report from a place on.
+fn put_part(
     buf: &mut [u32],
     at: usize,
-) -> usize
-    requires { ⌜ Reportable (now rows) (now marks) first (low .0) (i .0) points ⌝ }
-    requires { ⌜ at + length (words (now rows) (now marks) first (low .0) (base .0) (now times) mask (i .0) points) ≤ length (now buf) ⌝ }
-    ensures { λ r. ⌜ Put (now (buf .entry)) at (words (now (rows .entry)) (now (marks .entry)) first (low .0) (base .0) (now (times .entry)) mask (i .0) points) (now (buf .exit)) r ⌝ }
-{
-    let q = set_of(first, low, i);
-    let from = mark(marks, q);
-    let to = mark(marks, q + points as usize);
-    let sized = put_three(buf, at, points, free_count(mask), to - from);
-    let told = put_triples(marks, first, low, times, base, i, points, buf, sized);
-    put_rows(mask, rows, from as usize, to as usize, buf, told)
-}
-
-// Writes the report to the front of a buffer; words past it stay.
-pub fn write(
+    part: Part,
     rows: &[u32],
     marks: &[u32],
-    first: usize,
-    low: Point,
     times: &[u32],
-    base: Point,
-    mask: u8,
-    i: Point,
-    points: u32,
-    buf: &mut [u32],
+    p: Points,
 ) -> usize
-    requires { ⌜ Reportable (now rows) (now marks) first (low .0) (i .0) points ⌝ }
-    requires { ⌜ length (words (now rows) (now marks) first (low .0) (base .0) (now times) mask (i .0) points) ≤ length (now buf) ⌝ }
-    ensures { λ r. ⌜ r ≡ length (words (now (rows .entry)) (now (marks .entry)) first (low .0) (base .0) (now (times .entry)) mask (i .0) points) ⌝ }
-    ensures { λ _. ⌜ now (buf .exit) ≡ words (now (rows .entry)) (now (marks .entry)) first (low .0) (base .0) (now (times .entry)) mask (i .0) points ++ drop (length (words (now (rows .entry)) (now (marks .entry)) first (low .0) (base .0) (now (times .entry)) mask (i .0) points)) (now (buf .entry)) ⌝ }
+    requires { ⌜ Reportable (now rows) (now marks) p × (at + length (partWords part (now rows) (now marks) (now times) p) ≤ length (now buf)) ⌝ }
+    ensures { λ r. ⌜ Put (now (buf .entry)) at (partWords part (now (rows .entry)) (now (marks .entry)) (now (times .entry)) p) (now (buf .exit)) r ⌝ }
 {
-    write_at(
-        rows,
-        marks,
-        first,
-        low,
-        times,
-        base,
-        mask,
-        i,
-        points,
-        buf,
-        0,
-    )
+    match part {
+        Part::Sizes => put_three(buf, at, p.count, free_count(p.mask), row_count(marks, p)),
+        Part::Triples => put_triples(marks, times, p, buf, at),
+        Part::Rows => {
+            let from = first_row(marks, p);
+            let to = end_row(marks, p);
+            put_rows(p.mask, rows, from as usize, to as usize, buf, at)
+        }
+    }
+}
+
+// The buffer of a report, and where its next word goes.
+pub struct Writer<'a> {
+    pub buf: &'a mut [u32],
+    pub at: usize,
+}
+
+fn new<'a>(buf: &'a mut [u32]) -> Writer<'a>
+    ensures { λ r. ⌜ (r .buf ≡ buf .entry) × (r .at ≡ 0) ⌝ }
+{
+    Writer { buf: buf, at: 0 }
+}
+
+// Writes a part of the report at the writer's place, and hands the writer on.
+fn put<'a>(
+    w: Writer<'a>,
+    part: Part,
+    rows: &[u32],
+    marks: &[u32],
+    times: &[u32],
+    p: Points,
+) -> Writer<'a>
+    requires { ⌜ Reportable (now rows) (now marks) p × (w .at + length (partWords part (now rows) (now marks) (now times) p) ≤ length (now (w .buf))) ⌝ }
+    ensures { λ r. ⌜ r ≡ handed (w .entry) (partWords part (now (rows .entry)) (now (marks .entry)) (now (times .entry)) p) ⌝ }
+{
+    let at = w.at;
+    let next = put_part(&mut *w.buf, at, part, rows, marks, times, p);
+    Writer {
+        buf: w.buf,
+        at: next,
+    }
+}
+
+// Writes the report to the front of a buffer by one writer, which is asked first for the words that it has left.
+pub fn write(buf: &mut [u32], rows: &[u32], marks: &[u32], times: &[u32], p: Points) -> Wrote
+    requires { ⌜ Reportable (now rows) (now marks) p ⌝ }
+    ensures { λ r. ⌜ (r ≡ wrote (words (now (rows .entry)) (now (marks .entry)) (now (times .entry)) p) (now (buf .entry))) × (now (buf .exit) ≡ writtenTo (words (now (rows .entry)) (now (marks .entry)) (now (times .entry)) p) (now (buf .entry))) ⌝ }
+{
+    let needed = words_needed(marks, p);
+    let w = new(buf);
+    let left = w.buf.len() - w.at;
+    if left < needed {
+        return Wrote::Short(needed);
+    }
+    let sized = put(w, Part::Sizes, rows, marks, times, p);
+    let told = put(sized, Part::Triples, rows, marks, times, p);
+    let done = put(told, Part::Rows, rows, marks, times, p);
+    Wrote::Words(done.at)
 }

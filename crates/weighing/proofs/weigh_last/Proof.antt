@@ -1,11 +1,11 @@
--- `weigh_last` meets its contract: the last node's figures stand for it, and its report has few words.
+-- The last node's figures stand for it, and its report has few words.
 use borrow.Author.Needs.{needs}
 use Rattle.weighing.proofs.Weighing.{words-few}
 use Rattle.weighing.proofs.weigh_last.Statement.{statement}
 use Rattle.weighing.proofs.weigh_last.Tie as tie
 
 weigh-requires : tie.Need-weigh-requires
-weigh-requires c κs = let s = c .before .before .before .before .before .before .before .before .before .before .before .before .before .before .before .before .before in (s .pre .sets, words-few (s .pre) (s .args .base .0) (s .args .times .now))
+weigh-requires c κs = let s = c .before .before .before .before .before .before .before .before .before .before .before .before .before .before .before .before .before in (s .pre .sets, words-few (s .pre) (s .args .times .now))
 
 pub weigh-last-spec : {M : Type 1} → statement M
 weigh-last-spec =

@@ -5,10 +5,10 @@ use mathlib.Core.Path.{ap}
 use mathlib.Core.List.{List}
 use Rattle.meaning.specs.Lists.{range, gather}
 use Rattle.meaning.specs.Keeper.{reportRow}
-use Rattle.rowset.specs.Rows.{rowAt}
+use Rattle.rowset.specs.Rows.{rowAt, rowsFrom}
 use Rattle.kinds.specs.Kinds.{inMask}
 use Rattle.writer.proofs.Putting.{Putting, put-long, putting-none, turn-room, turn-more, turn-all}
-use Rattle.writer.proofs.Reports.{rowsOf, gather-rows}
+use Rattle.writer.proofs.Reports.{gather-rows}
 use Rattle.writer.proofs.put_rows.Statement.{statement}
 use Rattle.writer.proofs.put_rows.Tie as tie
 
@@ -17,7 +17,8 @@ abbrev give : ℕ → List ℕ → ℕ → List ℕ
 give mask rows k = reportRow (inMask mask) (rowAt rows k)
 
 abbrev Inv-loop : tie.InvT-loop
-Inv-loop mask rows from to buf₀ at k₀ i₀ buf k i = (i ≤ to) × Putting buf₀ at (rowsOf rows mask from to) buf k (gather (give mask rows) (range i (to - i)))
+Inv-loop mask rows from to buf₀ at k₀ i₀ buf k i =
+    (i ≤ to) × Putting buf₀ at (gather (reportRow (inMask mask)) (rowsFrom rows from (to - from))) buf k (gather (give mask rows) (range i (to - i)))
 
 abbrev μ-loop : tie.MeasureT-loop
 μ-loop mask rows from to buf₀ at k₀ i₀ buf k i = to - i
