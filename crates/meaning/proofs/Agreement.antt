@@ -84,7 +84,7 @@ module _ {f : ℕ → Bool} {H : Valuation → Type 0} {rows : List (List ℕ)} 
       }
 
   -- "or": both children's rows
-  gives-or : {g : ℕ → Bool} {K : Valuation → Type 0} {others : List (List ℕ)} → Exact g K others → within f g ≡ true → within g f ≡ true → Gives f (λ v. H v ⊎ K v) (rows ++ others)
+  pub gives-or : {g : ℕ → Bool} {K : Valuation → Type 0} {others : List (List ℕ)} → Exact g K others → within f g ≡ true → within g f ≡ true → Gives f (λ v. H v ⊎ K v) (rows ++ others)
   gives-or {g} {K} {others} e' a b =
       record {
         cut = λ u m. elim (List·Memᴰ·append-cases rows m) [ inl k ↦ e .gives .cut u k | inr k ↦ e' .gives .cut u k ∙ sym (cut-both f g (valuationOf u) a b) ];
@@ -96,7 +96,7 @@ module _ {f : ℕ → Bool} {H : Valuation → Type 0} {rows : List (List ℕ)} 
 
 -- "exists": a row without a variable's word
 module _ {f : ℕ → Bool} {H : Valuation → Type 0} {rows : List (List ℕ)} (e : Exact f H rows) (x : ℕ) where
-  gives-exists : Gives (λ y. f y && not (eqb y x)) (λ v. (d : ℕ) × H (replaced v x d)) (map (λ u. cutTo (λ y. not (eqb y x)) (valuationOf u)) rows)
+  pub gives-exists : Gives (λ y. f y && not (eqb y x)) (λ v. (d : ℕ) × H (replaced v x d)) (map (λ u. cutTo (λ y. not (eqb y x)) (valuationOf u)) rows)
   gives-exists =
       record {
         cut = λ r m. let (u, n, d) = Memᴰ·of-map without rows m in cut-of (λ y. f y && not (eqb y x)) (rest u) (sym d) (λ y k b. blank (f y) (not (eqb y x)) b (word-at (λ z. cond (f z) (valuationOf u z) 0) (e .gives .cut u n) y k));
@@ -141,7 +141,7 @@ module _ {f g : ℕ → Bool} {H K : Valuation → Type 0} {lefts rights : List 
   and-of : {u t : List ℕ} → List·Memᴰ u lefts → List·Memᴰ t rights → agrees f g u t ≡ true → List·Memᴰ (joined f u t) (andRows f g lefts rights)
   and-of {u} m n a = gather-of (λ z. map (joined f z) (select (agrees f g z) rights)) m (Memᴰ·map (joined f u) (select-of (agrees f g u) n a))
 
-  gives-and : Gives (λ x. f x || g x) (λ v. H v × K v) (andRows f g lefts rights)
+  pub gives-and : Gives (λ x. f x || g x) (λ v. H v × K v) (andRows f g lefts rights)
   gives-and =
       record {
         cut = λ r m. let (u, t, a, b, c, d) = and-at m in cut-of (λ x. f x || g x) (word u t) d (λ x k h. let (p, q) = neither (f x) (g x) h in rw p (word-at (λ y. cond (g y) (valuationOf t y) 0) (e' .gives .cut t b) x k ∙ rw q));
@@ -208,7 +208,7 @@ module _ (r : ℕ) (ts : List Term) (fine : all named ts ≡ true) (rows : List 
       let values : List ℕ = map (value (bound ts (row .values))) ts in
       Iff·trans (and-eq-true-iff (eqb (row .relation) r) (sameRow values (row .values))) (Iff·and (eqb-true (row .relation) r, eq-eqb (row .relation) r) (same-row values (row .values)))
 
-  gives-atom : Gives (λ x. any (isVariable x) ts) (λ v. List·Memᴰ {A = Row} (record { relation = r; values = map (value v) ts }) rows) (atomRows r ts rows)
+  pub gives-atom : Gives (λ x. any (isVariable x) ts) (λ v. List·Memᴰ {A = Row} (record { relation = r; values = map (value v) ts }) rows) (atomRows r ts rows)
   gives-atom =
       record {
         cut = λ u m. let (row, n, d) = Memᴰ·of-map columns (select (matches r ts) rows) m in

@@ -105,7 +105,7 @@ module _ (b : List ℕ) (a : Accepted) (ok : checking b ≡ given a) where
   below x o = lower b (nodeCount b) (accepted b a ok .each) x o x (omega arith)
 
   -- induction over the nodes: each from its children
-  by-children : (P : ℕ → Type 0) → ((x : ℕ) → x < nodeCount b → ((y : ℕ) → List·Memᴰ y (childrenOf (nodeAt b x)) → P y) → P x) → (x : ℕ) → x < nodeCount b → P x
+  pub by-children : (P : ℕ → Type 0) → ((x : ℕ) → x < nodeCount b → ((y : ℕ) → List·Memᴰ y (childrenOf (nodeAt b x)) → P y) → P x) → (x : ℕ) → x < nodeCount b → P x
   by-children P step x o = upTo (nodeCount b) (omega arith) x o
     where
       upTo : (k : ℕ) → k ≤ nodeCount b → (x : ℕ) → x < k → P x

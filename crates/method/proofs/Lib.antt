@@ -12,4 +12,5 @@ pub mod Bounds
 pub mod Stepped
 pub mod Whole
 pub mod Formed
+pub mod Sets
 pub mod Reached

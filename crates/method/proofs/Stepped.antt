@@ -32,13 +32,13 @@ use Rattle.meaning.proofs.Points.{pointsFrom-append, Tested, passed, failed, te
 use Rattle.method.specs.Stored.{Stored, baseOf, stampIn, held, heldPairs, leastOf, firstRetained, storedOf}
 use Rattle.method.specs.Counts.{countsTo}
 use Rattle.method.specs.Settle.{Sight, Turn, rowsOfTurn}
-use Rattle.method.specs.Step.{wantedFrom, newRows, newPairs, turnOf, sightOf, turnsTo, noTurn, stampsNow, countsStored, countBefore, keptStored, openStored, countAfter, countsAfter, turn, entriesNow, storedNow, crowdedNow, reportNow, latestStored}
+use Rattle.method.specs.Step.{wantedFrom, newRows, newPairs, turnOf, sightOf, turnsTo, stampsNow, countsStored, countBefore, keptStored, openStored, countAfter, countsAfter, turn, entriesNow, storedNow, crowdedNow, reportedNow, reportNow, latestStored}
 use Rattle.method.proofs.Counted.{Counted, counted-most, counted-is, count-counted, counts-length, counts-right, counts-grow, upto-holds}
 use Rattle.method.proofs.Lists.{gather-each, select-run}
 use Rattle.method.proofs.Keeps.{wanted-low, held-is, heldPairs-is, entries-run}
 use Rattle.method.proofs.Seen.{Sees, pairsBefore}
 use Rattle.method.proofs.Bounds.{Placed, at-last, with-parent, placed, wanted-under, wanted-moves}
-use Rattle.method.proofs.Turns.{any-over, least-below, least-most, least-grows, drop-points, gather-over, from-getD, points-length, getD-points, map-points, map-append, Ready, new-rows, new-pairs, atom-counted, wanted-on, turns-at, turns-stay}
+use Rattle.method.proofs.Turns.{any-over, least-below, least-most, least-grows, drop-points, gather-over, from-getD, points-length, getD-points, map-points, map-append, Ready, new-rows, new-pairs, atom-counted, wanted-on, turns-at, turns-seen}
 
 -- no point, no time
 no-time : (l : Log) (i : Point) → size l ≤ i .0 → time l i .0 ≡ 0
@@ -207,10 +207,7 @@ module _ (b : List ℕ) (a : Accepted) (ok : checking b ≡ given a) (l : Log) (
 
     sight-rows : (x y : ℕ) → y < x → x < nodeCount b → sight x .rows y ≡ rowsOfTurn (turn s w y)
     unfolding turn storedOf
-    sight-rows x y h o =
-        let e : x + (nodeCount b - x) ≡ nodeCount b = omega arith in
-        ap rowsOfTurn (sym (turns-stay b (entries b l) (stampsNow s w) (countBefore s) (countAfter s w) (pointOf b w .rows) x (nodeCount b - x) y h)
-        ∙ ap (λ k. getD (turnsTo b (entries b l) (stampsNow s w) (countBefore s) (countAfter s w) (pointOf b w .rows) k) y noTurn) e)
+    sight-rows x y h o = turns-seen b (entries b l) (stampsNow s w) (countBefore s) (countAfter s w) (pointOf b w .rows) (nodeCount b) x y h (omega arith)
 
     -- a node's turn gives the evaluator's rows from the first wanted point on, and its pairs
     pub record TurnRight (x : ℕ) : Type 0 where
@@ -433,15 +430,18 @@ module _ (b : List ℕ) (a : Accepted) (ok : checking b ≡ given a) (l : Log) (
     unfolding openPoints storedOf
     open-now = ap₂ (λ r p. r - p) (sym size-grown) (count-after (lastNode b) last-node) ∙ open-run l' (is (lastNode b)) (is-counted (lastNode b) last-node)
 
-    pub report-now : reportNow s w ≡ report b l l'
-    unfolding reportNow report reported storedOf
-    report-now =
-        ap (reportWords (length (select (free (pattern b)) variables)))
-        (rw (count-before (lastNode b) last-node, count-after (lastNode b) last-node, newly-run (lastNode b) last-node)
+    pub reported-now : reportedNow s w ≡ reported l l' (pattern b)
+    unfolding reported storedOf
+    reported-now =
+        rw (count-before (lastNode b) last-node, count-after (lastNode b) last-node, newly-run (lastNode b) last-node)
         (map-points _ _ (was (lastNode b)) (is (lastNode b) - was (lastNode b))
         (λ j u v. ap₂ (λ (t : Stamp) (rows : List (List ℕ)). entry j t (map (reportRow (free (pattern b))) rows))
         (stamps-right j (omega (arith, base-low (lastNode b) last-node)) (omega (arith, was-is (lastNode b) last-node, counted-most l' (pattern b) (is (lastNode b)) (is-counted (lastNode b) last-node))))
-        (new-rows-right (lastNode b) last-node j u v))))
+        (new-rows-right (lastNode b) last-node j u v)))
       where
         entry : Point → Stamp → List (List ℕ) → Reported
         entry i t rows = record { at = i; time = t; rows = rows }
+
+    pub report-now : reportNow s w ≡ report b l l'
+    unfolding reportNow report storedOf
+    report-now = ap (reportWords (length (select (free (pattern b)) variables))) reported-now

@@ -22,7 +22,7 @@ use Rattle.meaning.specs.declared.Node.{Node}
 use Rattle.meaning.specs.declared.Node.the-variants.{Atom, And, AndNot, Keep, Or, Exists, Previous, Next, Since, NotSince, Until, NotUntil, Once, Eventually}
 use Rattle.meaning.proofs.Fine.{Fine}
 use Rattle.method.specs.Stored.{leastOf}
-use Rattle.method.specs.Settle.{Sight, pairsNow, Turn}
+use Rattle.method.specs.Settle.{Sight, pairsNow, Turn, rowsOfTurn}
 use Rattle.method.specs.Step
 use Rattle.method.specs.Step.{firstWanted, newRows, newPairs, turnOf, sightOf, turnsTo, noTurn}
 use Rattle.method.proofs.Counted.{Counted}
@@ -171,9 +171,13 @@ module _ (b : List ℕ) (es : List Entry) (τ : Point → Stamp) (before after :
   turns-old k y h = List·getD-append (turnsUp k) _ noTurn y (omega (arith, turns-length k))
 
   -- a turn stays as later nodes take theirs
-  pub turns-stay : (k m y : ℕ) → y < k → getD (turnsUp (k + m)) y noTurn ≡ getD (turnsUp k) y noTurn
+  turns-stay : (k m y : ℕ) → y < k → getD (turnsUp (k + m)) y noTurn ≡ getD (turnsUp k) y noTurn
   turns-stay k zero y h = let e : k + 0 ≡ k = omega arith in rw e
   turns-stay k (suc m) y h = let e : k + suc m ≡ suc (k + m) = omega arith in rw e (turns-old (k + m) y (omega arith) ∙ turns-stay k m y h)
+
+  -- what node x sees of a lower node's turn is that turn
+  pub turns-seen : (k x y : ℕ) → y < x → x ≤ k → sightOf b τ after event (turnsUp x) .rows y ≡ rowsOfTurn (getD (turnsUp k) y noTurn)
+  turns-seen k x y h l = let e : x + (k - x) ≡ k = omega arith in ap rowsOfTurn (sym (turns-stay x (k - x) y h) ∙ ap (λ z. getD (turnsUp z) y noTurn) e)
 
   pub turns-at : (k x : ℕ) → x < k → getD (turnsUp k) x noTurn ≡ turnOf b es before after (sightOf b τ after event (turnsUp x)) x
   turns-at k x h = let e : k ≡ suc x + (k - suc x) = omega arith in ap (λ z. getD (turnsUp z) x noTurn) e ∙ turns-stay (suc x) (k - suc x) x (omega arith) ∙ turns-new x

@@ -11,7 +11,7 @@ use Rattle.meaning.specs.Formula.{free, variables}
 use Rattle.meaning.specs.RuleFile.{nodeCount, nodeAt, formulaAt, lastNode, pattern}
 use Rattle.meaning.specs.Kept.{Entry, entryOf, parentOf}
 use Rattle.meaning.specs.Event.{pointOf}
-use Rattle.meaning.specs.Report.{reportWords}
+use Rattle.meaning.specs.Report.{Reported, reportWords}
 use Rattle.meaning.specs.Keeper.{Taking, Given, reportRow, admitted, weighed, bufferAfter}
 use Rattle.meaning.specs.declared.Point.{Point}
 use Rattle.meaning.specs.declared.Stamp.{Stamp}
@@ -126,12 +126,15 @@ module _ (s : Stored) (w : List ℕ) where
   unfolding countAfter turn
   crowdedNow x = any (λ j. ltb mostRows (length (rowsOfTurn (turn x) j))) (pointsFrom (countBefore s x) (countAfter x - countBefore s x))
 
+  -- the newly settled points of the last node, with their times and rows
+  abbrev pub reportedNow : List Reported
+  reportedNow =
+      map (λ i. record { at = i; time = stampsNow i; rows = map (reportRow (free (pattern (s .rule)))) (rowsOfTurn (turn (lastNode (s .rule))) i) })
+      (pointsFrom (countBefore s (lastNode (s .rule))) (countAfter (lastNode (s .rule)) - countBefore s (lastNode (s .rule))))
+
   unfoldable pub reportNow : List ℕ
   unfolding stampsNow countAfter turn
-  reportNow =
-      reportWords (length (select (free (pattern (s .rule))) variables))
-      (map (λ i. record { at = i; time = stampsNow i; rows = map (reportRow (free (pattern (s .rule)))) (rowsOfTurn (turn (lastNode (s .rule))) i) })
-      (pointsFrom (countBefore s (lastNode (s .rule))) (countAfter (lastNode (s .rule)) - countBefore s (lastNode (s .rule)))))
+  reportNow = reportWords (length (select (free (pattern (s .rule))) variables)) reportedNow
 
   -- the latest time, 0 before any point
   abbrev pub latestStored : ℕ

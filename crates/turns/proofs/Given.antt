@@ -13,7 +13,7 @@ use Rattle.meaning.specs.declared.Point.{Point}
 use Rattle.method.specs.Stored.{stampIn, held, heldPairs}
 use Rattle.method.specs.Settle.{Sight, Turn, rowsOfTurn}
 use Rattle.method.specs.Step.{wantedFrom, newRows, newPairs, turnOf, noTurn, sightOf, turnsTo}
-use Rattle.method.proofs.Turns.{turns-at, turns-stay, points-length, getD-points}
+use Rattle.method.proofs.Turns.{turns-at, points-length, getD-points}
 use Rattle.shelf.specs.Entries.{entriesFrom}
 use Rattle.turns.specs.Turns.{figure, turnIn}
 
@@ -38,8 +38,8 @@ module _ (b os ns vs : List ℕ) (count : ℕ) (before after times : List ℕ) (
   pub lower-turn : (x y : ℕ) → x ≤ nodeCount b → y < x → getD (lowerTurns x) y noTurn ≡ turn y
   unfolding turnIn
   lower-turn x y l o =
-      let e : x + (nodeCount b - x) ≡ nodeCount b = omega arith in
-      rw e at (sym (turns-stay b kept (stampIn base times) (figure before) (figure after) (pointOf b w .rows) x (nodeCount b - x) y o))
+      turns-at b kept (stampIn base times) (figure before) (figure after) (pointOf b w .rows) x y o
+      ∙ sym (turns-at b kept (stampIn base times) (figure before) (figure after) (pointOf b w .rows) (nodeCount b) y (omega arith))
 
   module _ (x : ℕ) (o : x < nodeCount b) where
     turn-is : turn x ≡ turnOf b kept (figure before) (figure after) (sight x) x
