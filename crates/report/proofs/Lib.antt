@@ -7,4 +7,6 @@ mod Entries
 mod Reading
 mod Lists
 pub mod RoundTrip
+pub mod Shown
+pub mod Reports
 pub mod Written

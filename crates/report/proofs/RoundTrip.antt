@@ -11,11 +11,11 @@ use lib.ListN.{length, getD, take, drop, length-append, List·getD-append}
 use lib.Seq.{getD-append-add, take-suc, take-length, take-at, drop-at}
 use borrow.Author.Tests.{le-leb, lt-ltb, eq-eqb, eqb-true}
 use Rattle.meaning.specs.Lists.{all, range, gather, total}
-use Rattle.meaning.specs.Log.{point, stamp}
 use Rattle.meaning.specs.Order.{ascending}
 use Rattle.meaning.specs.Outcome.{given}
-use Rattle.meaning.specs.Report.{Reported, triple, rowWords, reportWords, pointIn, countIn, rowsBefore, rowsIn, inForm, readCount, readRows}
+use Rattle.meaning.specs.Report.{Reported, triple, rowWords, reportWords, pointIn, countIn, rowsBefore, rowsIn, inForm, readRows}
 use Rattle.report.specs.Form.{rowsFrom, sizesFit}
+use Rattle.report.specs.Reports.{ReadsBack, nothing}
 use Rattle.report.proofs.Forms.{both, words-test, sumTest, pointsTest, rowsTest, rows-decide}
 use Rattle.report.proofs.Lists.{all-at, all-take, all-map, map-range, total-append, gather-split, equal-lengths}
 use Rattle.report.proofs.Reading.{entryTest, count-given}
@@ -34,20 +34,7 @@ pub record WellMade (f : ℕ) (es : List Reported) : Type 0 where
   pub points-ascend : ascending (map (λ (e : Reported). e .at .0 ∷ []) es) ≡ true
   pub rows-ascend : all (λ (e : Reported). ascending (e .rows)) es ≡ true
 
--- entry k of the words r is the reported point e
-pub record ReadsBack (r : List ℕ) (k : ℕ) (e : Reported) : Type 0 where
-  pub point-is : pointIn r k ≡ e .at .0
-  pub time-is : getD r (3 + 3 * k + 1) 0 ≡ e .time .0
-  pub count-is : countIn r k ≡ length (e .rows)
-  pub rows-are : rowsIn r k ≡ e .rows
-  pub count-read : readCount r k ≡ given (length (e .rows))
-  pub rows-read : readRows r k ≡ gather (λ (row : List ℕ). row) (e .rows)
-
--- stands for an entry past the last
-abbrev pub nothing : Reported
-nothing = record { at = point 0; time = stamp 0; rows = [] }
-
-abbrev rowTotal : List Reported → ℕ
+abbrev pub rowTotal : List Reported → ℕ
 rowTotal es = total (map (λ (e : Reported). length (e .rows)) es)
 
 -- ---- lengths
@@ -62,6 +49,11 @@ rows-length f [] h = sym (mul-zero f)
 rows-length f (e ∷ es) h =
     let s = both (rowsFit f e) (all (rowsFit f) es) h in
     omega (arith, length-append (rowWords e) (gather rowWords es), equal-lengths f (e .rows) (s .0), rows-length f es (s .1), mul-add f (length (e .rows)) (rowTotal es))
+
+-- "Words used: 3 + 3P + F × total"
+pub words-length : (f : ℕ) (es : List Reported) → all (rowsFit f) es ≡ true → length (reportWords f es) ≡ 3 + 3 * length es + f * rowTotal es
+unfolding reportWords
+words-length f es h = omega (arith, length-append (gather triple es) (gather rowWords es), triples-length es, rows-length f es h)
 
 -- ---- the triples
 
