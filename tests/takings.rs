@@ -17,7 +17,7 @@ mod library;
 use draw::*;
 use input::*;
 use keeper::*;
-use library::{State, Told};
+use library::{State, Told, RETAINED};
 use std::process::exit;
 use std::rc::Rc;
 
@@ -339,6 +339,26 @@ fn longest_report(tally: &mut Tally) {
     list.work_out_again(vec![]);
 }
 
+// States of n points within the window of an eventually, all of them open and of 8 rows each, as no start leads to past 32.
+// An event past the window settles them all. With up to 32 it is taken, with more the state is refused by 8.
+fn many_open(tally: &mut Tally) {
+    let nodes = vec![atom(0, &[0, 1, 2, 3]), node(EVENTUALLY, 0, 0, 0, 1_000)];
+    let meaning = Meaning::of(Rule { arities: vec![4], nodes });
+    let (mut g, mut list) = (Random(0), List::start(0, &meaning, tally));
+    for n in 0..RETAINED {
+        let mut state = list.state;
+        (state.points, state.retained, state.count) = (n as u32, n as u32, 8 * n as u32);
+        (0..n).for_each(|i| state.times[i] = 10 * i as u32);
+        for k in 0..8 * n {
+            (state.numbers[k], state.values[4 * k]) = (k as u32 / 8, k as u32 % 8);
+        }
+        let number = list.take_from(&mut g, &state, &event(2_000, &[]), LONGEST_REPORT);
+        if number != if n <= MOST_OPEN { 0 } else { 8 } {
+            list.differ(&format!("with {n} open points the next event is answered {number}"));
+        }
+    }
+}
+
 fn main() {
     let mut args = std::env::args().skip(1);
     let mut number = |default: u64| match args.next().map(|a| a.parse()) {
@@ -352,6 +372,7 @@ fn main() {
     let (lists, seed) = (number(5_000), number(1));
     let mut t = Tally::default();
     longest_report(&mut t);
+    many_open(&mut t);
     for k in 0..lists {
         run(seed.wrapping_add(k), &mut t);
     }
