@@ -6,7 +6,6 @@ use Rattle.meaning.specs.Outcome.{given}
 use Rattle.meaning.specs.RuleFile.{Accepted, checking}
 use Rattle.meaning.specs.Keeper.{Taking}
 use Rattle.monitor.specs.State.{lentOf}
-use Rattle.monitor.specs.Contracts.{stateFor}
 use Rattle.monitor.specs.Reports.{logOf}
 use Rattle.monitor.specs.declared.State.{State}
 use Rattle.monitor.proofs.Reports.{reports}

@@ -2,7 +2,6 @@
 use Prim.Native.Nat.{ℕ}
 use mathlib.Core.Path.{_≡_}
 use mathlib.Core.List.{List, [], _∷_, map}
-use Rattle.meaning.specs.Outcome.{given}
 use Rattle.meaning.specs.RuleFile.{Accepted}
 use Rattle.meaning.specs.Kept.{kept, openPoints}
 use Rattle.meaning.specs.Keeper.{Taking, Given, keeper}

@@ -1,16 +1,14 @@
 -- What is stored in memory once it is put there, and that the memory keeps its lengths.
-use Prim.Native.Nat.{ℕ, _*_, _≤_}
+use Prim.Native.Nat.{_*_, _≤_}
 use native.Mathlib.Omega.{arith}
-use mathlib.Core.Path.{_≡_, refl, ap, _∙_}
+use mathlib.Core.Path.{_≡_, _∙_}
 use mathlib.Core.Bool.{true}
-use mathlib.Core.List.{List, map, List·Memᴰ}
+use mathlib.Core.List.{map}
 use lib.ListN.{length, drop, length-map}
 use Rattle.meaning.specs.Lists.{gather}
-use Rattle.meaning.specs.Outcome.{mostKept}
-use Rattle.meaning.specs.Kept.{Entry}
 use Rattle.method.specs.Stored.{Stored}
-use Rattle.method.specs.WellFormed.{mostTimes, Formed}
-use Rattle.method.proofs.Rowed.{Rowed, rowed}
+use Rattle.method.specs.WellFormed.{Formed}
+use Rattle.method.proofs.Rowed.{rowed}
 use Rattle.lent.specs.Lent.{Lent, fitting, stored, ownerOf, lentWith}
 use Rattle.lent.proofs.Front.{front-long, front-read}
 use Rattle.lent.proofs.Words.{entries-back, values-long}

@@ -1,7 +1,7 @@
 -- Entries as words and back: the owners, the numbers and the values of entries, each in a list of its own.
 use Prim.Native.Nat.{ℕ, zero, suc, _+_, _*_, _≤_, _<_}
 use native.Mathlib.Omega.{arith}
-use mathlib.Core.Path.{_≡_, refl, sym, ap, ap₂, _∙_}
+use mathlib.Core.Path.{_≡_, refl, ap, _∙_}
 use mathlib.Core.List.{List, [], _∷_, _++_, map, List·Memᴰ, List·Memᴰ·head, List·Memᴰ·tail, append-assoc}
 use lib.ListN.{length, getD, take, length-append}
 use Rattle.meaning.specs.Lists.{range, gather}

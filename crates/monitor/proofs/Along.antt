@@ -7,7 +7,7 @@ use lib.ListN.{length}
 use Rattle.meaning.specs.Outcome.{Outcome, refused, given}
 use Rattle.meaning.specs.Log.{Log}
 use Rattle.meaning.specs.RuleFile.{Accepted, checking}
-use Rattle.meaning.specs.Keeper.{Taking, Given, bufferAfter, step, answered, keeperLog, keeper}
+use Rattle.meaning.specs.Keeper.{Taking, Given, bufferAfter, answered, keeper}
 use Rattle.method.specs.Stored.{Stored, storedOf}
 use Rattle.method.specs.Step.{answerNow, storedAfter, reportNow, givenBy, storedBy}
 use Rattle.method.specs.WellFormed.{wellFormed, Formed}

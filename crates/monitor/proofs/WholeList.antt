@@ -1,12 +1,12 @@
 -- The claim about a whole list of takings holds.
 use Prim.Native.Nat.{ℕ}
-use mathlib.Core.Path.{_≡_, refl, sym, _∙_, ap, ap₂}
+use mathlib.Core.Path.{_≡_, refl, _∙_, ap, ap₂}
 use mathlib.Core.Bool.{true}
 use mathlib.Core.List.{List, [], _∷_, map}
-use Rattle.meaning.specs.Outcome.{Outcome, given}
+use Rattle.meaning.specs.Outcome.{given}
 use Rattle.meaning.specs.RuleFile.{Accepted, checking}
 use Rattle.meaning.specs.Kept.{kept, openPoints}
-use Rattle.meaning.specs.Keeper.{Taking, Given, keeper}
+use Rattle.meaning.specs.Keeper.{Taking}
 use Rattle.method.specs.Step.{keptStored, openStored}
 use Rattle.method.specs.WellFormed.{wellFormed}
 use Rattle.method.proofs.Whole.{log-ordered}
@@ -14,7 +14,7 @@ use Rattle.method.proofs.Stepped.{kept-stored, open-stored}
 use Rattle.figuring.specs.Fronts.{openAnswer}
 use Rattle.lent.specs.Lent.{Lent, stored}
 use Rattle.monitor.specs.State.{lentOf}
-use Rattle.monitor.specs.Contracts.{Starts, stateFor}
+use Rattle.monitor.specs.Contracts.{Starts}
 use Rattle.monitor.specs.Calls.{Call, Calls, takingOf, givenOf}
 use Rattle.monitor.specs.Reports.{logOf}
 use Rattle.monitor.specs.WholeList.{WholeList}
