@@ -194,10 +194,15 @@ rules =
     ∷ changed ruleL 11 1 (refused 3 0)
     -- 32 nodes: 31 times "previous" over an atom
     ∷ checks (sizes 0 0 32 ++ head 1 0 0 ++ gather (λ x. head 7 x 0) (range 0 31) ++ body 0 0 ++ gather (λ x. body 0 0) (range 0 31)) (reaching 0 0)
-    -- 6 and 7: variables of and-not and of exists; a child twice
+    -- 6 and 7: variables of and-not and of exists; a child twice, and one never
     ∷ changed ruleL 44 1 (refused 6 3)
     ∷ changed existing 36 1 (refused 6 1)
     ∷ changed ruleL 26 1 (refused 7 1)
+    ∷ checks (sizes 0 0 3 ++ atoms ++ head 13 1 0 ++ body 0 0 ++ body 0 0 ++ body 0 5) (refused 7 0)
+    -- 4 before 5 before 6, of one node
+    ∷ changed (unary 13 5 5) 18 1 (refused 4 1)
+    ∷ checks (sizes 1 2 3 ++ atoms ++ head 9 1 0 ++ body 0 0 ++ body 0 1 ++ body 5 5) (refused 5 2)
+    ∷ checks (sizes 1 2 3 ++ atoms ++ head 9 1 0 ++ body 0 0 ++ body 0 1 ++ body 0 5) (refused 6 2)
     -- 5: windows at 01's limits, without length, without end
     ∷ checks (unary 13 0 604800) (reaching 0 0)
     ∷ checks (unary 13 0 604801) (refused 5 1)
