@@ -5,3 +5,4 @@ pub mod Putting
 pub mod Points
 pub mod Room
 pub mod Inputs
+pub mod Written

@@ -19,7 +19,7 @@ wordsIn bytes n = map (λ k. wordAt bytes (4 * k)) (range 0 n)
 unfoldable pub ruleEnd : List ℕ → ℕ
 ruleEnd bytes = cond (leb 4 (length bytes) && leb (wordAt bytes 0) 652) (4 + wordAt bytes 0) 4
 
--- the rule's bytes. "A length above 652, or a rule or its length word cut short, prints `refused 1 place 0`": there are none then, and that is what checking answers on none (`no-bytes` of proofs/Files.antt)
+-- the rule's bytes. "A length above 652, or a rule or its length word cut short, prints `refused 1 place 0`": there are none then, and that is what checking answers on none (`no-bytes` of proofs/Written.antt)
 unfoldable pub ruleIn : List ℕ → List ℕ
 ruleIn bytes = cond (leb (ruleEnd bytes) (length bytes)) (take (ruleEnd bytes - 4) (drop 4 bytes)) []
 
