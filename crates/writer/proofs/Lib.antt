@@ -3,4 +3,4 @@ pub mod Gathers
 pub mod Putting
 pub mod Reports
 pub mod Writing
-pub mod Again
+pub mod LentOn

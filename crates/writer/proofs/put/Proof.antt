@@ -52,7 +52,7 @@ use Rattle.writer.proofs.Points as P
 use Rattle.writer.proofs.Points.Laws as P′
 use Rattle.writer.proofs.Part as E
 use Rattle.writer.proofs.Part.Laws as E′
-use Rattle.writer.proofs.Again.{LentAgain, lends-again, comes-back}
+use Rattle.writer.proofs.LentOn.{Awaits, lent-on, had-back}
 use Rattle.writer.proofs.put_part as put-part
 use Rattle.writer.proofs.put_part.Symbol as put-part-def
 use Rattle.writer.proofs.put_part.Symbol.{name as #writer·put-part}
@@ -162,7 +162,7 @@ module _ {M : Type 1} (𝓤 : URA M) (H : Heap 𝓤) (A : Atoms 𝓤) (W : Given
         move ! (27 ∷ []) $ fsplit3 ! $ use1 W (given (mach n ∷ [] ≡ mach n ∷ []) (‵ (all-own (T.the-type α .parts) (T′.the-laws α) (x γ ys, (n, tt))))) (own-open 𝓤 H A W (T.the-type α) (T′.the-laws α) (x γ ys, (n, tt)) (mach n)) $ learn ! (λ _. fsplit ! $
         -- the slice is lent again, for a lifetime ν of the call
         move ! (30 ∷ []) $ split ! $ lft-new ! tt (λ ν. move ! (3 ∷ 1 ∷ []) $
-        use2 W (later (some (λ (δ : GName). ‵ (MutSlice (named 0) (ν ∷ []) u32 .own (x δ ys) (v ∷ [])) ⊛ ‵ (LentAgain u32 κ (ν ∷ []) q γ b o δ ys)))) (lends-again u32 κ (ν ∷ []) q γ b o 𝓤 H A W (named 0) (named 0) ys) $ await ! tt $ pick ! (λ δ. split ! $
+        use2 W (later (some (λ (δ : GName). ‵ (MutSlice (named 0) (ν ∷ []) u32 .own (x δ ys) (v ∷ [])) ⊛ ‵ (Awaits κ (ν ∷ []) q γ b o δ ys)))) (lent-on κ (ν ∷ []) q γ b o 𝓤 H A W ys) $ await ! tt $ pick ! (λ δ. split ! $
         -- [the slice; what is kept of it; the token of ν; the others; what at owns; what part and the data own; …]
         move ! (2 ∷ 3 ∷ []) $ join ! $ move ! (4 ∷ 5 ∷ []) $ fjoin ! $ owned ! usize (Is usize) (uint-makes 𝓤 H A W w64) n _ (refl, n-fits) $ fjoin ! $ move ! (2 ∷ 0 ∷ []) $ fjoin ! $ move ! (1 ∷ 0 ∷ []) $
         use2 W (raw (PutPart 𝓤 H A mem run .pre (to-put-part ν δ))) (goes ν δ asks) $
@@ -175,7 +175,7 @@ module _ {M : Type 1} (𝓤 : URA M) (H : Heap 𝓤) (A : Atoms 𝓤) (W : Given
         land ! (from ! (stop !)) (init ! 14 refl (uint-lawful 𝓤 H A W w64 .typed r _ is .0)) $ rewrite ! 14 (λ (u : Val). ‵ (fat fullShare (tyInt w64) l₈ 0 u)) (ap only (is .0)) refl $
         -- the lifetime is ended, and the slice comes back at that list
         move ! (1 ∷ []) $ split ! $ lft-end ! tt $ move ! (0 ∷ 5 ∷ 3 ∷ []) $
-        use3 W (later (‵ (MutSlice (named 0) κ u32 .own (x γ (zs .0)) (v ∷ [])) ⊛ ‵ (flft κ q))) (comes-back u32 κ (ν ∷ []) q γ b o 𝓤 H A W (named 0) (named 0) ys δ (zs .0) room l) $ await ! tt $ split ! $
+        use3 W (later (‵ (MutSlice (named 0) κ u32 .own (x γ (zs .0)) (v ∷ [])) ⊛ ‵ (flft κ q))) (had-back κ (ν ∷ []) q γ b o 𝓤 H A W ys δ (zs .0) room l) $ await ! tt $ split ! $
         -- [what buf's borrow owns; its token; the others; …; _12; …; .. _1; …; room for _0; …]
         assigns ! (addr ! (from ! (fld ! refl (fld ! refl (hop ! (look-in ! 28 (sub ! 0 refl (sub ! 0 refl (whole !)))) (stop !)))))) (from ! (stop !)) (init ! 8 refl (tt, tt)) $
         assigns ! (agg ! (and-then ! (load ! (from ! (stop !)) (look ! 8 refl)) (and-then ! (load ! (from ! (fld ! refl (fld ! refl (stop !)))) (look-in ! 28 (sub ! 1 refl (sub ! 0 refl (whole !))))) (no-more !)))) (from ! (stop !)) (init ! 6 refl (tt, (tt, (record { fits = room .0 }, tt)))) $
