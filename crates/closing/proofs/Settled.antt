@@ -119,7 +119,7 @@ module _ {b os ns vs : List ℕ} {count : ℕ} {before after times : List ℕ} {
     low-before : figure lows x ≤ figure before x
     low-before = omega (arith, low-is, h .low-before x last-node)
 
-    pub last-ready : 32 ≤ length firsts → Last b rows at firsts lows masks before after (point base) points
+    pub last-ready : 32 ≤ length firsts → Last b rows at firsts lows masks before after base points
     last-ready n =
         let nodes : lastNode b < nodeCount b = last-node in
         let long : length b ≡ _ = accepted b (h .accepted .0) (h .accepted .1) .long in

@@ -10,7 +10,7 @@ use Rattle.meaning.specs.Outcome.{refused, given, cut}
 use Rattle.meaning.specs.RuleFile.{Accepted, checking, pattern}
 use Rattle.meaning.specs.Report.{Reported, reportWords, pointsIn, inForm}
 use Rattle.meaning.specs.Keeper.{Taking, reported, report, grown, answer, answered, keeperLog}
-use Rattle.report.proofs.RoundTrip.{ReadsBack, nothing}
+use Rattle.report.specs.Reports.{ReadsBack, nothing}
 use Rattle.report.proofs.Written.{written-in-form, written-reads-back}
 use Rattle.lines.specs.Answers.{reportedText, entryIn, reportText}
 

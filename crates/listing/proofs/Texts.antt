@@ -2,23 +2,23 @@
 use Prim.Native.Nat.{ℕ, _≤_}
 use native.Mathlib.Omega.{arith}
 use mathlib.Core.Path.{_≡_, refl}
-use mathlib.Core.Bool.{Bool, true, false, cond}
 use mathlib.Core.List.{List}
 use lib.ListN.{length}
+use Rattle.meaning.specs.Outcome.{Outcome, refused, given}
 use Rattle.method.specs.Stored.{Stored}
-use Rattle.method.specs.Step.{keptStored, openStored}
-use Rattle.method.specs.WellFormed.{wellFormed}
+use Rattle.method.specs.Step.{keptStored}
+use Rattle.figuring.specs.Fronts.{openAnswer}
 use Rattle.refusals.specs.Told.{toldOf}
 use Rattle.refusals.specs.declared.Told.{Told}
 use Rattle.weighing.specs.Weighs.{refusalOf}
 use Rattle.weighing.specs.declared.Refusal.{Refusal}
 use Rattle.weighing.specs.declared.Refusal.the-variants.{NotWellFormed, NotAnEvent, RowOut, TimeFalls, LogFull, Crowded, Backlog, KeptOver, BufferShort}
-use Rattle.lines.specs.Text.{refusedLine, lastLine}
+use Rattle.lines.specs.Text.{refusedLine}
 use Rattle.lines.specs.Answers.{answerText}
 use Rattle.lines.specs.declared.input.Next.{Next}
 use Rattle.lines.specs.declared.input.Next.the-variants.{Event, Cut, Ended}
 use Rattle.lines.proofs.Lines.{refused-short, last-short}
-use Rattle.listing.specs.Ends.{cutText, figuresText}
+use Rattle.listing.specs.Ends.{cutText, figuresLine, figuresText}
 
 pub refused-text : (r : Refusal) (t : Told) (buffer : List ℕ) → t ≡ toldOf (refusalOf r) → answerText (refusalOf r) buffer ≡ refusedLine (t .0) (t .1)
 refused-text NotWellFormed t buffer e = rw e
@@ -38,8 +38,8 @@ cut-short Ended = omega arith
 
 pub figures-short : (s : Stored) → length (figuresText s) ≤ 64
 unfolding figuresText
-figures-short s = go (wellFormed s)
+figures-short s = go (openAnswer s)
   where
-    go : (t : Bool) → length (cond t (lastLine (openStored s) (keptStored s)) (refusedLine 8 0)) ≤ 64
-    go true = omega (arith, last-short (openStored s) (keptStored s))
-    go false = omega (arith, refused-short 8 0)
+    go : (o : Outcome ℕ) → length (figuresLine o (keptStored s)) ≤ 64
+    go (given unsettled) = omega (arith, last-short unsettled (keptStored s))
+    go (refused number place) = omega (arith, refused-short number place)

@@ -1,11 +1,10 @@
 -- How a run ends: what is printed where no further event is read.
-use mathlib.Core.Bool.{cond}
 use mathlib.Core.List.{List, [], _++_}
 use Prim.Native.Nat.{ℕ}
-use Rattle.meaning.specs.Outcome.{notWellFormed, notAnEvent}
+use Rattle.meaning.specs.Outcome.{Outcome, refused, given, notAnEvent}
 use Rattle.method.specs.Stored.{Stored}
-use Rattle.method.specs.Step.{keptStored, openStored}
-use Rattle.method.specs.WellFormed.{wellFormed}
+use Rattle.method.specs.Step.{keptStored}
+use Rattle.figuring.specs.Fronts.{openAnswer}
 use Rattle.lines.specs.Text.{refusedLine, lastLine}
 use Rattle.lines.specs.declared.input.Next.{Next}
 use Rattle.lines.specs.declared.input.Next.the-variants.{Event, Cut, Ended}
@@ -17,8 +16,12 @@ cutText (Event n) = []
 cutText Ended = []
 
 -- "the end of input prints the last line, `open` and `kept` with their figures as they then stand"; a state that isn't well formed, which no start leads to, has no figures and prints its refusal
+abbrev pub figuresLine : Outcome ℕ → ℕ → List ℕ
+figuresLine (given unsettled) entries = lastLine unsettled entries
+figuresLine (refused number place) entries = refusedLine number place
+
 unfoldable pub figuresText : Stored → List ℕ
-figuresText s = cond (wellFormed s) (lastLine (openStored s) (keptStored s)) (refusedLine notWellFormed 0)
+figuresText s = figuresLine (openAnswer s) (keptStored s)
 
 abbrev pub endText : Next → Stored → List ℕ
 endText next s = cutText next ++ figuresText s

@@ -117,7 +117,7 @@ module _ (s : Stored) (f : Formed s) (w : List ℕ) where
   fits : (room : ℕ) → longestReport ≤ room → NotShort (answerNow s w room)
   unfolding answerNow
   fits room h =
-      admitted-on b w (latestStored s w) (s .points) _
+      admitted-on b w (latestStored s w .0) (s .points) _
       (weighed-on (crowdedNow s w) (nodeCount b) (s .points + 1 - countAfter s w last) (length (storedNow s w .entries)) (length (reportNow s w)) room (λ calm. omega (arith, few-words (calm last last-node))))
 
 pub reports : (s : Stored) → wellFormed s ≡ true → (w : List ℕ) → Reports s w

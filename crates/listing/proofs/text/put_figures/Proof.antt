@@ -9,14 +9,14 @@ use Rattle.listing.proofs.text.put_figures.Tie as tie
 returns : tie.Need-returns
 unfolding figuresText
 returns c =
-    let opens = rw (c .before .before .before .before .before .n .given .1) at (c .before .before .before .before .before .before .before .open-points .ensures) in
-    rw (opens .0, ← opens .1, ← c .before .before .before .before .before .before .before .before .kept .ensures) (c .before .before .put-last .ensures)
+    let told = rw (c .before .before .before .before .before .n .given .1) at (c .before .before .before .before .before .before .before .open-points .ensures) in
+    rw (← told, ← c .before .before .before .before .before .before .before .before .kept .ensures) (c .before .before .put-last .ensures)
 
 returns-2 : tie.Need-returns-2
 unfolding figuresText
 returns-2 c =
-    let broken = rw (c .before .before .before .before .before .enum-told .given .1) at (c .before .before .before .before .before .before .before .open-points .ensures) in
-    rw broken (rw (c .before .before .before .of-event .ensures) at (c .before .before .put-refused .ensures))
+    let told = rw (c .before .before .before .before .before .enum-told .given .1) at (c .before .before .before .before .before .before .before .open-points .ensures) in
+    rw (← told) (rw (c .before .before .before .of-event .ensures) at (c .before .before .put-refused .ensures))
 
 pub put-figures-spec : {M : Type 1} → statement M
 put-figures-spec =
