@@ -48,30 +48,30 @@ weighed-late time last points rest = go (tested (ltb (time .0) (last .0))) (test
     go (failed t) (failed u) = rw (t, u)
 
 module _ (b w : List ℕ) (last : Stamp) (points : ℕ) where
-  pub not-admitted : form.Not ≡ formOf w → (rest : Outcome ℕ) → admitted b w (last .0) points rest ≡ outcomeOf NotAnEvent rest
+  pub not-admitted : form.Not ≡ formOf w → (rest : Outcome ℕ) → admitted b w last points rest ≡ outcomeOf NotAnEvent rest
   unfolding admitted
   not-admitted e rest = rw (form-failed w e)
 
   module _ {m : ℕ} (event : form.Event m ≡ formOf w) where
-    by-rows : (rest : Outcome ℕ) → admitted b w (last .0) points rest ≡ outcomeOf (admittedRows (rowsOf b w (range 0 m))) (outcomeOf (late (orderOf (stamp (getD w 0 0)) last) (roomOf points)) rest)
+    by-rows : (rest : Outcome ℕ) → admitted b w last points rest ≡ outcomeOf (admittedRows (rowsOf b w (range 0 m))) (outcomeOf (late (orderOf (stamp (getD w 0 0)) last) (roomOf points)) rest)
     unfolding admitted
     by-rows rest =
         let same : m ≡ rowCount w = form-rowed w event .count in
         rw (form-passed w event, weighed-late (stamp (getD w 0 0)) last points rest, same) (weighed-rows b w (range 0 (rowCount w)) (outcomeOf (late (orderOf (stamp (getD w 0 0)) last) (roomOf points)) rest))
 
-    pub row-out : {rows : Rows} {k : ℕ} {r : Admitted} → rows ≡ Out k → rows ≡ rowsOf b w (range 0 m) → r ≡ admittedRows rows → (rest : Outcome ℕ) → admitted b w (last .0) points rest ≡ outcomeOf r rest
+    pub row-out : {rows : Rows} {k : ℕ} {r : Admitted} → rows ≡ Out k → rows ≡ rowsOf b w (range 0 m) → r ≡ admittedRows rows → (rest : Outcome ℕ) → admitted b w last points rest ≡ outcomeOf r rest
     row-out {rows} {k} {r} o e f rest =
         let out : rowsOf b w (range 0 m) ≡ Out k = cc in
         let answer : r ≡ RowOut k = cc in
         by-rows rest ∙ rw (out, answer)
 
     module _ (fit : Fit ≡ rowsOf b w (range 0 m)) where
-      pub time-falls : Falls ≡ orderOf (stamp (getD w 0 0)) last → (rest : Outcome ℕ) → admitted b w (last .0) points rest ≡ outcomeOf TimeFalls rest
+      pub time-falls : Falls ≡ orderOf (stamp (getD w 0 0)) last → (rest : Outcome ℕ) → admitted b w last points rest ≡ outcomeOf TimeFalls rest
       time-falls e rest = by-rows rest ∙ rw (← fit, ← e)
 
       module _ (kept : Kept ≡ orderOf (stamp (getD w 0 0)) last) where
-        pub log-full : Full ≡ roomOf points → (rest : Outcome ℕ) → admitted b w (last .0) points rest ≡ outcomeOf LogFull rest
+        pub log-full : Full ≡ roomOf points → (rest : Outcome ℕ) → admitted b w last points rest ≡ outcomeOf LogFull rest
         log-full e rest = by-rows rest ∙ rw (← fit, ← kept, ← e)
 
-        pub fine : Left ≡ roomOf points → (rest : Outcome ℕ) → admitted b w (last .0) points rest ≡ outcomeOf Fine rest
+        pub fine : Left ≡ roomOf points → (rest : Outcome ℕ) → admitted b w last points rest ≡ outcomeOf Fine rest
         fine e rest = by-rows rest ∙ rw (← fit, ← kept, ← e)

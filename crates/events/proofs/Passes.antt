@@ -42,7 +42,7 @@ module _ (b w : List ℕ) (last : Stamp) (points : ℕ) where
   late : Outcome ℕ
   late = when (leb mostPoints points) logFull 0 (given 0)
 
-  event-passed : admitted b w (last .0) points (given 0) ≡ given 0 → Passed b w last points
+  event-passed : admitted b w last points (given 0) ≡ given 0 → Passed b w last points
   unfolding admitted late
   event-passed e =
       let form : (not (isEvent w) ≡ false) × (weighRows b w (range 0 (rowCount w)) (when (ltb (getD w 0 0) (last .0)) timeFalls 0 late) ≡ given 0) = when-passed (not (isEvent w)) notAnEvent 0 (weighRows b w (range 0 (rowCount w)) (when (ltb (getD w 0 0) (last .0)) timeFalls 0 late)) e in
@@ -56,5 +56,5 @@ module _ (b w : List ℕ) (last : Stamp) (points : ℕ) where
       }
 
   -- from what `admit` ensures, where it answers that the event is fine
-  pub fine-passed : {r : Admitted} → ((rest : Outcome ℕ) → admitted b w (last .0) points rest ≡ outcomeOf r rest) → r ≡ Fine → Passed b w last points
+  pub fine-passed : {r : Admitted} → ((rest : Outcome ℕ) → admitted b w last points rest ≡ outcomeOf r rest) → r ≡ Fine → Passed b w last points
   fine-passed h e = event-passed (h (given 0) ∙ ap (λ r. outcomeOf r (given 0)) e)

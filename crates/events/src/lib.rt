@@ -151,7 +151,7 @@ fn refused_row(rows: Rows) -> Admitted
 // The checks in the order of their refusals, by the last point's time stamp and the number of points.
 pub fn admit(rule: &[u8], event: &[u32], last: Stamp, points: u32) -> Admitted
     requires { ⌜ RuleSizes (now rule) ⌝ }
-    ensures { λ r. ⌜ ((rest : Outcome ℕ) → admitted (now (rule .entry)) (now (event .entry)) (last .0) points rest ≡ outcomeOf r rest) ⌝ }
+    ensures { λ r. ⌜ ((rest : Outcome ℕ) → admitted (now (rule .entry)) (now (event .entry)) last points rest ≡ outcomeOf r rest) ⌝ }
 {
     let Form::Event(m) = form_of(event) else {
         return Admitted::NotAnEvent;

@@ -22,6 +22,7 @@ use Rattle.meaning.specs.Limits.{EventForm, RowForm, EventFits, Admits, 
 use Rattle.meaning.proofs.Points.{both, first, second}
 use Rattle.meaning.proofs.Rows.{any-at, any-of, select-at, select-of, points-at, points-of}
 use Rattle.meaning.specs.declared.Point.{Point}
+use Rattle.meaning.specs.declared.Stamp.{Stamp}
 
 untrue : (t : Bool) → (t ≡ true → ⊥) → t ≡ false
 untrue true h = absurd (h refl)
@@ -122,13 +123,13 @@ module _ (fails : ℕ → Bool) (number : ℕ) (rest : Outcome ℕ) where
 
 -- ---- 9 to 12
 
-module _ (b w : List ℕ) (last points : ℕ) (rest : Outcome ℕ) where
+module _ (b w : List ℕ) (last : Stamp) (points : ℕ) (rest : Outcome ℕ) where
   -- past 9, and past 10
-  event-passed : EventForm w → admitted b w last points rest ≡ weighEach (λ k. not (rowFits b w k)) 10 (range 0 (rowCount w)) (when (ltb (getD w 0 0) last) 11 0 (when (leb 10000000 points) 12 0 rest))
+  event-passed : EventForm w → admitted b w last points rest ≡ weighEach (λ k. not (rowFits b w k)) 10 (range 0 (rowCount w)) (when (ltb (getD w 0 0) (last .0)) 11 0 (when (leb 10000000 points) 12 0 rest))
   unfolding admitted
   event-passed f = rw (event-of w f) (rows-each b w (range 0 (rowCount w)) _)
 
-  rows-passed : EventFits b w → admitted b w last points rest ≡ when (ltb (getD w 0 0) last) 11 0 (when (leb 10000000 points) 12 0 rest)
+  rows-passed : EventFits b w → admitted b w last points rest ≡ when (ltb (getD w 0 0) (last .0)) 11 0 (when (leb 10000000 points) 12 0 rest)
   rows-passed f = event-passed (f .event) ∙ none-fails (λ k. not (rowFits b w k)) 10 _ 0 (rowCount w) (λ k u o. ap not (row-of b w k (f .rows k (omega arith))))
 
   pub admitted-exact : Admits b w last points rest (admitted b w last points rest)
@@ -139,9 +140,9 @@ module _ (b w : List ℕ) (last points : ℕ) (rest : Outcome ℕ) where
         rowOut = λ f k o no lower.
             event-passed f
             ∙ first-fails (λ k. not (rowFits b w k)) 10 _ 0 (rowCount w) k (omega arith) (omega arith) (ap not (untrue (rowFits b w k) (λ e. no (row-at b w k e)))) (λ j u p. ap not (row-of b w j (lower j p)));
-        timeFalls = λ f h. rows-passed f ∙ rw (lt-ltb (getD w 0 0) last h);
-        logFull = λ f h m. rows-passed f ∙ rw (le-ltb (getD w 0 0) last h, le-leb 10000000 points m);
-        passed = λ f h m. rows-passed f ∙ rw (le-ltb (getD w 0 0) last h, lt-leb 10000000 points m);
+        timeFalls = λ f h. rows-passed f ∙ rw (lt-ltb (getD w 0 0) (last .0) h);
+        logFull = λ f h m. rows-passed f ∙ rw (le-ltb (getD w 0 0) (last .0) h, le-leb 10000000 points m);
+        passed = λ f h m. rows-passed f ∙ rw (le-ltb (getD w 0 0) (last .0) h, lt-leb 10000000 points m);
       }
 
 -- ---- 13 to 16

@@ -14,6 +14,7 @@ use Rattle.meaning.specs.RuleFile.{nodeCount}
 use Rattle.meaning.specs.Kept.{kept, openPoints}
 use Rattle.meaning.specs.Event.{isEvent, rowCount, rowFits}
 use Rattle.meaning.specs.Keeper.{Taking, report, weighRows, weighCrowds, admitted, weighed, crowdedAt, grown, answer, logAfter, step, keeperLog}
+use Rattle.meaning.specs.declared.Stamp.{Stamp}
 use Rattle.meaning.proofs.Points.{from-first}
 use Rattle.meaning.proofs.Accepted.{no-refusal}
 
@@ -31,19 +32,19 @@ crowds-passed crowds a (suc k) rest n e =
     (from-first (λ x. crowds x ≡ false) a k (here .0) (more .0), more .1)
 
 -- the event's time is no earlier than the last, and there was room for a point
-pub record Admitted (w : List ℕ) (last points : ℕ) (rest : Outcome ℕ) (n : ℕ) : Type 0 where
-  pub later : last ≤ getD w 0 0
+pub record Admitted (w : List ℕ) (last : Stamp) (points : ℕ) (rest : Outcome ℕ) (n : ℕ) : Type 0 where
+  pub later : last .0 ≤ getD w 0 0
   pub room : points < mostPoints
   pub goes-on : rest ≡ given n
 
-pub admitted-given : (b w : List ℕ) (last points : ℕ) (rest : Outcome ℕ) (n : ℕ) → admitted b w last points rest ≡ given n → Admitted w last points rest n
+pub admitted-given : (b w : List ℕ) (last : Stamp) (points : ℕ) (rest : Outcome ℕ) (n : ℕ) → admitted b w last points rest ≡ given n → Admitted w last points rest n
 unfolding admitted
 admitted-given b w last points rest n e =
     let form : _ × _ = no-refusal (not (isEvent w)) 9 0 _ n e in
     let rows : _ ≡ given n = rows-passed b w (range 0 (rowCount w)) _ n (form .1) in
-    let time : _ × _ = no-refusal (ltb (getD w 0 0) last) 11 0 _ n rows in
+    let time : _ × _ = no-refusal (ltb (getD w 0 0) (last .0)) 11 0 _ n rows in
     let full : _ × _ = no-refusal (leb mostPoints points) 12 0 rest n (time .1) in
-    record { later = ltb-false (getD w 0 0) last (time .0); room = leb-false mostPoints points (full .0); goes-on = full .1 }
+    record { later = ltb-false (getD w 0 0) (last .0) (time .0); room = leb-false mostPoints points (full .0); goes-on = full .1 }
 
 -- the figures are within the limits, and the answer is the report's words
 pub record Weighed (crowds : ℕ → Bool) (nodes unsettled entries words room n : ℕ) : Type 0 where
@@ -74,7 +75,7 @@ pub accepts : (b : List ℕ) (l : Log) (t : Taking) (n : ℕ) → answer b l t �
 unfolding answer
 accepts b l t n e =
     let l' : Log = grown b l (t .event) in
-    let p : Admitted (t .event) (latest l .0) (size l) _ n = admitted-given b (t .event) (latest l .0) (size l) _ n e in
+    let p : Admitted (t .event) (latest l) (size l) _ n = admitted-given b (t .event) (latest l) (size l) _ n e in
     record {
       later = p .later;
       room = p .room;

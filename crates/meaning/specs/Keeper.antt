@@ -15,6 +15,7 @@ use Rattle.meaning.specs.Kept.{kept, openPoints}
 use Rattle.meaning.specs.Event.{rowCount, isEvent, rowFits, pointOf}
 use Rattle.meaning.specs.Report.{Reported, reportWords}
 use Rattle.meaning.specs.declared.Point.{Point}
+use Rattle.meaning.specs.declared.Stamp.{Stamp}
 
 -- "Each taking has event words and a report buffer of its own, of any length and content"
 pub record Taking : Type 0 where
@@ -52,11 +53,11 @@ weighCrowds crowds [] rest = rest
 weighCrowds crowds (x ∷ xs) rest = when (crowds x) crowded x (weighCrowds crowds xs rest)
 
 -- 9 to 12, by the latest time and the number of points, and then what follows
-unfoldable pub admitted : List ℕ → List ℕ → ℕ → ℕ → Outcome ℕ → Outcome ℕ
+unfoldable pub admitted : List ℕ → List ℕ → Stamp → ℕ → Outcome ℕ → Outcome ℕ
 admitted b w last points rest =
     when (not (isEvent w)) notAnEvent 0
     (weighRows b w (range 0 (rowCount w))
-    (when (ltb (getD w 0 0) last) timeFalls 0
+    (when (ltb (getD w 0 0) (last .0)) timeFalls 0
     (when (leb mostPoints points) logFull 0
     rest)))
 
@@ -80,7 +81,7 @@ grown b l w = l ++ pointOf b w ∷ []
 -- "If any of 9 to 16 applies to that log, the event and the buffer, it answers the first with its place"
 unfoldable pub answer : List ℕ → Log → Taking → Outcome ℕ
 answer b l t =
-    admitted b (t .event) (latest l .0) (size l)
+    admitted b (t .event) (latest l) (size l)
     (weighed (crowdedAt b l (grown b l (t .event))) (nodeCount b) (openPoints b (grown b l (t .event))) (kept b (grown b l (t .event)))
     (length (report b l (grown b l (t .event)))) (length (t .buffer)))
 

@@ -50,25 +50,25 @@ unfoldable pub lastPairs : Log → Formula → List (List ℕ)
 lastPairs l φ = cond (eqb (settledCount l φ) 0) [] (pairs l φ (point (settledCount l φ - 1)))
 
 -- the point j of a child that a point i of its parent consults: "which is i; i−1 for previous; i+1 for next; every j ≥ i for 11, 12 and 14"
-abbrev pub consults : Formula → ℕ → ℕ → Bool
+abbrev pub consults : Formula → Point → Point → Bool
 consults (atom r ts) i j = false
-consults (and a b) i j = eqb j i
-consults (andNot a b) i j = eqb j i
-consults (keep a c s t) i j = eqb j i
-consults (or a b) i j = eqb j i
-consults (exists a x) i j = eqb j i
-consults (previous a w) i j = eqb (suc j) i
-consults (next a w) i j = eqb j (suc i)
-consults (since a b w) i j = eqb j i
-consults (notSince a b w) i j = eqb j i
-consults (until a b w) i j = leb i j
-consults (notUntil a b w) i j = leb i j
-consults (once a w) i j = eqb j i
-consults (eventually a w) i j = leb i j
+consults (and a b) i j = eqb (j .0) (i .0)
+consults (andNot a b) i j = eqb (j .0) (i .0)
+consults (keep a c s t) i j = eqb (j .0) (i .0)
+consults (or a b) i j = eqb (j .0) (i .0)
+consults (exists a x) i j = eqb (j .0) (i .0)
+consults (previous a w) i j = eqb (suc (j .0)) (i .0)
+consults (next a w) i j = eqb (j .0) (suc (i .0))
+consults (since a b w) i j = eqb (j .0) (i .0)
+consults (notSince a b w) i j = eqb (j .0) (i .0)
+consults (until a b w) i j = leb (i .0) (j .0)
+consults (notUntil a b w) i j = leb (i .0) (j .0)
+consults (once a w) i j = eqb (j .0) (i .0)
+consults (eventually a w) i j = leb (i .0) (j .0)
 
 -- "that an unsettled or future point i of its parent consults": none above j + 1 consults j
 unfoldable pub consulted : Log → Formula → Point → Bool
-consulted l parent j = any (λ i. not (settled l parent (point i)) && consults parent i (j .0)) (range 0 (j .0 + 2))
+consulted l parent j = any (λ i. not (settled l parent (point i)) && consults parent (point i) j) (range 0 (j .0 + 2))
 
 -- An entry and its owner: a node, and 0 for a point or 1 for an age, and that number.
 pub record Entry : Type 0 where

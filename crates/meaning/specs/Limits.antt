@@ -1,5 +1,5 @@
 -- "Take an event": the conditions of 9 to 16 with 01's figures, as laws of `admitted`, `weighed` and `crowdedAt` (shown in proofs/Limits.antt). Keeper and method share these definitions, so no theorem that sets the two side by side would tell a wrong limit in them.
--- In each record the conditions exclude one another, and one of them holds: each is exact.
+-- In each record the conditions are laid out to exclude one another and to leave nothing out, so that each is exact.
 use Prim.Native.Nat.{ℕ, _+_, _*_, _≤_, _<_}
 use mathlib.Core.Path.{_≡_}
 use mathlib.Core.Bool.{Bool, true, false}
@@ -11,6 +11,7 @@ use Rattle.meaning.specs.Evaluator.{vals}
 use Rattle.meaning.specs.Settled.{settled}
 use Rattle.meaning.specs.RuleFile.{relationCount, arity, formulaAt}
 use Rattle.meaning.specs.declared.Point.{Point}
+use Rattle.meaning.specs.declared.Stamp.{Stamp}
 
 -- "9: under 2 words, m above 32, or wrong length": none of these
 pub record EventForm (w : List ℕ) : Type 0 where
@@ -29,15 +30,15 @@ pub record EventFits (b w : List ℕ) : Type 0 where
   pub rows : (k : ℕ) → k < getD w 1 0 → RowForm b w k
 
 -- 9 to 12, by the latest time and the number of points; rest is what follows
-pub record Admits (b w : List ℕ) (last points : ℕ) (rest answer : Outcome ℕ) : Type 0 where
+pub record Admits (b w : List ℕ) (last : Stamp) (points : ℕ) (rest answer : Outcome ℕ) : Type 0 where
   pub notAnEvent : (EventForm w → ⊥) → answer ≡ refused 9 0
   -- "place is the first such row, from 0"
   pub rowOut : EventForm w → (k : ℕ) → k < getD w 1 0 → (RowForm b w k → ⊥) → ((j : ℕ) → j < k → RowForm b w j) → answer ≡ refused 10 k
   -- "11: time below the last point's"
-  pub timeFalls : EventFits b w → getD w 0 0 < last → answer ≡ refused 11 0
+  pub timeFalls : EventFits b w → getD w 0 0 < last .0 → answer ≡ refused 11 0
   -- "12: 10,000,000 points already"
-  pub logFull : EventFits b w → last ≤ getD w 0 0 → 10000000 ≤ points → answer ≡ refused 12 0
-  pub passed : EventFits b w → last ≤ getD w 0 0 → points < 10000000 → answer ≡ rest
+  pub logFull : EventFits b w → last .0 ≤ getD w 0 0 → 10000000 ≤ points → answer ≡ refused 12 0
+  pub passed : EventFits b w → last .0 ≤ getD w 0 0 → points < 10000000 → answer ≡ rest
 
 -- 13 to 16, by the nodes that are crowded, the points left unsettled, the entries kept, the report's words and the buffer's
 pub record Weighs (crowds : ℕ → Bool) (nodes unsettled entries words room : ℕ) (answer : Outcome ℕ) : Type 0 where

@@ -53,13 +53,13 @@ grown-ordered b l w o h = record { steps = λ i j u n. go i j u n (tested (ltb (
 
 -- ---- the refusals, fed the same figures
 
-admitted-same : (b w : List ℕ) (last points : ℕ) (r r' : Outcome ℕ) → (last ≤ getD w 0 0 → r ≡ r') → admitted b w last points r ≡ admitted b w last points r'
+admitted-same : (b w : List ℕ) (last : Stamp) (points : ℕ) (r r' : Outcome ℕ) → (last .0 ≤ getD w 0 0 → r ≡ r') → admitted b w last points r ≡ admitted b w last points r'
 unfolding admitted
-admitted-same b w last points r r' h = ap (λ o. when (not (isEvent w)) 9 0 (weighRows b w (range 0 (rowCount w)) o)) (go (tested (ltb (getD w 0 0) last)))
+admitted-same b w last points r r' h = ap (λ o. when (not (isEvent w)) 9 0 (weighRows b w (range 0 (rowCount w)) o)) (go (tested (ltb (getD w 0 0) (last .0))))
   where
-    go : Tested (ltb (getD w 0 0) last) → when (ltb (getD w 0 0) last) 11 0 (when (leb mostPoints points) 12 0 r) ≡ when (ltb (getD w 0 0) last) 11 0 (when (leb mostPoints points) 12 0 r')
+    go : Tested (ltb (getD w 0 0) (last .0)) → when (ltb (getD w 0 0) (last .0)) 11 0 (when (leb mostPoints points) 12 0 r) ≡ when (ltb (getD w 0 0) (last .0)) 11 0 (when (leb mostPoints points) 12 0 r')
     go (passed e) = rw e
-    go (failed e) = rw (h (ltb-false (getD w 0 0) last e))
+    go (failed e) = rw (h (ltb-false (getD w 0 0) (last .0) e))
 
 crowds-same : (f g : ℕ → Bool) (a n : ℕ) (rest : Outcome ℕ) → ((x : ℕ) → a ≤ x → x < a + n → f x ≡ g x) → weighCrowds f (range a n) rest ≡ weighCrowds g (range a n) rest
 crowds-same f g a zero rest h = refl
@@ -89,8 +89,8 @@ module _ (b : List ℕ) (a : Accepted) (ok : checking b ≡ given a) (l : Log) (
   step-answer : answerNow (storedOf b l) event (length (t .buffer)) ≡ answer b l t
   unfolding answerNow answer storedOf
   step-answer =
-      ap (λ (k : Stamp). admitted b event (k .0) (size l) reckoned) (latest-now b a ok l ordered event)
-      ∙ admitted-same b event (latest l .0) (size l) _ _
+      ap (λ (k : Stamp). admitted b event k (size l) reckoned) (latest-now b a ok l ordered event)
+      ∙ admitted-same b event (latest l) (size l) _ _
       (λ h. let o : Ordered (grown b l event) = grown-ordered b l event ordered h in
       weighed-same (crowdedNow (storedOf b l) event) (crowdedAt b l (grown b l event)) (nodeCount b) _ _ _ _ _ _ (length (t .buffer))
       (crowded-now b a ok l ordered event o) (open-now b a ok l ordered event o) (entries-count o) (ap length (report-now b a ok l ordered event o)))

@@ -143,7 +143,7 @@ module _ (s : Stored) (w : List ℕ) where
   unfoldable pub answerNow : ℕ → Outcome ℕ
   unfolding countAfter storedNow crowdedNow reportNow
   answerNow room =
-      admitted (s .rule) w (latestStored .0) (s .points)
+      admitted (s .rule) w latestStored (s .points)
       (weighed crowdedNow (nodeCount (s .rule)) (s .points + 1 - countAfter (lastNode (s .rule))) (length (storedNow .entries)) (length reportNow) room)
 
   -- the state after the call: kept on a refusal

@@ -69,12 +69,12 @@ weighed-on crowds nodes unsettled entries words room h =
     (λ t. go-on (ltb mostKept entries) 15 0 _ (λ e. omega arith)
     (λ t. rw (le-ltb room words (h (λ x o. calm x (omega arith) (omega arith)))) tt)))
 
-admitted-on : (b w : List ℕ) (last points : ℕ) (rest : Outcome ℕ) → NotShort rest → NotShort (admitted b w last points rest)
+admitted-on : (b w : List ℕ) (last : Stamp) (points : ℕ) (rest : Outcome ℕ) → NotShort rest → NotShort (admitted b w last points rest)
 unfolding admitted
 admitted-on b w last points rest h =
     go-on (not (isEvent w)) 9 0 _ (λ e. omega arith)
     (λ t. rows-on b w (range 0 (rowCount w)) _
-    (go-on (ltb (getD w 0 0) last) 11 0 _ (λ e. omega arith)
+    (go-on (ltb (getD w 0 0) (last .0)) 11 0 _ (λ e. omega arith)
     (λ t. go-on (leb mostPoints points) 12 0 rest (λ e. omega arith) (λ t. h))))
 
 -- ---- one call
@@ -117,7 +117,7 @@ module _ (s : Stored) (f : Formed s) (w : List ℕ) where
   fits : (room : ℕ) → longestReport ≤ room → NotShort (answerNow s w room)
   unfolding answerNow
   fits room h =
-      admitted-on b w (latestStored s w .0) (s .points) _
+      admitted-on b w (latestStored s w) (s .points) _
       (weighed-on (crowdedNow s w) (nodeCount b) (s .points + 1 - countAfter s w last) (length (storedNow s w .entries)) (length (reportNow s w)) room (λ calm. omega (arith, few-words (calm last last-node))))
 
 pub reports : (s : Stored) → wellFormed s ≡ true → (w : List ℕ) → Reports s w

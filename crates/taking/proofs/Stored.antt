@@ -72,24 +72,24 @@ module _ {s : Stored} {w buffer times' os' ns' vs' : List ℕ} where
 -- ---- 9 to 12
 
 -- an event with nothing against it is in form, and there is room for its point
-pub fine-event : (b w : List ℕ) (last : Stamp) (points : ℕ) (a : Admitted) → ((rest : Outcome ℕ) → admitted b w (last .0) points rest ≡ outcomeOf a rest) → a ≡ Fine → EventThere w × (points < mostPoints)
+pub fine-event : (b w : List ℕ) (last : Stamp) (points : ℕ) (a : Admitted) → ((rest : Outcome ℕ) → admitted b w last points rest ≡ outcomeOf a rest) → a ≡ Fine → EventThere w × (points < mostPoints)
 unfolding admitted isEvent
 fine-event b w last points a h fine =
-    let e : admitted b w (last .0) points (given 0) ≡ given 0 = h (given 0) ∙ ap (λ q. outcomeOf q (given 0)) fine in
+    let e : admitted b w last points (given 0) ≡ given 0 = h (given 0) ∙ ap (λ q. outcomeOf q (given 0)) fine in
     let t : isEvent w ≡ true = not-false _ (no-refusal (not (isEvent w)) notAnEvent 0 _ 0 e .0) in
-    (record { most = leb-true (rowCount w) mostRows (search (first, second)); there = omega (arith, eqb-true (length w) (2 + 5 * rowCount w) (search second)) }, admitted-given b w (last .0) points (given 0) 0 e .room)
+    (record { most = leb-true (rowCount w) mostRows (search (first, second)); there = omega (arith, eqb-true (length w) (2 + 5 * rowCount w) (search second)) }, admitted-given b w last points (given 0) 0 e .room)
 
 -- in a well-formed state the answer is what they find, and then what follows
-answers : (s : Stored) (w : List ℕ) (room : ℕ) (a : Admitted) {last : Stamp} → wellFormed s ≡ true → last ≡ latestStored s w → ((rest : Outcome ℕ) → admitted (s .rule) w (last .0) (s .points) rest ≡ outcomeOf a rest)
+answers : (s : Stored) (w : List ℕ) (room : ℕ) (a : Admitted) {last : Stamp} → wellFormed s ≡ true → last ≡ latestStored s w → ((rest : Outcome ℕ) → admitted (s .rule) w last (s .points) rest ≡ outcomeOf a rest)
     → takeAnswer s w room ≡ outcomeOf a (weighedNow s w room)
 unfolding takeAnswer answerNow weighedNow
 answers s w room a ok l h =
     ap (λ t. cond t (answerNow s w room) (refused notWellFormed 0)) ok
-    ∙ ap (λ (q : Stamp). admitted (s .rule) w (q .0) (s .points) (weighedNow s w room)) (sym l)
+    ∙ ap (λ (q : Stamp). admitted (s .rule) w q (s .points) (weighedNow s w room)) (sym l)
     ∙ h (weighedNow s w room)
 
 module _ {s : Stored} {w buffer times' os' ns' vs' : List ℕ} (a : Admitted) {last : Stamp} (ok : wellFormed s ≡ true) (l : last ≡ latestStored s w)
-    (h : (rest : Outcome ℕ) → admitted (s .rule) w (last .0) (s .points) rest ≡ outcomeOf a rest) where
+    (h : (rest : Outcome ℕ) → admitted (s .rule) w last (s .points) rest ≡ outcomeOf a rest) where
   pub refused-first : {r : Refusal} → ((rest : Outcome ℕ) → refusalOf r ≡ outcomeOf a rest) → TakesIn s w buffer buffer times' os' ns' vs' (takeAnswer s w (length buffer)) (Refused r)
   refused-first {r} e = refuses r (e (weighedNow s w (length buffer)) ∙ sym (answers s w (length buffer) a ok l h))
 
