@@ -1,11 +1,10 @@
 -- Checking looks no further than at the first 653 bytes: a file that has them all is longer than any rule.
-use Prim.Native.Nat.{ℕ, _+_, _*_, _≤_, _<_}
-use native.Mathlib.Nat.{lt-of-not-le}
+use Prim.Native.Nat.{ℕ, _+_, _*_, _<_}
 use native.Mathlib.Omega.{arith}
 use mathlib.Core.Path.{_≡_, refl, sym, ap, _∙_}
-use mathlib.Core.Bool.{Bool, true, false, not, cond}
+use mathlib.Core.Bool.{Bool, true, false, not}
 use mathlib.Core.List.{List}
-use lib.ListN.{length, getD, take, length-take}
+use lib.ListN.{length, getD, take}
 use lib.Dec.{leb, eqb, lit<}
 use lib.Seq.{getD-take, take-all, length-take-le}
 use borrow.Author.Tests.{le-ltb, leb-true, leb-false, ne-eqb}

@@ -9,7 +9,6 @@ use lib.Dec.{ltb, eqb}
 use borrow.Author.Tests.{ltb-false}
 use Rattle.meaning.specs.Outcome.{mostRows}
 use Rattle.lines.specs.Input.{rowsAsked, nextIn}
-use Rattle.lines.specs.declared.input.Next.{Next}
 use Rattle.lines.specs.declared.input.Next.the-variants.{Event, Cut, Ended}
 
 by-tests : (none short above part : Bool) (m n : ℕ) → (above ≡ false → m ≤ 32) → cond none Ended (cond (short || above || part) Cut (Event (2 + 5 * m))) ≡ Event n → n ≤ 162

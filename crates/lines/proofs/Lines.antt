@@ -1,8 +1,8 @@
 -- How long the lines are at most, and the line of a refused rule.
-use Prim.Native.Nat.{ℕ, suc, _+_, _*_, _≤_}
+use Prim.Native.Nat.{ℕ, _+_, _*_, _≤_}
 use native.Mathlib.Omega.{arith}
-use mathlib.Core.Path.{_≡_, refl}
-use mathlib.Core.List.{List, [], _∷_, _++_}
+use mathlib.Core.Path.{_≡_}
+use mathlib.Core.List.{List, [], _∷_}
 use lib.ListN.{length, length-append}
 use Rattle.meaning.specs.Lists.{gather}
 use types.Run.{OneOf, miss}
@@ -15,7 +15,7 @@ use Rattle.rulefile.specs.declared.Checked.the-variants.{Accepted, Cut, OtherVe
 use Rattle.rulefile.proofs.Checked.{the-type}
 use Rattle.meaning.specs.declared.Point.{Point}
 use Rattle.meaning.specs.declared.Stamp.{Stamp}
-use Rattle.lines.specs.Text.{decimal, figure, space, lineEnd, valuesText, acceptedLine, refusedLine, pointLine, lastLine, rowLine}
+use Rattle.lines.specs.Text.{figure, space, acceptedLine, refusedLine, pointLine, lastLine, rowLine}
 use Rattle.lines.specs.Answers.{checkedText}
 use Rattle.lines.proofs.Digits.{decimal-short}
 

@@ -2,13 +2,13 @@
 use Prim.Native.Nat.{ℕ, zero, suc, _+_, _-_, _*_, _≤_, _<_}
 use native.Mathlib.Nat.{mul-zero}
 use native.Mathlib.Omega.{arith}
-use mathlib.Core.Path.{_≡_, refl, sym, ap, _∙_}
+use mathlib.Core.Path.{_≡_, refl}
 use mathlib.Core.Bool.{true, false}
-use mathlib.Core.List.{List, [], _∷_, _++_, map}
+use mathlib.Core.List.{List, [], _∷_, _++_}
 use lib.ListN.{length, getD, take, drop, length-map}
 use Rattle.meaning.specs.Lists.{range, gather}
 use Rattle.meaning.specs.Log.{point, stamp}
-use Rattle.meaning.specs.Report.{pointsIn, freeIn, countIn, pointIn, rowsBefore, rowIn, rowsIn, inForm}
+use Rattle.meaning.specs.Report.{pointsIn, freeIn, countIn, pointIn, rowsBefore, rowsIn, inForm}
 use Rattle.meaning.proofs.Lists.{range-length}
 use Rattle.report.specs.Form.{rowsFrom, Summed}
 use Rattle.report.proofs.Runs.{rows-run}

@@ -2,15 +2,14 @@
 use Prim.Native.Nat.{ℕ, zero, suc, _+_, _-_, _*_, _≤_, _<_}
 use native.Mathlib.Nat.{lt-of-not-le, sub-zero, mul-add, add-mul, mul-assoc, suc-mul, mul-suc, mul-zero}
 use native.Mathlib.Omega.{arith}
-use mathlib.Core.Path.{_≡_, refl, sym, ap, _∙_}
-use mathlib.Core.Bool.{Bool, true, false, _&&_, true≢false}
-use mathlib.Core.List.{List, [], _∷_, _++_, map}
-use lib.ListN.{length, drop, length-append, length-take, length-map}
+use mathlib.Core.Path.{_≡_, refl, sym, _∙_}
+use mathlib.Core.Bool.{Bool, true, false, true≢false}
+use mathlib.Core.List.{List, [], _∷_, map}
+use lib.ListN.{length, drop, length-append, length-take}
 use Rattle.meaning.specs.Lists.{all, range, gather, total}
 use Rattle.meaning.specs.Order.{ascending}
 use Rattle.meaning.specs.Report.{pointsIn, freeIn, totalIn, countIn, rowsBefore, rowIn, rowsIn, inForm}
 use Rattle.meaning.proofs.Lists.{range-length}
-use Rattle.report.specs.Form.{sizesFit, Summed}
 use Rattle.report.proofs.Forms.{both, summed-of, rows-test}
 use Rattle.report.proofs.Runs.{no-words}
 use Rattle.lines.specs.Text.{pointLine, rowLine}

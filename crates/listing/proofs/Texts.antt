@@ -1,7 +1,7 @@
 -- The text of a refused event, and how long the texts at the end of a run are at most.
 use Prim.Native.Nat.{ℕ, _≤_}
 use native.Mathlib.Omega.{arith}
-use mathlib.Core.Path.{_≡_, refl}
+use mathlib.Core.Path.{_≡_}
 use mathlib.Core.List.{List}
 use lib.ListN.{length}
 use Rattle.meaning.specs.Outcome.{Outcome, refused, given}

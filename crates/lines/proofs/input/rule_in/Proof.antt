@@ -1,5 +1,4 @@
 -- `rule_in` meets its contract, whole or cut short.
-use native.Mathlib.Omega.{arith}
 use borrow.Author.Needs.{needs}
 use borrow.Author.Tests.{lt-leb, le-leb}
 use Rattle.lines.specs.Input.{ruleIn}

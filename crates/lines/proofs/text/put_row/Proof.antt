@@ -3,7 +3,7 @@ use Prim.Native.Nat.{_-_, _≤_}
 use native.Mathlib.Omega.{arith}
 use mathlib.Core.Path.{_≡_, refl}
 use mathlib.Core.List.{_++_}
-use lib.ListN.{length, getD, drop, length-append}
+use lib.ListN.{length, drop, length-append}
 use borrow.Author.Needs.{needs}
 use Rattle.meaning.specs.Lists.{gather}
 use Rattle.writer.proofs.Putting.{Putting, put-long, put-then, putting-none, putting-room, putting-more, putting-last}
