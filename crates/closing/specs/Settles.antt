@@ -5,7 +5,7 @@ use mathlib.Core.List.{List, map}
 use lib.ListN.{length}
 use Rattle.meaning.specs.Lists.{select, range, gather}
 use Rattle.meaning.specs.Outcome.{mostKept}
-use Rattle.meaning.specs.Log.{pointsFrom}
+use Rattle.meaning.specs.Log.{point, pointsFrom}
 use Rattle.meaning.specs.Formula.{free, variables}
 use Rattle.meaning.specs.RuleFile.{nodeCount, lastNode, pattern}
 use Rattle.meaning.specs.Report.{reportWords}
@@ -25,7 +25,7 @@ module _ (b os ns vs : List ℕ) (count : ℕ) (before after times : List ℕ) (
   reportIn =
       reportWords (length (select (free (pattern b)) variables))
       (map (λ i. record { at = i; time = stampIn base times i; rows = map (reportRow (free (pattern b))) (rowsOfTurn (turnIn b os ns vs count before after times base w (lastNode b)) i) })
-      (pointsFrom (figure before (lastNode b)) (figure after (lastNode b) - figure before (lastNode b))))
+      (pointsFrom (point (figure before (lastNode b))) (figure after (lastNode b) - figure before (lastNode b))))
 
   -- 13 to 16 weighed after the turns of a call in a log of so many points; where nothing is refused, the entries that are kept stand in os', ns' and vs'
   pub record SettledAll (points : ℕ) (buffer buffer' os' ns' vs' : List ℕ) (r : Weighed) : Type 0 where

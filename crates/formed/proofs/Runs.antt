@@ -125,12 +125,12 @@ module _ {os ns vs : List ℕ} {count cursor x : ℕ} {low : Point} {last mask n
 module _ {os ns vs : List ℕ} {count cursor x : ℕ} {low : Point} {n mask : ℕ} {b : List ℕ} (m : MaskOf b x mask) where
   pub set-stuck : SetStuck os ns vs count cursor x low n mask → runsFit b x low n (restAt os ns vs count cursor) ≡ false
   unfolding runsFit
-  set-stuck s = ap (λ t. t && pairsFit b x (nodeAt b x) (pairsFound x (setsRest x low n (restAt os ns vs count cursor)))) (go (tested (all fits (pointsFrom (low .0) n))))
+  set-stuck s = ap (λ t. t && pairsFit b x (nodeAt b x) (pairsFound x (setsRest x low n (restAt os ns vs count cursor)))) (go (tested (all fits (pointsFrom low n))))
     where
       fits : Point → Bool
       fits j = setFits b x (rowsFound x low (restAt os ns vs count cursor) j)
 
-      go : Tested (all fits (pointsFrom (low .0) n)) → all fits (pointsFrom (low .0) n) ≡ false
+      go : Tested (all fits (pointsFrom low n)) → all fits (pointsFrom low n) ≡ false
       go (failed t) = t
       go (passed t) = absurd (true≢false (sym (all-points fits (low .0) n .0 t (s .at) (s .from) (s .before)) ∙ sym (rows-same m (rowsFound x low (restAt os ns vs count cursor) (s .at))) ∙ s .unfit))
 

@@ -9,7 +9,7 @@ use lib.Dec.{ltb, eqb}
 use borrow.Author.Tests.{ltb-true, eqb-true, lt-ltb, eq-eqb}
 use native.Mathlib.Omega.{arith}
 use Rattle.meaning.specs.Lists.{all, any, select, sameRow}
-use Rattle.meaning.specs.Log.{Log, Row, size, time, rowsAt, elapsed, pointBefore, pointAfter, pointsFrom}
+use Rattle.meaning.specs.Log.{Log, Row, size, time, rowsAt, elapsed, point, pointBefore, pointAfter, pointsFrom}
 use Rattle.meaning.specs.Formula.{Formula, atom, and, andNot, keep, or, exists, previous, next, since, notSince, until, notUntil, once, eventually, inWindow, compares, isVariable, free, variables, within, termWithin}
 use Rattle.meaning.specs.Definition2.{Valuation, value, replaced, Since, Until, Holds}
 use Rattle.meaning.specs.Order.{ascending, OfLength}
@@ -243,14 +243,14 @@ asked-always v k = (λ e. tt, λ t. refl)
 module _ (left : List ℕ → Point → Bool) (right : Point → List (List ℕ)) (u : List ℕ) {L R : Point → Type 0}
     (asked : (k : Point) → (left u k ≡ true) ↔ L k) (found : (j : Point) → List·Memᴰ u (right j) ↔ R j) where
   -- left passes at each of the points
-  left-mem : (from count : ℕ) (j : Point) → List·Memᴰ u (select (λ t. all (left t) (pointsFrom from count)) (right j)) ↔ (R j × ((k : Point) → from ≤ k .0 → k .0 < from + count → L k))
+  left-mem : (from count : ℕ) (j : Point) → List·Memᴰ u (select (λ t. all (left t) (pointsFrom (point from) count)) (right j)) ↔ (R j × ((k : Point) → from ≤ k .0 → k .0 < from + count → L k))
   left-mem from count j = (
     λ m. let (a, b) = select-at passes (right j) m in (found j .0 a, λ k c d. asked k .0 (all-points (left u) from count .0 b k c d)),
     λ h. select-of passes (found j .1 (h .0)) (all-points (left u) from count .1 (λ k c d. asked k .1 (h .1 k c d))),
   )
     where
       passes : List ℕ → Bool
-      passes t = all (left t) (pointsFrom from count)
+      passes t = all (left t) (pointsFrom (point from) count)
 
   pub lasting-mem : (i j : Point) → List·Memᴰ u (lasting left right i j) ↔ (R j × ((k : Point) → suc (j .0) ≤ k .0 → k .0 < suc (i .0) → L k))
   lasting-mem i j = let h = left-mem (suc (j .0)) (i .0 - j .0) j in (λ m. let r = h .0 m in (r .0, λ k a b. r .1 k a (omega arith)), λ r. h .1 (r .0, λ k a b. r .1 k a (omega arith)))
@@ -273,7 +273,7 @@ module _ (left : List ℕ → Point → Bool) (right : Point → List (List ℕ)
         inside j = inWindow w (elapsed (time l j) (time l i))
 
         points : List Point
-        points = pointsFrom 0 (suc (i .0))
+        points = pointsFrom (point 0) (suc (i .0))
 
     until-mem : List·Memᴰ u (untilRows (time l) (size l) w left right i) ↔ Until l w L R i
     until-mem = (
@@ -289,7 +289,7 @@ module _ (left : List ℕ → Point → Bool) (right : Point → List (List ℕ)
         inside j = inWindow w (elapsed (time l i) (time l j))
 
         points : List Point
-        points = pointsFrom (i .0) (size l - i .0)
+        points = pointsFrom i (size l - i .0)
 
 module _ (l : Log) (w : Window) (left : List ℕ → Point → Bool) {f : ℕ → Bool} {L R : Valuation → Point → Type 0} {right : Point → List (List ℕ)}
     (e : (j : Point) → Exact f (λ v. R v j) (right j)) (asked : (v : Valuation) (k : Point) → (left (cutTo f v) k ≡ true) ↔ L v k) (i : Point) where

@@ -7,7 +7,7 @@ use mathlib.Core.List.{List, _∷_, map, List·Memᴰ, Memᴰ·cast, Memᴰ·map
 use lib.ListN.{length}
 use native.Mathlib.Omega.{arith}
 use Rattle.meaning.specs.Lists.{select}
-use Rattle.meaning.specs.Log.{Log, time, elapsed, pointsFrom}
+use Rattle.meaning.specs.Log.{Log, time, elapsed, point, pointsFrom}
 use Rattle.meaning.specs.Formula.{Formula, since, notSince, once, free}
 use Rattle.meaning.specs.Definition2.{Valuation, Holds}
 use Rattle.meaning.specs.Order.{ascending, OfLength}
@@ -46,8 +46,8 @@ module _ (l : Log) (w : Window) (i : Point) where
   module _ (left : List ℕ → Point → Bool) (right : Point → List (List ℕ)) where
     pair-at : {p : List ℕ} → List·Memᴰ p (pairRows (time l) w left right i) → (j : Point) × (u : List ℕ) × (j .0 ≤ i .0) × (inside j ≡ true) × List·Memᴰ u (lasting left right i j) × (aged j u ≡ p)
     pair-at m =
-        let (j, n, k) = gather-at (λ j. map (aged j) (lasting left right i j)) (select inside (pointsFrom 0 (suc (i .0)))) m in
-        let (a, b) = select-at inside (pointsFrom 0 (suc (i .0))) n in
+        let (j, n, k) = gather-at (λ j. map (aged j) (lasting left right i j)) (select inside (pointsFrom (point 0) (suc (i .0)))) m in
+        let (a, b) = select-at inside (pointsFrom (point 0) (suc (i .0))) n in
         let r = points-at 0 (suc (i .0)) a in
         let (u, c, d) = Memᴰ·of-map (aged j) (lasting left right i j) k in
         (j, u, omega arith, b, c, d)

@@ -46,13 +46,13 @@ from-first P a n here rest x u o = go (eq-or-lt-of-le u)
     go (inr h) = rest x h (omega arith)
 
 -- two tests that give the same at every point of a run
-pub all-same : (p q : Point → Bool) (a n : ℕ) → ((j : Point) → a ≤ j .0 → j .0 < a + n → p j ≡ q j) → all p (pointsFrom a n) ≡ all q (pointsFrom a n)
+pub all-same : (p q : Point → Bool) (a n : ℕ) → ((j : Point) → a ≤ j .0 → j .0 < a + n → p j ≡ q j) → all p (pointsFrom (point a) n) ≡ all q (pointsFrom (point a) n)
 all-same p q a zero h = refl
 all-same p q a (suc n) h =
     ap₂ (λ s t. s && t) (h (point a) (omega arith) (omega arith)) (all-same p q (suc a) n (λ j u o. h j (omega arith) (omega arith)))
 
 -- a run in two parts
-pub pointsFrom-append : (a m n : ℕ) → pointsFrom a (m + n) ≡ pointsFrom a m ++ pointsFrom (a + m) n
+pub pointsFrom-append : (a m n : ℕ) → pointsFrom (point a) (m + n) ≡ pointsFrom (point a) m ++ pointsFrom (point (a + m)) n
 pointsFrom-append a zero n = rw (zero-add, add-zero)
 pointsFrom-append a (suc m) n =
     let e : suc m + n ≡ suc (m + n) = omega arith in
@@ -72,7 +72,7 @@ module _ {A : Type 0} where
       go false e = e
 
 -- nothing is selected where the test fails at every point
-pub select-none : (p : Point → Bool) (a n : ℕ) → ((j : Point) → a ≤ j .0 → j .0 < a + n → p j ≡ false) → select p (pointsFrom a n) ≡ []
+pub select-none : (p : Point → Bool) (a n : ℕ) → ((j : Point) → a ≤ j .0 → j .0 < a + n → p j ≡ false) → select p (pointsFrom (point a) n) ≡ []
 select-none p a zero h = refl
 select-none p a (suc n) h = rw (h (point a) (omega arith) (omega arith)) (select-none p (suc a) n (λ j u o. h j (omega arith) (omega arith)))
 
@@ -80,17 +80,17 @@ select-none p a (suc n) h = rw (h (point a) (omega arith) (omega arith)) (select
 pub gather-same : {B : Type 0} (p q : Point → Bool) (f g : Point → List B) (a n : ℕ)
     → ((j : Point) → a ≤ j .0 → j .0 < a + n → p j ≡ q j)
     → ((j : Point) → a ≤ j .0 → j .0 < a + n → p j ≡ true → f j ≡ g j)
-    → gather f (select p (pointsFrom a n)) ≡ gather g (select q (pointsFrom a n))
+    → gather f (select p (pointsFrom (point a) n)) ≡ gather g (select q (pointsFrom (point a) n))
 gather-same p q f g a zero h k = refl
 gather-same p q f g a (suc n) h k =
     go (p (point a)) (q (point a)) (h (point a) (omega arith) (omega arith)) (λ e. k (point a) (omega arith) (omega arith) e)
     (gather-same p q f g (suc a) n (λ j u o. h j (omega arith) (omega arith)) (λ j u o. k j (omega arith) (omega arith)))
   where
     ps : List Point
-    ps = select p (pointsFrom (suc a) n)
+    ps = select p (pointsFrom (point (suc a)) n)
 
     qs : List Point
-    qs = select q (pointsFrom (suc a) n)
+    qs = select q (pointsFrom (point (suc a)) n)
 
     go : (s t : Bool) → s ≡ t → (s ≡ true → f (point a) ≡ g (point a)) → gather f ps ≡ gather g qs → gather f (cond s (point a ∷ ps) ps) ≡ gather g (cond t (point a ∷ qs) qs)
     go true true e here rest = ap₂ (λ xs ys. xs ++ ys) (here refl) rest

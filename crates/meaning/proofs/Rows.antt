@@ -110,18 +110,18 @@ range-of {n} from (suc count) h k = go (eqb n from) refl (range-of (suc from) co
     go true e below = List·Memᴰ·head (eqb-true n from e)
     go false e below = let d : n ≡ from → ⊥ = eqb-false n from e in List·Memᴰ·tail (below (omega arith) (omega arith))
 
-pub points-at : {j : Point} (from count : ℕ) → List·Memᴰ j (pointsFrom from count) → (from ≤ j .0) × (j .0 < from + count)
+pub points-at : {j : Point} (from count : ℕ) → List·Memᴰ j (pointsFrom (point from) count) → (from ≤ j .0) × (j .0 < from + count)
 points-at {j} from count m =
     let (n, k, d) = Memᴰ·of-map point (range from count) m in
     let e : n ≡ j .0 = ap (λ (p : Point). p .0) d in
     let h = range-at from count k in
     omega arith
 
-pub points-of : {j : Point} (from count : ℕ) → from ≤ j .0 → j .0 < from + count → List·Memᴰ j (pointsFrom from count)
+pub points-of : {j : Point} (from count : ℕ) → from ≤ j .0 → j .0 < from + count → List·Memᴰ j (pointsFrom (point from) count)
 points-of from count h k = Memᴰ·map point (range-of from count h k)
 
-pub all-points : (p : Point → Bool) (from count : ℕ) → (all p (pointsFrom from count) ≡ true) ↔ ((k : Point) → from ≤ k .0 → k .0 < from + count → p k ≡ true)
-all-points p from count = (λ e k a b. all-at p (points-of from count a b) e, λ h. all-of p (pointsFrom from count) (λ k m. let (a, b) = points-at from count m in h k a b))
+pub all-points : (p : Point → Bool) (from count : ℕ) → (all p (pointsFrom (point from) count) ≡ true) ↔ ((k : Point) → from ≤ k .0 → k .0 < from + count → p k ≡ true)
+all-points p from count = (λ e k a b. all-at p (points-of from count a b) e, λ h. all-of p (pointsFrom (point from) count) (λ k m. let (a, b) = points-at from count m in h k a b))
 
 -- Rows as words.
 pub same-row : (xs ys : List ℕ) → (sameRow xs ys ≡ true) ↔ (xs ≡ ys)

@@ -36,7 +36,7 @@ inside l w c i j = not (ltb (time l j .0) (time l i .0 + w .end)) || c j
 module _ (l : Log) (w : Window) (c : Point → Bool) (i : Point) where
   pub until-parts : settledUntil l w c i ≡ true → UntilSettled l w c i
   until-parts e =
-      let ps : Bool = all (inside l w c i) (pointsFrom (i .0) (size l - i .0)) in
+      let ps : Bool = all (inside l w c i) (pointsFrom i (size l - i .0)) in
       let n : Bool = ltb (i .0) (size l) in
       let t : Bool = leb (time l i .0 + w .end) (latest l .0) in
       let o : i .0 < size l = ltb-true (i .0) (size l) (first n t (first (n && t) ps e)) in

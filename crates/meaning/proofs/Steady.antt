@@ -87,7 +87,7 @@ until-same l l' x w d left left' right right' i n late p q =
         past-end w (elapsed (time l' i) (time l' j)) d
         (omega (arith, ap (λ m. m .0) (x .times i n), latest-first l l' x (omega arith) j (omega arith) o))
 
-    more : select chosen (pointsFrom (i .0) (size l' - i .0)) ≡ select chosen (pointsFrom (i .0) (size l - i .0))
+    more : select chosen (pointsFrom i (size l' - i .0)) ≡ select chosen (pointsFrom i (size l - i .0))
     more =
         let e : size l' - i .0 ≡ (size l - i .0) + (size l' - size l) = omega (arith, x .longer) in
         rw (e, pointsFrom-append (i .0) (size l - i .0) (size l' - size l), select-append chosen)

@@ -7,7 +7,7 @@ use lib.ListN.{getD}
 use lib.Dec.{ltb, eqb}
 use Rattle.meaning.specs.Lists.{all, any, select, gather, sameRow}
 use Rattle.meaning.specs.Order.{before}
-use Rattle.meaning.specs.Log.{Log, Row, size, time, rowsAt, elapsed, pointBefore, pointAfter, pointsFrom}
+use Rattle.meaning.specs.Log.{Log, Row, size, time, rowsAt, elapsed, point, pointBefore, pointAfter, pointsFrom}
 use Rattle.meaning.specs.Formula.{Formula, atom, and, andNot, keep, or, exists, previous, next, since, notSince, until, notUntil, once, eventually, inWindow, compares, isVariable, free, variables}
 use Rattle.meaning.specs.Definition2.{Valuation, value}
 use Rattle.meaning.specs.declared.Point.{Point}
@@ -63,17 +63,17 @@ andRows f g lefts rights = gather (λ u. map (joined f u) (select (agrees f g u)
 -- since and until over the time stamps, a test of left (of a row, at a point) and the rows of right (at a point)
 -- the rows of right at j whose left passes at every point after j up to i
 abbrev pub lasting : (List ℕ → Point → Bool) → (Point → List (List ℕ)) → Point → Point → List (List ℕ)
-lasting left right i j = select (λ u. all (left u) (pointsFrom (suc (j .0)) (i .0 - j .0))) (right j)
+lasting left right i j = select (λ u. all (left u) (pointsFrom (pointAfter j) (i .0 - j .0))) (right j)
 
 abbrev pub sinceRows : (Point → Stamp) → Window → (List ℕ → Point → Bool) → (Point → List (List ℕ)) → Point → List (List ℕ)
-sinceRows τ w left right i = gather (lasting left right i) (select (λ j. inWindow w (elapsed (τ j) (τ i))) (pointsFrom 0 (suc (i .0))))
+sinceRows τ w left right i = gather (lasting left right i) (select (λ j. inWindow w (elapsed (τ j) (τ i))) (pointsFrom (point 0) (suc (i .0))))
 
 -- the rows of right at j whose left passes at every point from i on before j
 abbrev pub leading : (List ℕ → Point → Bool) → (Point → List (List ℕ)) → Point → Point → List (List ℕ)
-leading left right i j = select (λ u. all (left u) (pointsFrom (i .0) (j .0 - i .0))) (right j)
+leading left right i j = select (λ u. all (left u) (pointsFrom i (j .0 - i .0))) (right j)
 
 abbrev pub untilRows : (Point → Stamp) → ℕ → Window → (List ℕ → Point → Bool) → (Point → List (List ℕ)) → Point → List (List ℕ)
-untilRows τ n w left right i = gather (leading left right i) (select (λ j. inWindow w (elapsed (τ i) (τ j))) (pointsFrom (i .0) (n - i .0)))
+untilRows τ n w left right i = gather (leading left right i) (select (λ j. inWindow w (elapsed (τ i) (τ j))) (pointsFrom i (n - i .0)))
 
 -- left asked "at the valuation cut down to that child's own free variables"
 abbrev pub among : (ℕ → Bool) → (Point → List (List ℕ)) → List ℕ → Point → Bool

@@ -26,7 +26,7 @@ countedAge w age = cond (eqb (w .end) 0) (min age (w .start)) age
 abbrev pub pairRows : (Point → Stamp) → Window → (List ℕ → Point → Bool) → (Point → List (List ℕ)) → Point → List (List ℕ)
 pairRows τ w left right i =
     gather (λ j. map (λ u. countedAge w (elapsed (τ j) (τ i)) ∷ u) (lasting left right i j))
-    (select (λ j. belowEnd w (elapsed (τ j) (τ i))) (pointsFrom 0 (suc (i .0))))
+    (select (λ j. belowEnd w (elapsed (τ j) (τ i))) (pointsFrom (point 0) (suc (i .0))))
 
 -- "left denied for 10 and true for 13"
 abbrev pub pairs : Log → Formula → Point → List (List ℕ)

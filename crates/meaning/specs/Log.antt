@@ -22,8 +22,8 @@ abbrev pub pointAfter : Point → Point
 pointAfter i = point (suc (i .0))
 
 -- as many points as the second argument says, from the first on
-abbrev pub pointsFrom : ℕ → ℕ → List Point
-pointsFrom from count = map point (range from count)
+abbrev pub pointsFrom : Point → ℕ → List Point
+pointsFrom from count = map point (range (from .0) count)
 
 -- "A row is a relation number and that relation's values"
 pub record Row : Type 0 where
@@ -56,7 +56,7 @@ unfoldable pub latest : Log → Stamp
 latest l = time l (point (size l - 1))
 
 abbrev pub pointsOf : Log → List Point
-pointsOf l = pointsFrom 0 (size l)
+pointsOf l = pointsFrom (point 0) (size l)
 
 -- how long after the first stamp the second is
 abbrev pub elapsed : Stamp → Stamp → ℕ

@@ -4,20 +4,20 @@ use mathlib.Core.Bool.{Bool, not, _&&_, _||_}
 use lib.ListN.{length}
 use lib.Dec.{ltb, leb, eqb}
 use Rattle.meaning.specs.Lists.{all, select}
-use Rattle.meaning.specs.Log.{Log, size, time, latest, pointBefore, pointAfter, pointsFrom, pointsOf}
+use Rattle.meaning.specs.Log.{Log, size, time, latest, point, pointBefore, pointAfter, pointsFrom, pointsOf}
 use Rattle.meaning.specs.Formula.{Formula, atom, and, andNot, keep, or, exists, previous, next, since, notSince, until, notUntil, once, eventually}
 use Rattle.meaning.specs.declared.Point.{Point}
 use Rattle.meaning.specs.declared.Window.{Window}
 
 -- "9, 10 and 13 if their children are settled at every j ≤ i"
 abbrev pub settledSince : (Point → Bool) → Point → Bool
-settledSince children i = all children (pointsFrom 0 (suc (i .0)))
+settledSince children i = all children (pointsFrom (point 0) (suc (i .0)))
 
 -- "11, 12 and 14 if some accepted point has time at least Ti + d and the children are settled at every j ≥ i with Tj < Ti + d"
 abbrev pub settledUntil : Log → Window → (Point → Bool) → Point → Bool
 settledUntil l w children i =
     ltb (i .0) (size l) && leb (time l i .0 + w .end) (latest l .0)
-    && all (λ j. not (ltb (time l j .0) (time l i .0 + w .end)) || children j) (pointsFrom (i .0) (size l - i .0))
+    && all (λ j. not (ltb (time l j .0) (time l i .0 + w .end)) || children j) (pointsFrom i (size l - i .0))
 
 -- "an atom is settled at i if i < n; kinds 2 to 6 if their children are settled at i; previous if i < n and, for i > 0, its child is settled at i−1; next if its child is settled at i+1"
 abbrev pub settled : Log → Formula → Point → Bool

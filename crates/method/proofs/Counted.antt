@@ -53,12 +53,12 @@ module _ (p : Point → Bool) (c : ℕ) where
   stops d e i s = lt-of-not-le (λ u. false≢true (sym e ∙ d i (point c) u s))
 
   -- how many points of a run pass
-  selected : Upto p c → (a n : ℕ) → length (select p (pointsFrom a n)) ≡ min c (a + n) - a
+  selected : Upto p c → (a n : ℕ) → length (select p (pointsFrom (point a) n)) ≡ min c (a + n) - a
   selected h a zero = omega arith
   selected h a (suc n) = rw (h (point a)) (go (ltb a c) refl (selected h (suc a) n))
     where
       rest : List Point
-      rest = select p (pointsFrom (suc a) n)
+      rest = select p (pointsFrom (point (suc a)) n)
 
       go : (t : Bool) → ltb a c ≡ t → length rest ≡ min c (suc a + n) - suc a → length (cond t (point a ∷ rest) rest) ≡ min c (a + suc n) - a
       go true e k = omega (arith, ltb-true a c e)

@@ -72,10 +72,10 @@ sets-same xs ys long same =
 
 -- what is gathered from the points up to i that pass a test
 past-mem : (t : Point → Bool) (f : Point → List (List ℕ)) (i : Point) (r : List ℕ)
-    → List·Memᴰ r (gather f (select t (pointsFrom 0 (suc (i .0))))) ↔ ((j : Point) × (j .0 ≤ i .0) × (t j ≡ true) × List·Memᴰ r (f j))
+    → List·Memᴰ r (gather f (select t (pointsFrom (point 0) (suc (i .0))))) ↔ ((j : Point) × (j .0 ≤ i .0) × (t j ≡ true) × List·Memᴰ r (f j))
 past-mem t f i r = (
-  λ m. let (j, n, k) = gather-at f (select t (pointsFrom 0 (suc (i .0)))) m in
-      let (a, b) = select-at t (pointsFrom 0 (suc (i .0))) n in
+  λ m. let (j, n, k) = gather-at f (select t (pointsFrom (point 0) (suc (i .0)))) m in
+      let (a, b) = select-at t (pointsFrom (point 0) (suc (i .0))) n in
       let h = points-at 0 (suc (i .0)) a in
       (j, omega arith, b, k),
   λ s. let h = s .1 in gather-of f (select-of t (points-of 0 (suc (i .0)) (omega arith) (omega arith)) (s .2)) (s .3),

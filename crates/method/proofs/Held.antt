@@ -20,7 +20,7 @@ use Rattle.method.proofs.Lists.{select-no, select-yes, map-same, map-id
 -- node x has sets at points from low x on, as many as n x says, and pairs
 module _ (low : ℕ → Point) (n : ℕ → ℕ) (sets : ℕ → Point → List (List ℕ)) (pairs : ℕ → List (List ℕ)) where
   abbrev pub setsOf : ℕ → List Entry
-  setsOf x = gather (λ j. map (entryOf x 0 (j .0)) (sets x j)) (pointsFrom (low x .0) (n x))
+  setsOf x = gather (λ j. map (entryOf x 0 (j .0)) (sets x j)) (pointsFrom (low x) (n x))
 
   abbrev pub pairsOf : ℕ → List Entry
   pairsOf x = map (λ p. entryOf x 1 (getD p 0 0) (drop 1 p)) (pairs x)
@@ -33,7 +33,7 @@ module _ (low : ℕ → Point) (n : ℕ → ℕ) (sets : ℕ → Point → List 
     where
       go : List·Memᴰ e (setsOf y) ⊎ List·Memᴰ e (pairsOf y) → e .node ≡ y
       go (inl k) =
-          let (j, i, h) = gather-at (λ j. map (entryOf y 0 (j .0)) (sets y j)) (pointsFrom (low y .0) (n y)) k in
+          let (j, i, h) = gather-at (λ j. map (entryOf y 0 (j .0)) (sets y j)) (pointsFrom (low y) (n y)) k in
           let (u, p, d) = Memᴰ·of-map (entryOf y 0 (j .0)) (sets y j) h in
           ap (λ (z : Entry). z .node) (sym d)
       go (inr k) =
@@ -72,7 +72,7 @@ module _ (low : ℕ → Point) (n : ℕ → ℕ) (sets : ℕ → Point → List 
 
         here : select asked (setsOf x) ≡ map (entryOf x 0 (j .0)) (sets x j)
         here =
-            select-gather asked (λ k. map (entryOf x 0 (k .0)) (sets x k)) (pointsFrom (low x .0) (n x))
+            select-gather asked (λ k. map (entryOf x 0 (k .0)) (sets x k)) (pointsFrom (low x) (n x))
             ∙ gather-points (λ k. select asked (map (entryOf x 0 (k .0)) (sets x k))) (low x .0) (n x)
             ∙ gather-one rowsAt (j .0) (low x .0) (n x) u l (λ k p q d. other k d) ∙ same
 
@@ -87,7 +87,7 @@ module _ (low : ℕ → Point) (n : ℕ → ℕ) (sets : ℕ → Point → List 
 
         none : select asked (setsOf x) ≡ []
         none =
-            select-gather asked (λ k. map (entryOf x 0 (k .0)) (sets x k)) (pointsFrom (low x .0) (n x))
+            select-gather asked (λ k. map (entryOf x 0 (k .0)) (sets x k)) (pointsFrom (low x) (n x))
             ∙ gather-points (λ k. select asked (map (entryOf x 0 (k .0)) (sets x k))) (low x .0) (n x)
             ∙ gather-none _ (low x .0) (n x)
             (λ k u v. select-map asked (entryOf x 0 k) (sets x (point k)) ∙ ap (map (entryOf x 0 k)) (select-no _ (sets x (point k)) (λ p m. rw (eq-eqb x x refl))))

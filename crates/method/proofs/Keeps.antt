@@ -133,7 +133,7 @@ module _ (b : List ℕ) (a : Accepted) (ok : checking b ≡ given a) (l : Log) (
 
   -- the points at which a node that isn't the last keeps its rows
   kept-run : (x : ℕ) → x < nodeCount b - 1
-      → select (λ j. settled l (formulaAt b x) j && consulted l (formulaAt b (parentOf b x)) j) (pointsOf l) ≡ pointsFrom (wantedFrom b countIn x .0) (countIn x - wantedFrom b countIn x .0)
+      → select (λ j. settled l (formulaAt b x) j && consulted l (formulaAt b (parentOf b x)) j) (pointsOf l) ≡ pointsFrom (wantedFrom b countIn x) (countIn x - wantedFrom b countIn x .0)
   unfolding wantedFrom
   kept-run x o =
       let (p, n, m) = has-parent b a ok x o in
@@ -161,7 +161,7 @@ module _ (b : List ℕ) (a : Accepted) (ok : checking b ≡ given a) (l : Log) (
   last-wanted x e = rw e (omega arith)
 
   abbrev pub rowEntries : ℕ → List Entry
-  rowEntries x = gather (λ j. map (entryOf x 0 (j .0)) (vals l (formulaAt b x) j)) (pointsFrom (wantedFrom b countIn x .0) (countIn x - wantedFrom b countIn x .0))
+  rowEntries x = gather (λ j. map (entryOf x 0 (j .0)) (vals l (formulaAt b x) j)) (pointsFrom (wantedFrom b countIn x) (countIn x - wantedFrom b countIn x .0))
 
   abbrev pub pairEntries : ℕ → List Entry
   pairEntries x = map (λ p. entryOf x 1 (getD p 0 0) (drop 1 p)) (lastPairs l (formulaAt b x))
@@ -175,7 +175,7 @@ module _ (b : List ℕ) (a : Accepted) (ok : checking b ≡ given a) (l : Log) (
   entries-run x o = ap (λ es. es ++ pairEntries x) (go (tested (eqb x (lastNode b))))
     where
       none : eqb x (lastNode b) ≡ true → [] ≡ rowEntries x
-      none e = ap (λ k. gather (λ j. map (entryOf x 0 (j .0)) (vals l (formulaAt b x) j)) (pointsFrom (wantedFrom b countIn x .0) k)) (sym (last-wanted x e))
+      none e = ap (λ k. gather (λ j. map (entryOf x 0 (j .0)) (vals l (formulaAt b x) j)) (pointsFrom (wantedFrom b countIn x) k)) (sym (last-wanted x e))
 
       go : Tested (eqb x (lastNode b)) → cond (eqb x (lastNode b)) [] (pointEntries b l x) ≡ rowEntries x
       go (passed e) = rw e (none e)

@@ -29,27 +29,27 @@ pub select-yes : {A : Type 0} (p : A → Bool) (xs : List A) → ((x : A) → p 
 select-yes p [] h = refl
 select-yes p (x ∷ xs) h = rw (h x) (ap (λ ys. x ∷ ys) (select-yes p xs h))
 
-pub select-all : (p : Point → Bool) (a n : ℕ) → ((j : Point) → a ≤ j .0 → j .0 < a + n → p j ≡ true) → select p (pointsFrom a n) ≡ pointsFrom a n
+pub select-all : (p : Point → Bool) (a n : ℕ) → ((j : Point) → a ≤ j .0 → j .0 < a + n → p j ≡ true) → select p (pointsFrom (point a) n) ≡ pointsFrom (point a) n
 select-all p a zero h = refl
 select-all p a (suc n) h = rw (h (point a) (omega arith) (omega arith)) (ap (λ ps. point a ∷ ps) (select-all p (suc a) n (λ j u o. h j (omega arith) (omega arith))))
 
 -- the points that a test on both ends selects
-pub select-run : (p : Point → Bool) (n lo hi : ℕ) → lo ≤ hi → hi ≤ n → ((j : Point) → j .0 < n → p j ≡ (leb lo (j .0) && ltb (j .0) hi)) → select p (pointsFrom 0 n) ≡ pointsFrom lo (hi - lo)
-select-run p n lo hi a b h = ap (select p) parts ∙ select-append p (pointsFrom 0 lo) (pointsFrom lo (hi - lo) ++ pointsFrom hi (n - hi)) ∙ rest
+pub select-run : (p : Point → Bool) (n lo hi : ℕ) → lo ≤ hi → hi ≤ n → ((j : Point) → j .0 < n → p j ≡ (leb lo (j .0) && ltb (j .0) hi)) → select p (pointsFrom (point 0) n) ≡ pointsFrom (point lo) (hi - lo)
+select-run p n lo hi a b h = ap (select p) parts ∙ select-append p (pointsFrom (point 0) lo) (pointsFrom (point lo) (hi - lo) ++ pointsFrom (point hi) (n - hi)) ∙ rest
   where
-    parts : pointsFrom 0 n ≡ pointsFrom 0 lo ++ (pointsFrom lo (hi - lo) ++ pointsFrom hi (n - hi))
+    parts : pointsFrom (point 0) n ≡ pointsFrom (point 0) lo ++ (pointsFrom (point lo) (hi - lo) ++ pointsFrom (point hi) (n - hi))
     parts =
         let e : n ≡ lo + ((hi - lo) + (n - hi)) = omega arith in
         let k : 0 + lo ≡ lo = omega arith in
         let m : lo + (hi - lo) ≡ hi = omega arith in
-        ap (pointsFrom 0) e ∙ pointsFrom-append 0 lo ((hi - lo) + (n - hi)) ∙ ap (λ z. pointsFrom 0 lo ++ pointsFrom z ((hi - lo) + (n - hi))) k
-        ∙ ap (λ ps. pointsFrom 0 lo ++ ps) (pointsFrom-append lo (hi - lo) (n - hi) ∙ ap (λ z. pointsFrom lo (hi - lo) ++ pointsFrom z (n - hi)) m)
+        ap (pointsFrom (point 0)) e ∙ pointsFrom-append 0 lo ((hi - lo) + (n - hi)) ∙ ap (λ z. pointsFrom (point 0) lo ++ pointsFrom (point z) ((hi - lo) + (n - hi))) k
+        ∙ ap (λ ps. pointsFrom (point 0) lo ++ ps) (pointsFrom-append lo (hi - lo) (n - hi) ∙ ap (λ z. pointsFrom (point lo) (hi - lo) ++ pointsFrom (point z) (n - hi)) m)
 
-    rest : select p (pointsFrom 0 lo) ++ select p (pointsFrom lo (hi - lo) ++ pointsFrom hi (n - hi)) ≡ pointsFrom lo (hi - lo)
+    rest : select p (pointsFrom (point 0) lo) ++ select p (pointsFrom (point lo) (hi - lo) ++ pointsFrom (point hi) (n - hi)) ≡ pointsFrom (point lo) (hi - lo)
     rest =
         rw (
           select-none p 0 lo (λ j u o. h j (omega arith) ∙ (rw (lt-leb lo (j .0) (omega arith)))),
-          select-append p (pointsFrom lo (hi - lo)) (pointsFrom hi (n - hi)),
+          select-append p (pointsFrom (point lo) (hi - lo)) (pointsFrom (point hi) (n - hi)),
           select-none p hi (n - hi) (λ j u o. h j (omega arith) ∙ (rw (le-leb lo (j .0) (omega arith), le-ltb (j .0) hi (omega arith)))),
           append-nil,
         )
@@ -101,7 +101,7 @@ gather-one f x a (suc n) u o h = go (eq-or-lt-of-le u) (λ v. gather-one f x (su
     go (inr e) rest = rw (h a (omega arith) (omega arith) (λ d. omega arith)) (rest e)
 
 -- the same over points
-pub gather-points : {B : Type 0} (f : Point → List B) (a n : ℕ) → gather f (pointsFrom a n) ≡ gather (λ y. f (point y)) (range a n)
+pub gather-points : {B : Type 0} (f : Point → List B) (a n : ℕ) → gather f (pointsFrom (point a) n) ≡ gather (λ y. f (point y)) (range a n)
 gather-points f a zero = refl
 gather-points f a (suc n) = ap (λ ys. f (point a) ++ ys) (gather-points f (suc a) n)
 

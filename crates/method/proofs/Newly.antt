@@ -7,7 +7,7 @@ use mathlib.Core.List.{_++_}
 use lib.Dec.{ltb, leb}
 use borrow.Author.Tests.{ltb-true, ltb-false, le-leb, lt-leb}
 use Rattle.meaning.specs.Lists.{select}
-use Rattle.meaning.specs.Log.{Log, GoesOn, size, pointsFrom, pointsOf}
+use Rattle.meaning.specs.Log.{Log, GoesOn, size, point, pointsFrom, pointsOf}
 use Rattle.meaning.specs.Formula.{Formula}
 use Rattle.meaning.specs.Settled.{settled, settledCount}
 use Rattle.meaning.specs.Keeper.{newlySettled}
@@ -17,12 +17,12 @@ use Rattle.meaning.proofs.Points.{Tested, passed, failed, tested, pointsFrom-ap
 use Rattle.method.proofs.Counted.{Counted, counted-most, count-counted, counts-grow}
 use Rattle.method.proofs.Lists.{select-run}
 
-settled-run : (l : Log) (φ : Formula) (c : ℕ) → Counted l φ c → select (settled l φ) (pointsOf l) ≡ pointsFrom 0 c
+settled-run : (l : Log) (φ : Formula) (c : ℕ) → Counted l φ c → select (settled l φ) (pointsOf l) ≡ pointsFrom (point 0) c
 settled-run l φ c h =
     let z : c - 0 ≡ c = omega arith in
-    select-run (settled l φ) (size l) 0 c (omega arith) (counted-most l φ c h) (λ j n. rw (le-leb 0 (j .0) (omega arith)) (h j)) ∙ ap (pointsFrom 0) z
+    select-run (settled l φ) (size l) 0 c (omega arith) (counted-most l φ c h) (λ j n. rw (le-leb 0 (j .0) (omega arith)) (h j)) ∙ ap (pointsFrom (point 0)) z
 
-pub newly-run : (l l' : Log) (φ : Formula) (c d : ℕ) → c ≤ d → Counted l φ c → Counted l' φ d → newlySettled l l' φ ≡ pointsFrom c (d - c)
+pub newly-run : (l l' : Log) (φ : Formula) (c d : ℕ) → c ≤ d → Counted l φ c → Counted l' φ d → newlySettled l l' φ ≡ pointsFrom (point c) (d - c)
 unfolding newlySettled
 newly-run l l' φ c d u h k = select-run (λ i. settled l' φ i && not (settled l φ i)) (size l') c d u (counted-most l' φ d k) (λ j n. rw (k j, h j) (ends (j .0)))
   where
@@ -45,8 +45,8 @@ settled-then-newly l l' φ f g =
     let u : c ≤ d = counts-grow l l' (extends l l' g) φ c d h k in
     ap₂ (λ xs ys. xs ++ ys) (settled-run l φ c h) (newly-run l l' φ c d u h k) ∙ join c d u ∙ sym (settled-run l' φ d k)
   where
-    join : (c d : ℕ) → c ≤ d → pointsFrom 0 c ++ pointsFrom c (d - c) ≡ pointsFrom 0 d
+    join : (c d : ℕ) → c ≤ d → pointsFrom (point 0) c ++ pointsFrom (point c) (d - c) ≡ pointsFrom (point 0) d
     join c d u =
         let e : c + (d - c) ≡ d = omega arith in
         let z : 0 + c ≡ c = omega arith in
-        ap (λ k. pointsFrom 0 c ++ pointsFrom k (d - c)) (sym z) ∙ sym (pointsFrom-append 0 c (d - c)) ∙ ap (pointsFrom 0) e
+        ap (λ k. pointsFrom (point 0) c ++ pointsFrom (point k) (d - c)) (sym z) ∙ sym (pointsFrom-append 0 c (d - c)) ∙ ap (pointsFrom (point 0)) e

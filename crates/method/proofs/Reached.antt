@@ -280,7 +280,7 @@ module _ (b : List ℕ) (a : Accepted) (ok : checking b ≡ given a) (l : Log) (
       omega arith
 
   -- the times don't fall
-  run-rises : (k n : ℕ) → k + n ≤ size l → notFalling (map (λ i. time l i .0) (pointsFrom k n)) ≡ true
+  run-rises : (k n : ℕ) → k + n ≤ size l → notFalling (map (λ i. time l i .0) (pointsFrom (point k) n)) ≡ true
   run-rises k zero h = refl
   run-rises k (suc zero) h = refl
   run-rises k (suc (suc n)) h = both (le-leb (time l (point k) .0) (time l (point (suc k)) .0) (r .ordered .steps (point k) (point (suc k)) (omega arith) (omega arith))) (run-rises (suc k) (suc n) (omega arith))
@@ -339,8 +339,8 @@ module _ (b : List ℕ) (a : Accepted) (ok : checking b ≡ given a) (l : Log) (
   base-size : base .0 ≤ size l
   base-size = let h : leastOf (size l) (map was (range 0 (nodeCount b))) ≤ size l = least-most (size l) (map was (range 0 (nodeCount b))) in omega arith
 
-  times-many : length (map (λ i. time l i .0) (pointsFrom (base .0) (size l - base .0))) ≡ size l - base .0
-  times-many = length-map (pointsFrom (base .0) (size l - base .0)) _ ∙ points-length (base .0) (size l - base .0)
+  times-many : length (map (λ i. time l i .0) (pointsFrom base (size l - base .0))) ≡ size l - base .0
+  times-many = length-map (pointsFrom base (size l - base .0)) _ ∙ points-length (base .0) (size l - base .0)
 
   kept-few : length (entries b l) ≤ mostKept
   unfolding kept

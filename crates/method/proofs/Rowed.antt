@@ -64,7 +64,7 @@ module _ (s : Stored) (x : ℕ) where
   rowsAt j = map (entryOf x 0 (j .0)) (held (s .entries) x j)
 
   abbrev consulted : List Point
-  consulted = pointsFrom (wantedFrom (s .rule) (countBefore s) x .0) (countBefore s x - wantedFrom (s .rule) (countBefore s) x .0)
+  consulted = pointsFrom (wantedFrom (s .rule) (countBefore s) x) (countBefore s x - wantedFrom (s .rule) (countBefore s) x .0)
 
   abbrev pairsOf : List Entry
   pairsOf = map (λ p. entryOf x 1 (getD p 0 0) (drop 1 p)) (heldPairs (s .entries) x)

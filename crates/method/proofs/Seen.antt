@@ -55,13 +55,13 @@ pub until-cut : (τ τ' : Point → Stamp) (m n : ℕ) (w : Window) (left left' 
 until-cut τ τ' m n w left left' right right' i a b t here past p q =
     gather-same (λ j. inWindow w (elapsed (τ i) (τ j))) chosen (leading left right i) (leading left' right' i) (i .0) (m - i .0)
     (λ j u o. ap₂ (λ s s'. inWindow w (elapsed s s')) (t i (omega arith) here) (t j u (omega arith)))
-    (λ j u o h. select-same _ _ (right j) (λ x. all-same (left x) (left' x) (i .0) (j .0 - i .0) (λ k m' y. p k m' (omega arith) x)) ∙ ap (select (λ x. all (left' x) (pointsFrom (i .0) (j .0 - i .0)))) (q j u (omega arith)))
+    (λ j u o h. select-same _ _ (right j) (λ x. all-same (left x) (left' x) (i .0) (j .0 - i .0) (λ k m' y. p k m' (omega arith) x)) ∙ ap (select (λ x. all (left' x) (pointsFrom i (j .0 - i .0)))) (q j u (omega arith)))
     ∙ ap (gather (leading left' right' i)) (sym more)
   where
     chosen : Point → Bool
     chosen j = inWindow w (elapsed (τ' i) (τ' j))
 
-    more : select chosen (pointsFrom (i .0) (n - i .0)) ≡ select chosen (pointsFrom (i .0) (m - i .0))
+    more : select chosen (pointsFrom i (n - i .0)) ≡ select chosen (pointsFrom i (m - i .0))
     more =
         let e : n - i .0 ≡ (m - i .0) + (n - m) = omega arith in
         rw (e, pointsFrom-append (i .0) (m - i .0) (n - m), select-append chosen)

@@ -66,7 +66,7 @@ module _ (v : Sight) {f : ℕ → Bool} where
   until-cut : (n : ℕ) (w : Window) (left : List ℕ → Point → Bool) (right : Point → List (List ℕ)) (i : Point) → ((j : Point) → RowsOf f (right j))
       → (u : List ℕ) → List·Memᴰ u (untilRows (v .stamps) n w left right i) → Cut f u
   until-cut n w left right i r u m =
-      let (j, a, k) = gather-at (leading left right i) (select (λ j. inWindow w (elapsed (v .stamps i) (v .stamps j))) (pointsFrom (i .0) (n - i .0))) m in
+      let (j, a, k) = gather-at (leading left right i) (select (λ j. inWindow w (elapsed (v .stamps i) (v .stamps j))) (pointsFrom i (n - i .0))) m in
       r j .cut u (select-at _ (right j) k .0)
 
   old-cut : (w : Window) {ps : List (List ℕ)} → PairsOf f ps → (u : List ℕ) → List·Memᴰ u (oldEnough w ps) → Cut f u
@@ -187,7 +187,7 @@ module _ (s : Stored) (f : Formed s) (w : List ℕ) where
   -- the rows of node x that are held, and those of its newly settled points
   module _ (x : ℕ) (o : x < nodeCount b) where
     abbrev points : List Point
-    points = pointsFrom (wantedFrom b (countBefore s) x .0) (countBefore s x - wantedFrom b (countBefore s) x .0)
+    points = pointsFrom (wantedFrom b (countBefore s) x) (countBefore s x - wantedFrom b (countBefore s) x .0)
 
     abbrev old : List (List (List ℕ))
     old = map (held (s .entries) x) points

@@ -66,10 +66,10 @@ module _ (b : List ℕ) (a : Accepted) (ok : checking b ≡ given a) (l : Log) (
   base-size = let h : leastOf (size l) (map was (range 0 (nodeCount b))) ≤ size l = least-most (size l) (map was (range 0 (nodeCount b))) in omega arith
 
   abbrev timesOf : List ℕ
-  timesOf = map (λ i. time l i .0) (pointsFrom (base .0) (size l - base .0))
+  timesOf = map (λ i. time l i .0) (pointsFrom base (size l - base .0))
 
   times-length : length timesOf ≡ size l - base .0
-  times-length = length-map (pointsFrom (base .0) (size l - base .0)) _ ∙ points-length (base .0) (size l - base .0)
+  times-length = length-map (pointsFrom base (size l - base .0)) _ ∙ points-length (base .0) (size l - base .0)
 
   base-is : baseOf s ≡ base
   unfolding storedOf
@@ -111,7 +111,7 @@ module _ (b : List ℕ) (a : Accepted) (ok : checking b ≡ given a) (l : Log) (
   last-node = last-is-node b a ok
 
   -- the points from a count on are those that a prefix test leaves
-  pub open-run : (m : Log) (c : ℕ) → Counted m (pattern b) c → size m - c ≡ length (select (λ i. not (settled m (pattern b) i)) (pointsFrom 0 (size m)))
+  pub open-run : (m : Log) (c : ℕ) → Counted m (pattern b) c → size m - c ≡ length (select (λ i. not (settled m (pattern b) i)) (pointsFrom (point 0) (size m)))
   open-run m c h =
       sym (points-length c (size m - c))
       ∙ ap length (sym (select-run (λ i. not (settled m (pattern b) i)) (size m) c (size m) (counted-most m (pattern b) c h) (omega arith) (λ j n. rw (h j, lt-ltb (j .0) (size m) n) (ends c (j .0)))))
@@ -282,17 +282,17 @@ module _ (b : List ℕ) (a : Accepted) (ok : checking b ≡ given a) (l : Log) (
       ready-run : (j : Point) → was x ≤ j .0 → j .0 < was x + (is x - was x) → Ready (sight x) l' ordered' (formulaAt b) node (fine-node x o) j
       ready-run j u v = ready x o under j u (omega (arith, was-is x o))
 
-      old-rows : map (held (entries b l) x) (pointsFrom (lo .0) (was x - lo .0)) ≡ map (vals l' (formulaAt b x)) (pointsFrom (lo .0) (was x - lo .0))
+      old-rows : map (held (entries b l) x) (pointsFrom lo (was x - lo .0)) ≡ map (vals l' (formulaAt b x)) (pointsFrom lo (was x - lo .0))
       old-rows =
           map-points (held (entries b l) x) (vals l' (formulaAt b x)) (lo .0) (was x - lo .0)
           (λ j u v. held-is b a ok l ordered x o j u (omega (arith, lo-low))
           ∙ steady-by l l' grows (formulaAt b x) (fine b a ok x o) j (upto-holds (settled l (formulaAt b x)) (was x) (was-counted x o) j (omega (arith, lo-low))))
 
-      made-rows : newRows (sight x) node (point (was x)) (is x - was x) (heldPairs (entries b l) x) ≡ map (vals l' (formulaAt b x)) (pointsFrom (was x) (is x - was x))
+      made-rows : newRows (sight x) node (point (was x)) (is x - was x) (heldPairs (entries b l) x) ≡ map (vals l' (formulaAt b x)) (pointsFrom (point (was x)) (is x - was x))
       made-rows =
           ap (newRows (sight x) node (point (was x)) (is x - was x)) (start-pairs x o ∙ ap (λ φ. pairsBefore l' φ (point (was x))) (stepped x o))
           ∙ new-rows (sight x) l' ordered' (formulaAt b) node (fine-node x o) (was x) (is x - was x) ready-run
-          ∙ ap (λ φ. map (vals l' φ) (pointsFrom (was x) (is x - was x))) (sym (stepped x o))
+          ∙ ap (λ φ. map (vals l' φ) (pointsFrom (point (was x)) (is x - was x))) (sym (stepped x o))
 
       made-pairs : newPairs (sight x) node (point (was x)) (is x - was x) (heldPairs (entries b l) x) ≡ lastPairs l' (formulaAt b x)
       made-pairs =
@@ -301,16 +301,16 @@ module _ (b : List ℕ) (a : Accepted) (ok : checking b ≡ given a) (l : Log) (
           ∙ new-pairs (sight x) l' ordered' (formulaAt b) node (fine-node x o) (was x) (is x - was x) ready-run
           ∙ ap (λ k. pairsBefore l' (formulaOf (formulaAt b) node) (point k)) z ∙ ap (λ φ. pairsBefore l' φ (point (is x))) (sym (stepped x o)) ∙ end-pairs x
 
-      all-rows : map (held (entries b l) x) (pointsFrom (lo .0) (was x - lo .0)) ++ newRows (sight x) node (point (was x)) (is x - was x) (heldPairs (entries b l) x) ≡ map (vals l' (formulaAt b x)) (pointsFrom (lo .0) (is x - lo .0))
+      all-rows : map (held (entries b l) x) (pointsFrom lo (was x - lo .0)) ++ newRows (sight x) node (point (was x)) (is x - was x) (heldPairs (entries b l) x) ≡ map (vals l' (formulaAt b x)) (pointsFrom lo (is x - lo .0))
       all-rows =
           let z : is x - lo .0 ≡ (was x - lo .0) + (is x - was x) = omega (arith, lo-low, was-is x o) in
           let q : lo .0 + (was x - lo .0) ≡ was x = omega (arith, lo-low) in
           ap₂ (λ s t. s ++ t) old-rows made-rows
-          ∙ sym (map-append (vals l' (formulaAt b x)) (pointsFrom (lo .0) (was x - lo .0)) (pointsFrom (was x) (is x - was x)))
-          ∙ ap (map (vals l' (formulaAt b x))) (ap (λ k. pointsFrom (lo .0) (was x - lo .0) ++ pointsFrom k (is x - was x)) (sym q) ∙ sym (pointsFrom-append (lo .0) (was x - lo .0) (is x - was x)) ∙ ap (pointsFrom (lo .0)) (sym z))
+          ∙ sym (map-append (vals l' (formulaAt b x)) (pointsFrom lo (was x - lo .0)) (pointsFrom (point (was x)) (is x - was x)))
+          ∙ ap (map (vals l' (formulaAt b x))) (ap (λ k. pointsFrom lo (was x - lo .0) ++ pointsFrom (point k) (is x - was x)) (sym q) ∙ sym (pointsFrom-append (lo .0) (was x - lo .0) (is x - was x)) ∙ ap (pointsFrom lo) (sym z))
 
       -- the turn with its counts written as the log's
-      turn-with : turn s w x ≡ record { low = lo; rows = map (vals l' (formulaAt b x)) (pointsFrom (lo .0) (is x - lo .0)); pairs = lastPairs l' (formulaAt b x) }
+      turn-with : turn s w x ≡ record { low = lo; rows = map (vals l' (formulaAt b x)) (pointsFrom lo (is x - lo .0)); pairs = lastPairs l' (formulaAt b x) }
       unfolding turnOf
       turn-with =
           turn-is x o
@@ -361,15 +361,15 @@ module _ (b : List ℕ) (a : Accepted) (ok : checking b ≡ given a) (l : Log) (
     base-grows : base .0 ≤ firstRetained (size l') (map is (range 0 (nodeCount b))) .0
     base-grows = let h : leastOf (size l) (map was (range 0 (nodeCount b))) ≤ leastOf (size l') (map is (range 0 (nodeCount b))) = least-grows (size l) (size l') was is 0 (nodeCount b) (omega (arith, size-grown)) (λ x u v. was-is x (omega arith)) in omega arith
 
-    times-now : timesOf ++ getD w 0 0 ∷ [] ≡ map (λ i. time l' i .0) (pointsFrom (base .0) (size l' - base .0))
+    times-now : timesOf ++ getD w 0 0 ∷ [] ≡ map (λ i. time l' i .0) (pointsFrom base (size l' - base .0))
     times-now =
         let z : size l' - base .0 ≡ (size l - base .0) + 1 = omega (arith, size-grown, base-size) in
         let q : base .0 + (size l - base .0) ≡ size l = omega (arith, base-size) in
         ap₂ (λ r p. r ++ p)
         (map-points (λ i. time l i .0) (λ i. time l' i .0) (base .0) (size l - base .0) (λ j u v. ap (λ (t : Stamp). t .0) (grows .times j (omega (arith, base-size)))))
         (ap (λ k. k ∷ []) (ap (λ (t : Stamp). t .0) (last-time (point (size l)) refl)))
-        ∙ sym (map-append (λ i. time l' i .0) (pointsFrom (base .0) (size l - base .0)) (point (size l) ∷ []))
-        ∙ ap (map (λ i. time l' i .0)) (ap (λ k. pointsFrom (base .0) (size l - base .0) ++ pointsFrom k 1) (sym q) ∙ sym (pointsFrom-append (base .0) (size l - base .0) 1) ∙ ap (pointsFrom (base .0)) (sym z))
+        ∙ sym (map-append (λ i. time l' i .0) (pointsFrom base (size l - base .0)) (point (size l) ∷ []))
+        ∙ ap (map (λ i. time l' i .0)) (ap (λ k. pointsFrom base (size l - base .0) ++ pointsFrom (point k) 1) (sym q) ∙ sym (pointsFrom-append (base .0) (size l - base .0) 1) ∙ ap (pointsFrom base) (sym z))
 
     abbrev base' : Point
     base' = firstRetained (size l') (map is (range 0 (nodeCount b)))
@@ -380,12 +380,12 @@ module _ (b : List ℕ) (a : Accepted) (ok : checking b ≡ given a) (l : Log) (
     first-now : firstRetained (size l + 1) (countsAfter s w) .0 - baseOf s .0 ≡ base' .0 - base .0
     first-now = ap₂ (λ (r p : Point). r .0 - p .0) (ap₂ (λ n cs. firstRetained n cs) (sym size-grown) counts-now) base-is
 
-    times-kept : drop (base' .0 - base .0) (timesOf ++ getD w 0 0 ∷ []) ≡ map (λ i. time l' i .0) (pointsFrom (base' .0) (size l' - base' .0))
+    times-kept : drop (base' .0 - base .0) (timesOf ++ getD w 0 0 ∷ []) ≡ map (λ i. time l' i .0) (pointsFrom base' (size l' - base' .0))
     times-kept =
         let z : base .0 + (base' .0 - base .0) ≡ base' .0 = omega (arith, base-grows) in
         let y : size l' - base .0 - (base' .0 - base .0) ≡ size l' - base' .0 = omega (arith, base-grows, base'-size) in
         ap (drop (base' .0 - base .0)) times-now ∙ drop-points (λ i. time l' i .0) (base .0) (size l' - base .0) (base' .0 - base .0) (omega (arith, base'-size))
-        ∙ ap₂ (λ r p. map (λ i. time l' i .0) (pointsFrom r p)) z y
+        ∙ ap₂ (λ r p. map (λ i. time l' i .0) (pointsFrom (point r) p)) z y
 
     entries-all : gather (entriesNow s w) (range 0 (nodeCount b)) ≡ entries b l'
     unfolding entries
@@ -402,7 +402,7 @@ module _ (b : List ℕ) (a : Accepted) (ok : checking b ≡ given a) (l : Log) (
 
     -- ---- the figures
 
-    newly : (x : ℕ) → x < nodeCount b → newlySettled l l' (formulaAt b x) ≡ pointsFrom (was x) (is x - was x)
+    newly : (x : ℕ) → x < nodeCount b → newlySettled l l' (formulaAt b x) ≡ pointsFrom (point (was x)) (is x - was x)
     newly x o = newly-run l l' (formulaAt b x) (was x) (is x) (was-is x o) (was-counted x o) (is-counted x o)
 
     new-rows-right : (x : ℕ) → x < nodeCount b → (j : Point) → was x ≤ j .0 → j .0 < was x + (is x - was x) → rowsOfTurn (turn s w x) j ≡ vals l' (formulaAt b x) j

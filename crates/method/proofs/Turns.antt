@@ -62,29 +62,29 @@ from-getD xs n f e h =
     ext-getD 0 xs (map f (range 0 n)) (e ∙ sym (length-map (range 0 n) f ∙ range-length 0 n))
     (λ k o. let z : 0 + k ≡ k = omega arith in h k (omega arith) ∙ sym (getD-range f 0 n k (omega arith) ∙ ap f z))
 
-pub gather-over : {B : Type 0} (f g : Point → List B) (a n : ℕ) → ((j : Point) → a ≤ j .0 → j .0 < a + n → f j ≡ g j) → gather f (pointsFrom a n) ≡ gather g (pointsFrom a n)
+pub gather-over : {B : Type 0} (f g : Point → List B) (a n : ℕ) → ((j : Point) → a ≤ j .0 → j .0 < a + n → f j ≡ g j) → gather f (pointsFrom (point a) n) ≡ gather g (pointsFrom (point a) n)
 gather-over f g a zero h = refl
 gather-over f g a (suc n) h = ap₂ (λ s t. s ++ t) (h (point a) (omega arith) (omega arith)) (gather-over f g (suc a) n (λ j u o. h j (omega arith) (omega arith)))
 
-pub any-over : (p q : Point → Bool) (a n : ℕ) → ((j : Point) → a ≤ j .0 → j .0 < a + n → p j ≡ q j) → any p (pointsFrom a n) ≡ any q (pointsFrom a n)
+pub any-over : (p q : Point → Bool) (a n : ℕ) → ((j : Point) → a ≤ j .0 → j .0 < a + n → p j ≡ q j) → any p (pointsFrom (point a) n) ≡ any q (pointsFrom (point a) n)
 any-over p q a zero h = refl
 any-over p q a (suc n) h = ap₂ (λ s t. s || t) (h (point a) (omega arith) (omega arith)) (any-over p q (suc a) n (λ j u o. h j (omega arith) (omega arith)))
 
-pub drop-points : {B : Type 0} (f : Point → B) (a n k : ℕ) → k ≤ n → drop k (map f (pointsFrom a n)) ≡ map f (pointsFrom (a + k) (n - k))
+pub drop-points : {B : Type 0} (f : Point → B) (a n k : ℕ) → k ≤ n → drop k (map f (pointsFrom (point a) n)) ≡ map f (pointsFrom (point (a + k)) (n - k))
 drop-points f a n zero h = let z : a + 0 ≡ a = omega arith in let y : n - 0 ≡ n = omega arith in rw (z, y)
 drop-points f a zero (suc k) h = absurd (omega arith)
 drop-points f a (suc n) (suc k) h = let z : a + suc k ≡ suc a + k = omega arith in let y : suc n - suc k ≡ n - k = omega arith in rw (z, y) (drop-points f (suc a) n k (omega arith))
 
-pub points-length : (a n : ℕ) → length (pointsFrom a n) ≡ n
+pub points-length : (a n : ℕ) → length (pointsFrom (point a) n) ≡ n
 points-length a n = length-map (range a n) point ∙ range-length a n
 
 module _ {A : Type 0} (f : Point → A) (d : A) where
-  pub getD-points : (a n k : ℕ) → k < n → getD (map f (pointsFrom a n)) k d ≡ f (point (a + k))
+  pub getD-points : (a n k : ℕ) → k < n → getD (map f (pointsFrom (point a) n)) k d ≡ f (point (a + k))
   getD-points a zero k h = absurd (omega arith)
   getD-points a (suc n) zero h = let e : a + 0 ≡ a = omega arith in rw e
   getD-points a (suc n) (suc k) h = let e : a + suc k ≡ suc a + k = omega arith in rw e (getD-points (suc a) n k (omega arith))
 
-pub map-points : {B : Type 0} (f g : Point → B) (a n : ℕ) → ((j : Point) → a ≤ j .0 → j .0 < a + n → f j ≡ g j) → map f (pointsFrom a n) ≡ map g (pointsFrom a n)
+pub map-points : {B : Type 0} (f g : Point → B) (a n : ℕ) → ((j : Point) → a ≤ j .0 → j .0 < a + n → f j ≡ g j) → map f (pointsFrom (point a) n) ≡ map g (pointsFrom (point a) n)
 map-points f g a zero h = refl
 map-points f g a (suc n) h = ap₂ (λ s t. s ∷ t) (h (point a) (omega arith) (omega arith)) (map-points f g (suc a) n (λ j u o. h j (omega arith) (omega arith)))
 
@@ -102,7 +102,7 @@ module _ (v : Sight) (l : Log) (ordered : Ordered l) (F : ℕ → Formula) (n : 
   next k = let z : suc k - 1 ≡ k = omega arith in rw (ne-eqb (suc k) 0 (λ d. omega arith), z)
 
   pub new-rows : (i count : ℕ) → ((j : Point) → i ≤ j .0 → j .0 < i + count → Ready j)
-      → newRows v n (point i) count (pairsBefore l (formulaOf F n) (point i)) ≡ map (vals l (formulaOf F n)) (pointsFrom i count)
+      → newRows v n (point i) count (pairsBefore l (formulaOf F n) (point i)) ≡ map (vals l (formulaOf F n)) (pointsFrom (point i) count)
   new-rows i zero h = refl
   new-rows i (suc count) h =
       let r : Ready (point i) = h (point i) (omega arith) (omega arith) in

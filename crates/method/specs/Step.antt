@@ -56,7 +56,7 @@ unfoldable pub turnOf : List ℕ → List Entry → (ℕ → ℕ) → (ℕ → �
 turnOf b es before after v x =
     record {
       low = wantedFrom b before x;
-      rows = map (held es x) (pointsFrom (wantedFrom b before x .0) (before x - wantedFrom b before x .0)) ++ newRows v (nodeAt b x) (point (before x)) (after x - before x) (heldPairs es x);
+      rows = map (held es x) (pointsFrom (wantedFrom b before x) (before x - wantedFrom b before x .0)) ++ newRows v (nodeAt b x) (point (before x)) (after x - before x) (heldPairs es x);
       pairs = newPairs v (nodeAt b x) (point (before x)) (after x - before x) (heldPairs es x);
     }
 
@@ -108,7 +108,7 @@ module _ (s : Stored) (w : List ℕ) where
   unfoldable pub entriesNow : ℕ → List Entry
   unfolding countAfter turn
   entriesNow x =
-      gather (λ j. map (entryOf x 0 (j .0)) (rowsOfTurn (turn x) j)) (pointsFrom (wantedFrom (s .rule) countAfter x .0) (countAfter x - wantedFrom (s .rule) countAfter x .0))
+      gather (λ j. map (entryOf x 0 (j .0)) (rowsOfTurn (turn x) j)) (pointsFrom (wantedFrom (s .rule) countAfter x) (countAfter x - wantedFrom (s .rule) countAfter x .0))
       ++ map (λ p. entryOf x 1 (getD p 0 0) (drop 1 p)) (turn x .pairs)
 
   unfoldable pub storedNow : Stored
@@ -124,13 +124,13 @@ module _ (s : Stored) (w : List ℕ) where
   -- a newly settled point of node x has too many rows
   unfoldable pub crowdedNow : ℕ → Bool
   unfolding countAfter turn
-  crowdedNow x = any (λ j. ltb mostRows (length (rowsOfTurn (turn x) j))) (pointsFrom (countBefore s x) (countAfter x - countBefore s x))
+  crowdedNow x = any (λ j. ltb mostRows (length (rowsOfTurn (turn x) j))) (pointsFrom (point (countBefore s x)) (countAfter x - countBefore s x))
 
   -- the newly settled points of the last node, with their times and rows
   abbrev pub reportedNow : List Reported
   reportedNow =
       map (λ i. record { at = i; time = stampsNow i; rows = map (reportRow (free (pattern (s .rule)))) (rowsOfTurn (turn (lastNode (s .rule))) i) })
-      (pointsFrom (countBefore s (lastNode (s .rule))) (countAfter (lastNode (s .rule)) - countBefore s (lastNode (s .rule))))
+      (pointsFrom (point (countBefore s (lastNode (s .rule)))) (countAfter (lastNode (s .rule)) - countBefore s (lastNode (s .rule))))
 
   unfoldable pub reportNow : List ℕ
   unfolding stampsNow countAfter turn

@@ -49,6 +49,6 @@ storedOf b l =
     record {
       rule = b;
       points = size l;
-      times = map (λ i. time l i .0) (pointsFrom (firstRetained (size l) (map (λ x. settledCount l (formulaAt b x)) (range 0 (nodeCount b))) .0) (size l - firstRetained (size l) (map (λ x. settledCount l (formulaAt b x)) (range 0 (nodeCount b))) .0));
+      times = map (λ i. time l i .0) (pointsFrom (firstRetained (size l) (map (λ x. settledCount l (formulaAt b x)) (range 0 (nodeCount b)))) (size l - firstRetained (size l) (map (λ x. settledCount l (formulaAt b x)) (range 0 (nodeCount b))) .0));
       entries = entries b l;
     }

@@ -72,12 +72,12 @@ module _ (s : Stored) where
   -- the entries of node x, in their order: its rows at each point that is still consulted, and its pairs
   unfoldable pub ownEntries : ℕ → List Entry
   ownEntries x =
-      gather (λ j. map (entryOf x 0 (j .0)) (held (s .entries) x j)) (pointsFrom (wantedFrom (s .rule) (countBefore s) x .0) (countBefore s x - wantedFrom (s .rule) (countBefore s) x .0))
+      gather (λ j. map (entryOf x 0 (j .0)) (held (s .entries) x j)) (pointsFrom (wantedFrom (s .rule) (countBefore s) x) (countBefore s x - wantedFrom (s .rule) (countBefore s) x .0))
       ++ map (λ p. entryOf x 1 (getD p 0 0) (drop 1 p)) (heldPairs (s .entries) x)
 
   unfoldable pub nodeFits : ℕ → Bool
   nodeFits x =
-      all (λ j. setFits (s .rule) x (held (s .entries) x j)) (pointsFrom (wantedFrom (s .rule) (countBefore s) x .0) (countBefore s x - wantedFrom (s .rule) (countBefore s) x .0))
+      all (λ j. setFits (s .rule) x (held (s .entries) x j)) (pointsFrom (wantedFrom (s .rule) (countBefore s) x) (countBefore s x - wantedFrom (s .rule) (countBefore s) x .0))
       && pairsFit (s .rule) x (nodeAt (s .rule) x) (heldPairs (s .entries) x)
 
   unfoldable pub wellFormed : Bool

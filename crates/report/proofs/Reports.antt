@@ -33,11 +33,11 @@ use Rattle.report.proofs.RoundTrip.{WellMade, rowTotal, words-length, i
 use Rattle.report.proofs.Shown.{entryAt, well-made}
 
 -- where no point of a run has over 32 rows, they are at most 32 for each point
-rows-few : (f : ℕ → Bool) (time : Point → Stamp) (rows : Point → List (List ℕ)) (a n : ℕ) → any (λ j. ltb mostRows (length (rows j))) (pointsFrom a n) ≡ false
-    → rowTotal (map (entryAt f time rows) (pointsFrom a n)) ≤ mostRows * n
+rows-few : (f : ℕ → Bool) (time : Point → Stamp) (rows : Point → List (List ℕ)) (a n : ℕ) → any (λ j. ltb mostRows (length (rows j))) (pointsFrom (point a) n) ≡ false
+    → rowTotal (map (entryAt f time rows) (pointsFrom (point a) n)) ≤ mostRows * n
 rows-few f time rows a zero e = omega arith
 rows-few f time rows a (suc n) e =
-    let (here, later) = neither (ltb mostRows (length (rows (point a)))) (any (λ j. ltb mostRows (length (rows j))) (pointsFrom (suc a) n)) e in
+    let (here, later) = neither (ltb mostRows (length (rows (point a)))) (any (λ j. ltb mostRows (length (rows j))) (pointsFrom (point (suc a)) n)) e in
     omega (arith, length-map (rows (point a)) (reportRow f), ltb-false mostRows (length (rows (point a))) here, rows-few f time rows (suc a) n later)
 
 -- ---- the refusals of a taking, of which 16 is the last

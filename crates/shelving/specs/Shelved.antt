@@ -16,7 +16,7 @@ use Rattle.shelf.specs.Appended.{Extended}
 
 -- the entries of node x at n points from low on, where S gives the sets
 abbrev pub setEntries : ℕ → (Point → List (List ℕ)) → Point → ℕ → List Entry
-setEntries x S low n = gather (λ j. map (entryOf x 0 (j .0)) (S j)) (pointsFrom (low .0) n)
+setEntries x S low n = gather (λ j. map (entryOf x 0 (j .0)) (S j)) (pointsFrom low n)
 
 -- the entries of node x's pairs, each its age and then its row
 abbrev pub agedEntries : ℕ → List (List ℕ) → List Entry

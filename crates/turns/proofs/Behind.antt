@@ -8,7 +8,7 @@ use mathlib.Core.List.{List, [], _∷_, _++_, map, append-nil}
 use lib.Dec.{eqb}
 use borrow.Author.Tests.{eq-eqb, ne-eqb}
 use Rattle.meaning.specs.Lists.{range, gather}
-use Rattle.meaning.specs.Log.{pointsFrom}
+use Rattle.meaning.specs.Log.{point, pointsFrom}
 use Rattle.meaning.specs.Kept.{Entry}
 use Rattle.meaning.specs.declared.Point.{Point}
 use Rattle.meaning.proofs.Lists.{gather-append}
@@ -31,7 +31,7 @@ module _ {B : Type 0} (f : ℕ → List B) where
   gather-last x =
       let g : Point → List B = λ j. f (j .0) in
       let e : 0 + x ≡ x = omega arith in
-      sym (gather-points g 0 (x + 1)) ∙ ap (gather g) (pointsFrom-append 0 x 1) ∙ gather-append g (pointsFrom 0 x) (pointsFrom (0 + x) 1)
+      sym (gather-points g 0 (x + 1)) ∙ ap (gather g) (pointsFrom-append 0 x 1) ∙ gather-append g (pointsFrom (point 0) x) (pointsFrom (point (0 + x)) 1)
       ∙ ap₂ (λ s t. s ++ t) (gather-points g 0 x) (append-nil (f (0 + x)) ∙ ap f e)
 
 -- what lists put end to end begin with
@@ -66,7 +66,7 @@ module _ (b os ns vs : List ℕ) (count : ℕ) (before after times : List ℕ) (
       let low : Point = wantedFrom b (figure before) y in
       let es : List Entry = entriesFrom os ns vs 0 count in
       begins-append (hasOwner x mark) (setEntries y (held es y) low (figure before y - low .0)) (agedEntries y (heldPairs es y))
-      (begins-gather (hasOwner x mark) _ (pointsFrom (low .0) (figure before y - low .0)) (λ j. begins-map (hasOwner x mark) _ (held es y j) (λ r. rw e)))
+      (begins-gather (hasOwner x mark) _ (pointsFrom low (figure before y - low .0)) (λ j. begins-map (hasOwner x mark) _ (held es y j) (λ r. rw e)))
       (begins-map (hasOwner x mark) _ (heldPairs es y) (λ p. rw e))
 
   pub after-node : (x mark a k : ℕ) → x < a → begins (hasOwner x mark) (gather entered (range a k)) ≡ false

@@ -53,7 +53,7 @@ module _ (b os ns vs : List ℕ) (count : ℕ) (before after times : List ℕ) (
     unfolding turnOf
     turn-low = ap (λ t. t .low) turn-is
 
-    turn-rows : turn x .rows ≡ map (held kept x) (pointsFrom (low x .0) (figure before x - low x .0)) ++ fresh
+    turn-rows : turn x .rows ≡ map (held kept x) (pointsFrom (low x) (figure before x - low x .0)) ++ fresh
     unfolding turnOf
     turn-rows = ap (λ t. t .rows) turn-is
 
@@ -65,16 +65,16 @@ module _ (b os ns vs : List ℕ) (count : ℕ) (before after times : List ℕ) (
     pub rows-at : (j : Point) → rowsOfTurn (turn x) j ≡ getD (turn x .rows) (j .0 - low x .0) []
     rows-at j = ap (λ (a : Point). getD (turn x .rows) (j .0 - a .0) []) turn-low
 
-    held-long : length (map (held kept x) (pointsFrom (low x .0) (figure before x - low x .0))) ≡ figure before x - low x .0
-    held-long = length-map (pointsFrom (low x .0) (figure before x - low x .0)) (held kept x) ∙ points-length (low x .0) (figure before x - low x .0)
+    held-long : length (map (held kept x) (pointsFrom (low x) (figure before x - low x .0))) ≡ figure before x - low x .0
+    held-long = length-map (pointsFrom (low x) (figure before x - low x .0)) (held kept x) ∙ points-length (low x .0) (figure before x - low x .0)
 
     -- at a kept point, and at a new one
     pub rows-held : (q : ℕ) → q < figure before x - low x .0 → getD (turn x .rows) q [] ≡ held kept x (point (low x .0 + q))
     rows-held q l =
-        ap (λ s. getD s q []) turn-rows ∙ List·getD-append (map (held kept x) (pointsFrom (low x .0) (figure before x - low x .0))) fresh [] q (omega (arith, held-long))
+        ap (λ s. getD s q []) turn-rows ∙ List·getD-append (map (held kept x) (pointsFrom (low x) (figure before x - low x .0))) fresh [] q (omega (arith, held-long))
         ∙ getD-points (held kept x) [] (low x .0) (figure before x - low x .0) q l
 
     pub rows-new : (q : ℕ) → getD (turn x .rows) (figure before x - low x .0 + q) [] ≡ getD fresh q []
     rows-new q =
-        ap (λ s. getD s (figure before x - low x .0 + q) []) turn-rows ∙ ap (λ k. getD (map (held kept x) (pointsFrom (low x .0) (figure before x - low x .0)) ++ fresh) (k + q) []) (sym held-long)
-        ∙ getD-append-add (map (held kept x) (pointsFrom (low x .0) (figure before x - low x .0))) fresh q []
+        ap (λ s. getD s (figure before x - low x .0 + q) []) turn-rows ∙ ap (λ k. getD (map (held kept x) (pointsFrom (low x) (figure before x - low x .0)) ++ fresh) (k + q) []) (sym held-long)
+        ∙ getD-append-add (map (held kept x) (pointsFrom (low x) (figure before x - low x .0))) fresh q []

@@ -45,7 +45,7 @@ use Rattle.turns.proofs.Given.{sight, fresh, turn-pairs, rows-at, rows-
 use Rattle.turns.proofs.Lower.{below-later, below-noted, below-own, ready, same}
 
 -- no point of a run passes
-no-point : (p : Point → Bool) (a n : ℕ) → ((j : Point) → a ≤ j .0 → j .0 < a + n → p j ≡ false) → any p (pointsFrom a n) ≡ false
+no-point : (p : Point → Bool) (a n : ℕ) → ((j : Point) → a ≤ j .0 → j .0 < a + n → p j ≡ false) → any p (pointsFrom (point a) n) ≡ false
 no-point p a zero h = refl
 no-point p a (suc n) h = rw (h (point a) (omega arith) (omega arith)) (no-point p (suc a) n (λ j u o. h j (omega arith) (omega arith)))
 

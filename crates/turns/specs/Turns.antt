@@ -7,7 +7,7 @@ use lib.ListN.{length, getD}
 use lib.Dec.{ltb}
 use Rattle.meaning.specs.Lists.{any, range, gather}
 use Rattle.meaning.specs.Outcome.{given, mostRows, mostKept}
-use Rattle.meaning.specs.Log.{pointsFrom}
+use Rattle.meaning.specs.Log.{point, pointsFrom}
 use Rattle.meaning.specs.Formula.{free}
 use Rattle.meaning.specs.RuleFile.{Accepted, checking, nodeCount, nodeAt, formulaAt}
 use Rattle.meaning.specs.Kept.{Entry}
@@ -38,7 +38,7 @@ module _ (b os ns vs : List ℕ) (count : ℕ) (before after times : List ℕ) (
   -- a newly settled point of node x has too many rows
   unfoldable pub crowdedIn : ℕ → Bool
   unfolding turnIn
-  crowdedIn x = any (λ j. ltb mostRows (length (rowsOfTurn (turnIn x) j))) (pointsFrom (figure before x) (figure after x - figure before x))
+  crowdedIn x = any (λ j. ltb mostRows (length (rowsOfTurn (turnIn x) j))) (pointsFrom (point (figure before x)) (figure after x - figure before x))
 
   -- what node x keeps
   unfoldable pub entriesOut : ℕ → List Entry

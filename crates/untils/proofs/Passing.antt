@@ -19,17 +19,17 @@ use Rattle.kinds.specs.declared.Left.the-variants.{Always}
 
 -- a test at every point from k on before end
 module _ (p : Point → Bool) (k end : ℕ) where
-  pub all-more : k < end → p (point k) ≡ true → all p (pointsFrom k (end - k)) ≡ all p (pointsFrom (k + 1) (end - (k + 1)))
+  pub all-more : k < end → p (point k) ≡ true → all p (pointsFrom (point k) (end - k)) ≡ all p (pointsFrom (point (k + 1)) (end - (k + 1)))
   all-more l e =
       let s : end - k ≡ suc (end - (k + 1)) = omega arith in
       rw (s, e, add-one k)
 
-  pub all-stops : k < end → p (point k) ≡ false → all p (pointsFrom k (end - k)) ≡ false
+  pub all-stops : k < end → p (point k) ≡ false → all p (pointsFrom (point k) (end - k)) ≡ false
   all-stops l e =
       let s : end - k ≡ suc (end - (k + 1)) = omega arith in
       rw (s, e)
 
-  pub all-ends : end ≤ k → all p (pointsFrom k (end - k)) ≡ true
+  pub all-ends : end ≤ k → all p (pointsFrom (point k) (end - k)) ≡ true
   all-ends l =
       let s : end - k ≡ 0 = omega arith in
       rw s

@@ -21,7 +21,7 @@ leftTest l mask sets u = passesAt l sets (cutTo (inMask mask) (valuationOf u))
 
 -- left's test of row u passes at every point from i on before j
 abbrev pub leads : Left → ℕ → (Point → List (List ℕ)) → Point → Point → List ℕ → Bool
-leads l mask sets i j u = all (leftTest l mask sets u) (pointsFrom (i .0) (j .0 - i .0))
+leads l mask sets i j u = all (leftTest l mask sets u) (pointsFrom i (j .0 - i .0))
 
 -- a node's sets at the points from i on before m stand in the words, where set `first` is its set at point `low`
 pub record Stand (rows at : List ℕ) (first : ℕ) (low i : Point) (m : ℕ) : Type 0 where

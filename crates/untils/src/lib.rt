@@ -110,7 +110,7 @@ fn passes_from(
     j: Point,
 ) -> bool
     requires { ⌜ Stand (now rows) (now at) fa la i (j .0) ⌝ }
-    ensures { λ t. ⌜ t ≡ all (passesAt left (setAt (now (rows .entry)) (now (at .entry)) fa la) (wordsOf r)) (pointsFrom (i .0) (j .0 - i .0)) ⌝ }
+    ensures { λ t. ⌜ t ≡ all (passesAt left (setAt (now (rows .entry)) (now (at .entry)) fa la) (wordsOf r)) (pointsFrom i (j .0 - i .0)) ⌝ }
 {
     let end = j.0;
     let mut k = i.0;

@@ -124,7 +124,7 @@ module _ (rows at : List ℕ) (p : Points) where
 
   -- the sets of points in a row are one run of rows
   all-run : (i n : ℕ) → p .low .0 ≤ i → ((q : ℕ) → q < setOf p (point i) + n → getD at q 0 ≤ getD at (q + 1) 0)
-      → gather setFor (pointsFrom i n) ≡ rowsFrom rows (getD at (setOf p (point i)) 0) (getD at (setOf p (point i) + n) 0 - getD at (setOf p (point i)) 0)
+      → gather setFor (pointsFrom (point i) n) ≡ rowsFrom rows (getD at (setOf p (point i)) 0) (getD at (setOf p (point i) + n) 0 - getD at (setOf p (point i)) 0)
   unfolding rowsFrom
   all-run i zero l steps =
       let e : getD at (setOf p (point i)) 0 - getD at (setOf p (point i)) 0 ≡ 0 = omega arith in

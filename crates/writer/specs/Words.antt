@@ -22,7 +22,7 @@ freeCount mask = length (select (inMask mask) variables)
 
 -- the points
 abbrev pub pointsOf : Points → List Point
-pointsOf p = pointsFrom (p .from .0) (p .count)
+pointsOf p = pointsFrom (p .from) (p .count)
 
 -- the set of point i
 abbrev pub setOf : Points → Point → ℕ

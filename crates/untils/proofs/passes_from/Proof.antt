@@ -5,7 +5,7 @@ use mathlib.Core.Path.{_≡_, refl, sym, _∙_}
 use borrow.Author.Tests.{not-true, not-false}
 use borrow.Author.Needs.{needs}
 use Rattle.meaning.specs.Lists.{all}
-use Rattle.meaning.specs.Log.{pointsFrom}
+use Rattle.meaning.specs.Log.{point, pointsFrom}
 use Rattle.rowset.specs.Rows.{wordsOf}
 use Rattle.room.specs.Room.{setAt}
 use Rattle.untils.specs.Until.{passesAt}
@@ -17,7 +17,7 @@ use Rattle.untils.proofs.passes_from.Tie as tie
 
 abbrev Inv-loop : tie.InvT-loop
 Inv-loop left r rows at fa la end k₀ k =
-    (k₀ ≤ k) × (k ≤ end) × (all (passesAt left (setAt rows at fa la) (wordsOf r)) (pointsFrom k₀ (end - k₀)) ≡ all (passesAt left (setAt rows at fa la) (wordsOf r)) (pointsFrom k (end - k)))
+    (k₀ ≤ k) × (k ≤ end) × (all (passesAt left (setAt rows at fa la) (wordsOf r)) (pointsFrom (point k₀) (end - k₀)) ≡ all (passesAt left (setAt rows at fa la) (wordsOf r)) (pointsFrom (point k) (end - k)))
 
 abbrev μ-loop : tie.MeasureT-loop
 μ-loop left r rows at fa la end k₀ k = end - k
