@@ -7,7 +7,7 @@ use mathlib.Core.List.{List, [], _∷_, _++_}
 use native.Mathlib.Nat.{eq-or-lt-of-le, zero-add, add-zero}
 use native.Mathlib.Omega.{arith}
 use Rattle.meaning.specs.Lists.{all, select, gather}
-use Rattle.meaning.specs.Log.{point, pointsFrom}
+use Rattle.meaning.specs.Log.{point, pointAfter, pointsFrom}
 use Rattle.meaning.specs.declared.Point.{Point}
 
 pub both : {a b : Bool} → a ≡ true → b ≡ true → (a && b) ≡ true
@@ -52,12 +52,12 @@ all-same p q a (suc n) h =
     ap₂ (λ s t. s && t) (h (point a) (omega arith) (omega arith)) (all-same p q (suc a) n (λ j u o. h j (omega arith) (omega arith)))
 
 -- a run in two parts
-pub pointsFrom-append : (a m n : ℕ) → pointsFrom (point a) (m + n) ≡ pointsFrom (point a) m ++ pointsFrom (point (a + m)) n
+pub pointsFrom-append : (a : Point) (m n : ℕ) → pointsFrom a (m + n) ≡ pointsFrom a m ++ pointsFrom (point (a .0 + m)) n
 pointsFrom-append a zero n = rw (zero-add, add-zero)
 pointsFrom-append a (suc m) n =
     let e : suc m + n ≡ suc (m + n) = omega arith in
-    let f : suc a + m ≡ a + suc m = omega arith in
-    rw e (ap (λ ps. point a ∷ ps) (rw f at (pointsFrom-append (suc a) m n)))
+    let f : suc (a .0) + m ≡ a .0 + suc m = omega arith in
+    rw e (ap (λ ps. a ∷ ps) (rw f at (pointsFrom-append (pointAfter a) m n)))
 
 module _ {A : Type 0} where
   pub select-same : (p q : A → Bool) (xs : List A) → ((x : A) → p x ≡ q x) → select p xs ≡ select q xs

@@ -90,7 +90,7 @@ until-same l l' x w d left left' right right' i n late p q =
     more : select chosen (pointsFrom i (size l' - i .0)) ≡ select chosen (pointsFrom i (size l - i .0))
     more =
         let e : size l' - i .0 ≡ (size l - i .0) + (size l' - size l) = omega (arith, x .longer) in
-        rw (e, pointsFrom-append (i .0) (size l - i .0) (size l' - size l), select-append chosen)
+        rw (e, pointsFrom-append i (size l - i .0) (size l' - size l), select-append chosen)
         (rw (select-none chosen (i .0 + (size l - i .0)) (size l' - size l) (λ j u o. late' j (omega arith) (omega (arith, x .longer)))) (append-nil _))
 
 -- the rows of left at a point, cut down and looked up, where they are the same

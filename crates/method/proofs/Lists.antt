@@ -42,8 +42,8 @@ select-run p n lo hi a b h = ap (select p) parts ∙ select-append p (pointsFrom
         let e : n ≡ lo + ((hi - lo) + (n - hi)) = omega arith in
         let k : 0 + lo ≡ lo = omega arith in
         let m : lo + (hi - lo) ≡ hi = omega arith in
-        ap (pointsFrom (point 0)) e ∙ pointsFrom-append 0 lo ((hi - lo) + (n - hi)) ∙ ap (λ z. pointsFrom (point 0) lo ++ pointsFrom (point z) ((hi - lo) + (n - hi))) k
-        ∙ ap (λ ps. pointsFrom (point 0) lo ++ ps) (pointsFrom-append lo (hi - lo) (n - hi) ∙ ap (λ z. pointsFrom (point lo) (hi - lo) ++ pointsFrom (point z) (n - hi)) m)
+        ap (pointsFrom (point 0)) e ∙ pointsFrom-append (point 0) lo ((hi - lo) + (n - hi)) ∙ ap (λ z. pointsFrom (point 0) lo ++ pointsFrom (point z) ((hi - lo) + (n - hi))) k
+        ∙ ap (λ ps. pointsFrom (point 0) lo ++ ps) (pointsFrom-append (point lo) (hi - lo) (n - hi) ∙ ap (λ z. pointsFrom (point lo) (hi - lo) ++ pointsFrom (point z) (n - hi)) m)
 
     rest : select p (pointsFrom (point 0) lo) ++ select p (pointsFrom (point lo) (hi - lo) ++ pointsFrom (point hi) (n - hi)) ≡ pointsFrom (point lo) (hi - lo)
     rest =

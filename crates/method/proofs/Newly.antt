@@ -49,4 +49,4 @@ settled-then-newly l l' φ f g =
     join c d u =
         let e : c + (d - c) ≡ d = omega arith in
         let z : 0 + c ≡ c = omega arith in
-        ap (λ k. pointsFrom (point 0) c ++ pointsFrom (point k) (d - c)) (sym z) ∙ sym (pointsFrom-append 0 c (d - c)) ∙ ap (pointsFrom (point 0)) e
+        ap (λ k. pointsFrom (point 0) c ++ pointsFrom (point k) (d - c)) (sym z) ∙ sym (pointsFrom-append (point 0) c (d - c)) ∙ ap (pointsFrom (point 0)) e

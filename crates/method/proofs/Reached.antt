@@ -340,7 +340,7 @@ module _ (b : List ℕ) (a : Accepted) (ok : checking b ≡ given a) (l : Log) (
   base-size = let h : leastOf (size l) (map was (range 0 (nodeCount b))) ≤ size l = least-most (size l) (map was (range 0 (nodeCount b))) in omega arith
 
   times-many : length (map (λ i. time l i .0) (pointsFrom base (size l - base .0))) ≡ size l - base .0
-  times-many = length-map (pointsFrom base (size l - base .0)) _ ∙ points-length (base .0) (size l - base .0)
+  times-many = length-map (pointsFrom base (size l - base .0)) _ ∙ points-length base (size l - base .0)
 
   kept-few : length (entries b l) ≤ mostKept
   unfolding kept

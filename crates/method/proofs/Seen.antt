@@ -64,7 +64,7 @@ until-cut τ τ' m n w left left' right right' i a b t here past p q =
     more : select chosen (pointsFrom i (n - i .0)) ≡ select chosen (pointsFrom i (m - i .0))
     more =
         let e : n - i .0 ≡ (m - i .0) + (n - m) = omega arith in
-        rw (e, pointsFrom-append (i .0) (m - i .0) (n - m), select-append chosen)
+        rw (e, pointsFrom-append i (m - i .0) (n - m), select-append chosen)
         (rw (select-none chosen (i .0 + (m - i .0)) (n - m) (λ j u o. past j (omega arith) (omega arith))) (append-nil _))
 
 -- until at a settled point, over a test of the children that m points pass

@@ -69,7 +69,7 @@ module _ (b : List ℕ) (a : Accepted) (ok : checking b ≡ given a) (l : Log) (
   timesOf = map (λ i. time l i .0) (pointsFrom base (size l - base .0))
 
   times-length : length timesOf ≡ size l - base .0
-  times-length = length-map (pointsFrom base (size l - base .0)) _ ∙ points-length (base .0) (size l - base .0)
+  times-length = length-map (pointsFrom base (size l - base .0)) _ ∙ points-length base (size l - base .0)
 
   base-is : baseOf s ≡ base
   unfolding storedOf
@@ -113,7 +113,7 @@ module _ (b : List ℕ) (a : Accepted) (ok : checking b ≡ given a) (l : Log) (
   -- the points from a count on are those that a prefix test leaves
   pub open-run : (m : Log) (c : ℕ) → Counted m (pattern b) c → size m - c ≡ length (select (λ i. not (settled m (pattern b) i)) (pointsFrom (point 0) (size m)))
   open-run m c h =
-      sym (points-length c (size m - c))
+      sym (points-length (point c) (size m - c))
       ∙ ap length (sym (select-run (λ i. not (settled m (pattern b) i)) (size m) c (size m) (counted-most m (pattern b) c h) (omega arith) (λ j n. rw (h j, lt-ltb (j .0) (size m) n) (ends c (j .0)))))
     where
       ends : (c j : ℕ) → not (ltb j c) ≡ (leb c j && true)
@@ -307,7 +307,7 @@ module _ (b : List ℕ) (a : Accepted) (ok : checking b ≡ given a) (l : Log) (
           let q : lo .0 + (was x - lo .0) ≡ was x = omega (arith, lo-low) in
           ap₂ (λ s t. s ++ t) old-rows made-rows
           ∙ sym (map-append (vals l' (formulaAt b x)) (pointsFrom lo (was x - lo .0)) (pointsFrom (point (was x)) (is x - was x)))
-          ∙ ap (map (vals l' (formulaAt b x))) (ap (λ k. pointsFrom lo (was x - lo .0) ++ pointsFrom (point k) (is x - was x)) (sym q) ∙ sym (pointsFrom-append (lo .0) (was x - lo .0) (is x - was x)) ∙ ap (pointsFrom lo) (sym z))
+          ∙ ap (map (vals l' (formulaAt b x))) (ap (λ k. pointsFrom lo (was x - lo .0) ++ pointsFrom (point k) (is x - was x)) (sym q) ∙ sym (pointsFrom-append lo (was x - lo .0) (is x - was x)) ∙ ap (pointsFrom lo) (sym z))
 
       -- the turn with its counts written as the log's
       turn-with : turn s w x ≡ record { low = lo; rows = map (vals l' (formulaAt b x)) (pointsFrom lo (is x - lo .0)); pairs = lastPairs l' (formulaAt b x) }
@@ -369,7 +369,7 @@ module _ (b : List ℕ) (a : Accepted) (ok : checking b ≡ given a) (l : Log) (
         (map-points (λ i. time l i .0) (λ i. time l' i .0) (base .0) (size l - base .0) (λ j u v. ap (λ (t : Stamp). t .0) (grows .times j (omega (arith, base-size)))))
         (ap (λ k. k ∷ []) (ap (λ (t : Stamp). t .0) (last-time (point (size l)) refl)))
         ∙ sym (map-append (λ i. time l' i .0) (pointsFrom base (size l - base .0)) (point (size l) ∷ []))
-        ∙ ap (map (λ i. time l' i .0)) (ap (λ k. pointsFrom base (size l - base .0) ++ pointsFrom (point k) 1) (sym q) ∙ sym (pointsFrom-append (base .0) (size l - base .0) 1) ∙ ap (pointsFrom base) (sym z))
+        ∙ ap (map (λ i. time l' i .0)) (ap (λ k. pointsFrom base (size l - base .0) ++ pointsFrom (point k) 1) (sym q) ∙ sym (pointsFrom-append base (size l - base .0) 1) ∙ ap (pointsFrom base) (sym z))
 
     abbrev base' : Point
     base' = firstRetained (size l') (map is (range 0 (nodeCount b)))

@@ -75,8 +75,8 @@ drop-points f a n zero h = let z : a + 0 ≡ a = omega arith in let y : n - 0 �
 drop-points f a zero (suc k) h = absurd (omega arith)
 drop-points f a (suc n) (suc k) h = let z : a + suc k ≡ suc a + k = omega arith in let y : suc n - suc k ≡ n - k = omega arith in rw (z, y) (drop-points f (suc a) n k (omega arith))
 
-pub points-length : (a n : ℕ) → length (pointsFrom (point a) n) ≡ n
-points-length a n = length-map (range a n) point ∙ range-length a n
+pub points-length : (a : Point) (n : ℕ) → length (pointsFrom a n) ≡ n
+points-length a n = length-map (range (a .0) n) point ∙ range-length (a .0) n
 
 module _ {A : Type 0} (f : Point → A) (d : A) where
   pub getD-points : (a n k : ℕ) → k < n → getD (map f (pointsFrom (point a) n)) k d ≡ f (point (a + k))

@@ -9,7 +9,7 @@ use lib.Dec.{ltb, leb}
 use lib.ListN.{length, getD, length-map}
 use borrow.Author.Tests.{ltb-false, le-ltb}
 use Rattle.meaning.specs.Lists.{any, range, select}
-use Rattle.meaning.specs.Log.{point, pointsFrom}
+use Rattle.meaning.specs.Log.{point, pointAfter, pointsFrom}
 use Rattle.meaning.specs.Outcome.{Outcome, refused, given, when, bufferShort, mostPoints, mostRows, mostOpen, mostKept}
 use Rattle.meaning.specs.Formula.{free, variables}
 use Rattle.meaning.specs.RuleFile.{nodeCount, lastNode, pattern}
@@ -33,12 +33,12 @@ use Rattle.report.proofs.RoundTrip.{WellMade, rowTotal, words-length, i
 use Rattle.report.proofs.Shown.{entryAt, well-made}
 
 -- where no point of a run has over 32 rows, they are at most 32 for each point
-rows-few : (f : ℕ → Bool) (time : Point → Stamp) (rows : Point → List (List ℕ)) (a n : ℕ) → any (λ j. ltb mostRows (length (rows j))) (pointsFrom (point a) n) ≡ false
-    → rowTotal (map (entryAt f time rows) (pointsFrom (point a) n)) ≤ mostRows * n
+rows-few : (f : ℕ → Bool) (time : Point → Stamp) (rows : Point → List (List ℕ)) (a : Point) (n : ℕ) → any (λ j. ltb mostRows (length (rows j))) (pointsFrom a n) ≡ false
+    → rowTotal (map (entryAt f time rows) (pointsFrom a n)) ≤ mostRows * n
 rows-few f time rows a zero e = omega arith
 rows-few f time rows a (suc n) e =
-    let (here, later) = neither (ltb mostRows (length (rows (point a)))) (any (λ j. ltb mostRows (length (rows j))) (pointsFrom (point (suc a)) n)) e in
-    omega (arith, length-map (rows (point a)) (reportRow f), ltb-false mostRows (length (rows (point a))) here, rows-few f time rows (suc a) n later)
+    let (here, later) = neither (ltb mostRows (length (rows a))) (any (λ j. ltb mostRows (length (rows j))) (pointsFrom (pointAfter a) n)) e in
+    omega (arith, length-map (rows a) (reportRow f), ltb-false mostRows (length (rows a)) here, rows-few f time rows (pointAfter a) n later)
 
 -- ---- the refusals of a taking, of which 16 is the last
 
@@ -98,7 +98,7 @@ module _ (s : Stored) (f : Formed s) (w : List ℕ) where
   new-points = omega (arith, f .few-open, after-most s (f .accepted .0) (f .accepted .1) (f .few-times) (f .times-many) w last last-node)
 
   made : WellMade width (reportedNow s w)
-  made = well-made (free (pattern b)) (stampsNow s w) (rowsOfTurn (turn s w last)) (turn-rows s f w last last-node) (countBefore s last) (countAfter s w last - countBefore s last) new-points
+  made = well-made (free (pattern b)) (stampsNow s w) (rowsOfTurn (turn s w last)) (turn-rows s f w last last-node) (point (countBefore s last)) (countAfter s w last - countBefore s last) new-points
 
   report-is : reportNow s w ≡ reportWords width (reportedNow s w)
   unfolding reportNow
@@ -111,7 +111,7 @@ module _ (s : Stored) (f : Formed s) (w : List ℕ) where
   few-words : crowdedNow s w last ≡ false → length (reportNow s w) ≤ longestReport
   unfolding crowdedNow
   few-words e =
-      let rows : rowTotal (reportedNow s w) ≤ mostRows * (countAfter s w last - countBefore s last) = rows-few (free (pattern b)) (stampsNow s w) (rowsOfTurn (turn s w last)) (countBefore s last) (countAfter s w last - countBefore s last) e in
+      let rows : rowTotal (reportedNow s w) ≤ mostRows * (countAfter s w last - countBefore s last) = rows-few (free (pattern b)) (stampsNow s w) (rowsOfTurn (turn s w last)) (point (countBefore s last)) (countAfter s w last - countBefore s last) e in
       rw (report-is, words-length width (reportedNow s w) (made .widths)) (omega (arith, made .few-points, new-points, mul-le-mul-right (rowTotal (reportedNow s w)) (made .few-free)))
 
   fits : (room : ℕ) → longestReport ≤ room → NotShort (answerNow s w room)

@@ -8,7 +8,7 @@ use lib.Dec.{ltb, eqb}
 use lib.ListN.{length, length-map}
 use borrow.Author.Tests.{lt-ltb, eq-eqb}
 use Rattle.meaning.specs.Lists.{all, select, gather}
-use Rattle.meaning.specs.Log.{point, pointsFrom}
+use Rattle.meaning.specs.Log.{pointAfter, pointsFrom}
 use Rattle.meaning.specs.Order.{before, ascending}
 use Rattle.meaning.specs.Formula.{variables}
 use Rattle.meaning.specs.Definition2.{Valuation}
@@ -71,10 +71,10 @@ map-ascends g (r ∷ s ∷ rows) h e =
 abbrev number : Point → List ℕ
 number i = i .0 ∷ []
 
-points-ascend : (a n : ℕ) → ascending (map number (pointsFrom (point a) n)) ≡ true
+points-ascend : (a : Point) (n : ℕ) → ascending (map number (pointsFrom a n)) ≡ true
 points-ascend a zero = refl
 points-ascend a (suc zero) = refl
-points-ascend a (suc (suc n)) = rw (lt-ltb a (suc a) (omega arith)) (points-ascend (suc a) (suc n))
+points-ascend a (suc (suc n)) = rw (lt-ltb (a .0) (suc (a .0)) (omega arith)) (points-ascend (pointAfter a) (suc n))
 
 -- ---- points with a node's rows
 
@@ -102,12 +102,12 @@ module _ (f : ℕ → Bool) (time : Point → Stamp) (rows : Point → List (Lis
     each-ascends : (i : Point) → ascending (entryAt i .rows) ≡ true
     each-ascends i = map-ascends (reportRow f) (rows i) (row-order i) (own i .ascends)
 
-    pub well-made : (a n : ℕ) → n ≤ 33 → WellMade (length (select f variables)) (map entryAt (pointsFrom (point a) n))
+    pub well-made : (a : Point) (n : ℕ) → n ≤ 33 → WellMade (length (select f variables)) (map entryAt (pointsFrom a n))
     well-made a n h =
         record {
-          few-points = rw (length-map (pointsFrom (point a) n) entryAt, points-length a n) h;
+          few-points = rw (length-map (pointsFrom a n) entryAt, points-length a n) h;
           few-free = select-most f variables;
-          widths = every (rowsFit (length (select f variables))) (pointsFrom (point a) n) each-width;
+          widths = every (rowsFit (length (select f variables))) (pointsFrom a n) each-width;
           points-ascend = rw number-of (points-ascend a n);
-          rows-ascend = every (λ (e : Reported). ascending (e .rows)) (pointsFrom (point a) n) each-ascends;
+          rows-ascend = every (λ (e : Reported). ascending (e .rows)) (pointsFrom a n) each-ascends;
         }

@@ -20,7 +20,7 @@ module _ (x : ℕ) (S : Point → List (List ℕ)) where
   pub sets-more : (a : Point) (m : ℕ) → setEntries x S a (m + 1) ≡ setEntries x S a m ++ map (entryOf x 0 (a .0 + m)) (S (point (a .0 + m)))
   sets-more a m =
       let f : Point → List Entry = λ j. map (entryOf x 0 (j .0)) (S j) in
-      ap (gather f) (pointsFrom-append (a .0) m 1) ∙ gather-append f (pointsFrom a m) (pointsFrom (point (a .0 + m)) 1) ∙ ap (λ es. setEntries x S a m ++ es) (append-nil (f (point (a .0 + m))))
+      ap (gather f) (pointsFrom-append a m 1) ∙ gather-append f (pointsFrom a m) (pointsFrom (point (a .0 + m)) 1) ∙ ap (λ es. setEntries x S a m ++ es) (append-nil (f (point (a .0 + m))))
 
   module _ (rest : List Entry) where
     -- the first point apart from the others

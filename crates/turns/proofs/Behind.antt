@@ -31,7 +31,7 @@ module _ {B : Type 0} (f : ℕ → List B) where
   gather-last x =
       let g : Point → List B = λ j. f (j .0) in
       let e : 0 + x ≡ x = omega arith in
-      sym (gather-points g 0 (x + 1)) ∙ ap (gather g) (pointsFrom-append 0 x 1) ∙ gather-append g (pointsFrom (point 0) x) (pointsFrom (point (0 + x)) 1)
+      sym (gather-points g 0 (x + 1)) ∙ ap (gather g) (pointsFrom-append (point 0) x 1) ∙ gather-append g (pointsFrom (point 0) x) (pointsFrom (point (0 + x)) 1)
       ∙ ap₂ (λ s t. s ++ t) (gather-points g 0 x) (append-nil (f (0 + x)) ∙ ap f e)
 
 -- what lists put end to end begin with

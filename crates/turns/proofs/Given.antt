@@ -66,7 +66,7 @@ module _ (b os ns vs : List ℕ) (count : ℕ) (before after times : List ℕ) (
     rows-at j = ap (λ (a : Point). getD (turn x .rows) (j .0 - a .0) []) turn-low
 
     held-long : length (map (held kept x) (pointsFrom (low x) (figure before x - low x .0))) ≡ figure before x - low x .0
-    held-long = length-map (pointsFrom (low x) (figure before x - low x .0)) (held kept x) ∙ points-length (low x .0) (figure before x - low x .0)
+    held-long = length-map (pointsFrom (low x) (figure before x - low x .0)) (held kept x) ∙ points-length (low x) (figure before x - low x .0)
 
     -- at a kept point, and at a new one
     pub rows-held : (q : ℕ) → q < figure before x - low x .0 → getD (turn x .rows) q [] ≡ held kept x (point (low x .0 + q))
