@@ -4,3 +4,4 @@ pub mod Putting
 pub mod Reports
 pub mod Writing
 pub mod LentOn
+pub mod Handing
