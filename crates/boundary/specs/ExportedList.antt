@@ -6,7 +6,7 @@ use Rattle.meaning.specs.RuleFile.{Accepted}
 use Rattle.meaning.specs.Kept.{kept, openPoints}
 use Rattle.meaning.specs.Keeper.{Taking, Given, keeper}
 use Rattle.method.specs.Step.{keptStored}
-use Rattle.figuring.specs.Fronts.{openAnswer}
+use Rattle.figures.specs.Fronts.{openAnswer}
 use Rattle.monitor.specs.State.{lentOf, stored}
 use Rattle.monitor.specs.Reports.{logOf, Reports}
 use Rattle.monitor.specs.declared.State.{State}

@@ -1,5 +1,5 @@
 // The operations for programs in other languages. A slice is passed as its address and then its length.
-use figuring::Open;
+use figures::Open;
 use lent::Answer;
 use monitor::State;
 use refusals::of_event;
@@ -17,7 +17,7 @@ ghost use Rattle.meaning.specs.Report.{readCount, readRows};
 ghost use Rattle.report.specs.Answer.{partOf};
 ghost use Rattle.method.specs.Step.{keptStored};
 ghost use Rattle.weighing.specs.Weighs.{refusalOf};
-ghost use Rattle.figuring.specs.Fronts.{openAnswer};
+ghost use Rattle.figures.specs.Fronts.{openAnswer};
 ghost use Rattle.monitor.specs.State.{stored};
 ghost use Rattle.lent.specs.Lent.{lent, answerOf as answered};
 ghost use Rattle.boundary.specs.Exported.{countOrNone, wordOrNone};

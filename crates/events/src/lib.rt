@@ -1,4 +1,6 @@
 // The first checks of an event: its form, its rows, its time stamp and the room in the log.
+use meaning::MOST_POINTS;
+use meaning::MOST_ROWS;
 use meaning::Stamp;
 ghost use mathlib.Core.Path.{_≡_};
 ghost use Prim.Native.Nat.{ℕ, _<_};
@@ -9,12 +11,6 @@ ghost use Rattle.meaning.specs.Outcome.{Outcome};
 ghost use Rattle.meaning.specs.Event.{rowFits};
 ghost use Rattle.meaning.specs.Keeper.{admitted};
 ghost use Rattle.events.specs.Answers.{RuleSizes, Rowed, formOf, rowsOf, orderOf, roomOf, admittedRows, outcomeOf};
-
-// The most rows of an event.
-pub const MOST_ROWS: u32 = 32;
-
-// The most points of a log.
-pub const MOST_POINTS: u32 = 10_000_000;
 
 // Whether words are an event, and then its row count.
 pub enum Form {

@@ -1,23 +1,21 @@
--- What an accessor gives from one number up to another, tested one by one: each passes and stands before the next. One test, and a loop of them.
-use Prim.Native.Nat.{ℕ, _+_, _-_, _≤_, _<_}
+-- What an accessor gives from one number up to another: that each passes and stands before the next, said of each number and of the list.
+use Prim.Native.Nat.{ℕ, zero, suc, _+_, _-_, _≤_, _<_}
 use native.Mathlib.Omega.{arith}
 use mathlib.Core.Path.{_≡_, refl, sym, _∙_}
-use mathlib.Core.Bool.{Bool, true, false, _&&_}
+use mathlib.Core.Bool.{Bool, true, false, cond, _&&_, true≢false}
 use mathlib.Core.List.{List, map}
 use lib.ListN.{length}
-use lib.Dec.{ltb, eqb}
-use borrow.Author.Tests.{lt-ltb, le-ltb, ltb-true, ltb-false, le-leb, lt-leb, eq-eqb, eqb-true}
+use lib.Dec.{leb, ltb}
+use borrow.Author.Tests.{lt-ltb, ltb-true, ltb-false, le-leb, lt-leb, leb-true, leb-false}
 use Rattle.meaning.specs.Lists.{all, range}
 use Rattle.meaning.specs.Outcome.{mostRows}
 use Rattle.meaning.specs.Order.{before, ascending}
 use Rattle.meaning.specs.declared.Window.{Window}
-use Rattle.meaning.proofs.Points.{Tested, passed, failed, tested}
-use Rattle.meaning.proofs.Rows.{both-ways}
+use Rattle.meaning.proofs.Points.{Tested, passed, failed, tested, first, second, both}
 use Rattle.rowset.specs.Rows.{rowAt, rowsFrom}
 use Rattle.rowset.proofs.Runs.{run-first, run-end, rows-length}
 use Rattle.kinds.specs.Kinds.{pairAt, pairsFrom}
-use Rattle.pairs.proofs.Runs.{pairs-length}
-use Rattle.formed.specs.Tests.{rowCut, rowsFit, pairCut, agedFit, stepsUp}
+use Rattle.formed.specs.Tests.{rowCut, rowsFit, pairCut, agedFit, Rising}
 
 regroup : (a b c d : Bool) → ((a && b) && (c && d)) ≡ ((c && a) && (b && d))
 regroup true true c d = go c
@@ -31,25 +29,18 @@ regroup false b true d = refl
 regroup false b false d = refl
 
 module _ (at : ℕ → List ℕ) (p : List ℕ → Bool) (to : ℕ) where
-  -- ---- the test at i
-  module _ (i : ℕ) where
-    pub steps-unfit : p (at i) ≡ false → false ≡ stepsUp at p to i
-    steps-unfit e = rw e
+  -- the one at i passes, and stands before the next, if there is one
+  abbrev stepsUp : ℕ → Bool
+  stepsUp i = p (at i) && cond (ltb (i + 1) to) (before (at i) (at (i + 1))) true
 
-    pub steps-next : p (at i) ≡ true → i + 1 < to → before (at i) (at (i + 1)) ≡ stepsUp at p to i
-    steps-next e l = rw (e, lt-ltb (i + 1) to l)
-
-    pub steps-last : p (at i) ≡ true → to ≤ i + 1 → true ≡ stepsUp at p to i
-    steps-last e l = rw (e, le-ltb (i + 1) to l)
-
-  -- ---- all from i on
+  -- all from i on
   abbrev pub passesFrom : ℕ → Bool
   passesFrom i = ascending (map at (range i (to - i))) && all p (map at (range i (to - i)))
 
-  passes-more : (i : ℕ) → i < to → passesFrom i ≡ (stepsUp at p to i && passesFrom (i + 1))
+  passes-more : (i : ℕ) → i < to → passesFrom i ≡ (stepsUp i && passesFrom (i + 1))
   passes-more i l = go (tested (ltb (i + 1) to))
     where
-      go : Tested (ltb (i + 1) to) → passesFrom i ≡ (stepsUp at p to i && passesFrom (i + 1))
+      go : Tested (ltb (i + 1) to) → passesFrom i ≡ (stepsUp i && passesFrom (i + 1))
       go (passed t) =
           let m : i + 1 < to = ltb-true (i + 1) to t in
           rw (run-first at to i l, run-first at to (i + 1) m, t) (regroup (before (at i) (at (i + 1))) _ (p (at i)) _)
@@ -57,45 +48,57 @@ module _ (at : ℕ → List ℕ) (p : List ℕ → Bool) (to : ℕ) where
           let m : to ≤ i + 1 = ltb-false (i + 1) to t in
           rw (run-first at to i l, run-end at to (i + 1) m, t) (regroup true true (p (at i)) true)
 
-  passes-end : (i : ℕ) → to ≤ i → passesFrom i ≡ true
-  passes-end i l = rw (run-end at to i l)
+  module _ (from : ℕ) where
+    pub rising-passes : Rising at p from to → passesFrom from ≡ true
+    rising-passes h = go (to - from) from refl (omega arith)
+      where
+        step : (i : ℕ) → from ≤ i → i < to → Tested (ltb (i + 1) to) → stepsUp i ≡ true
+        step i u l (passed t) = rw (h .each i u l, t) (h .up i u (ltb-true (i + 1) to t))
+        step i u l (failed t) = rw (h .each i u l, t)
 
--- a loop at i of from..to: the tests before i passed
-pub record Climbing (at : ℕ → List ℕ) (p : List ℕ → Bool) (from to i : ℕ) : Type 0 where
-  pub begun : from ≤ i
-  pub reached : i ≤ to
-  pub same : passesFrom at p to from ≡ passesFrom at p to i
+        go : (m i : ℕ) → to - i ≡ m → from ≤ i → passesFrom i ≡ true
+        go zero i e u = rw (run-end at to i (omega arith))
+        go (suc m) i e u = passes-more i (omega arith) ∙ both (step i u (omega arith) (tested (ltb (i + 1) to))) (go m (i + 1) (omega arith) (omega arith))
 
-module _ (at : ℕ → List ℕ) (p : List ℕ → Bool) (from to : ℕ) where
-  pub climbing-none : from ≤ to → Climbing at p from to from
-  climbing-none l = record { begun = omega arith; reached = l; same = refl }
+    module _ (t : passesFrom from ≡ true) where
+      reached : (d : ℕ) → from + d ≤ to → passesFrom (from + d) ≡ true
+      reached zero l = let z : from + 0 ≡ from = omega arith in rw z t
+      reached (suc d) l =
+          let z : from + suc d ≡ from + d + 1 = omega arith in
+          rw z (second (stepsUp (from + d)) (passesFrom (from + d + 1)) (sym (passes-more (from + d) (omega arith)) ∙ reached d (omega arith)))
 
-  module _ {i : ℕ} (h : Climbing at p from to i) where
-    pub climbing-more : i < to → stepsUp at p to i ≡ true → Climbing at p from to (i + 1)
-    climbing-more l t = record { begun = omega (arith, h .begun); reached = omega arith; same = h .same ∙ passes-more at p to i l ∙ rw t }
+      step-at : (i : ℕ) → from ≤ i → i < to → stepsUp i ≡ true
+      step-at i u l =
+          let z : from + (i - from) ≡ i = omega arith in
+          first (stepsUp i) (passesFrom (i + 1)) (sym (passes-more i l) ∙ rw z at (reached (i - from) (omega arith)))
 
-    pub climbing-fails : i < to → stepsUp at p to i ≡ false → false ≡ passesFrom at p to from
-    climbing-fails l t = sym (h .same ∙ passes-more at p to i l ∙ rw t)
-
-    pub climbing-all : to ≤ i → true ≡ passesFrom at p to from
-    climbing-all l = sym (h .same ∙ passes-end at p to i l)
+      pub passes-rising : Rising at p from to
+      passes-rising =
+          record {
+            each = λ i u l. first (p (at i)) (cond (ltb (i + 1) to) (before (at i) (at (i + 1))) true) (step-at i u l);
+            up = λ i u l. rw (lt-ltb (i + 1) to l) at (second (p (at i)) (cond (ltb (i + 1) to) (before (at i) (at (i + 1))) true) (step-at i u (omega arith)));
+          }
 
 -- ---- rows and pairs in words
 
 module _ (vs : List ℕ) (mask from to : ℕ) where
-  pub rows-many : mostRows < to - from → false ≡ rowsFit mask (rowsFrom vs from (to - from))
+  rows-many : mostRows < to - from → false ≡ rowsFit mask (rowsFrom vs from (to - from))
   rows-many l = rw (lt-leb (length (rowsFrom vs from (to - from))) mostRows (omega (arith, rows-length vs from (to - from))))
 
-  pub rows-fit : to - from ≤ mostRows → passesFrom (rowAt vs) (rowCut mask) to from ≡ rowsFit mask (rowsFrom vs from (to - from))
+  rows-fit : to - from ≤ mostRows → passesFrom (rowAt vs) (rowCut mask) to from ≡ rowsFit mask (rowsFrom vs from (to - from))
   unfolding rowsFrom
   rows-fit l = rw (le-leb (length (rowsFrom vs from (to - from))) mostRows (omega (arith, rows-length vs from (to - from))))
+
+  pub rows-of : to - from ≤ mostRows → Rising (rowAt vs) (rowCut mask) from to → rowsFit mask (rowsFrom vs from (to - from)) ≡ true
+  rows-of l h = sym (rows-fit l) ∙ rising-passes (rowAt vs) (rowCut mask) to from h
+
+  pub rows-rise : rowsFit mask (rowsFrom vs from (to - from)) ≡ true → (to - from ≤ mostRows) × Rising (rowAt vs) (rowCut mask) from to
+  rows-rise t = go (tested (leb (to - from) mostRows))
+    where
+      go : Tested (leb (to - from) mostRows) → (to - from ≤ mostRows) × Rising (rowAt vs) (rowCut mask) from to
+      go (passed e) = let l : to - from ≤ mostRows = leb-true (to - from) mostRows e in (l, passes-rising (rowAt vs) (rowCut mask) to from (rows-fit l ∙ t))
+      go (failed e) = absurd (true≢false (sym t ∙ sym (rows-many (leb-false (to - from) mostRows e))))
 
 pub pairs-fit : (ns vs : List ℕ) (mask : ℕ) (w : Window) (from to : ℕ) → passesFrom (pairAt ns vs) (pairCut mask w) to from ≡ agedFit mask w (pairsFrom ns vs from (to - from))
 unfolding pairsFrom
 pairs-fit ns vs mask w from to = refl
-
-pub no-pairs : (ns vs : List ℕ) (from to : ℕ) → from ≤ to → eqb from to ≡ eqb (length (pairsFrom ns vs from (to - from))) 0
-no-pairs ns vs from to l =
-    both-ways (eqb from to) (eqb (length (pairsFrom ns vs from (to - from))) 0)
-    (λ t. eq-eqb (length (pairsFrom ns vs from (to - from))) 0 (omega (arith, pairs-length ns vs from (to - from), eqb-true from to t)))
-    (λ t. eq-eqb from to (omega (arith, pairs-length ns vs from (to - from), eqb-true (length (pairsFrom ns vs from (to - from))) 0 t)))

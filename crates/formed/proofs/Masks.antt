@@ -1,5 +1,5 @@
 -- Rows and pairs tested with the mask of a node's free variables are tested as the node's.
-use Prim.Native.Nat.{ℕ, zero, suc, _*_, _/_, _%_, _<_}
+use Prim.Native.Nat.{ℕ, zero, suc, _+_, _*_, _/_, _%_, _<_}
 use native.Mathlib.Omega.{arith}
 use mathlib.Core.Path.{_≡_, refl, sym, ap, ap₂, fun-ext, _∙_}
 use mathlib.Core.Bool.{Bool, cond, _&&_, and-true}
@@ -15,10 +15,9 @@ use Rattle.meaning.specs.declared.Window.{Window}
 use Rattle.meaning.proofs.Rows.{words-same}
 use Rattle.method.specs.WellFormed.{rowOfNode, setFits, pairFits}
 use Rattle.rulefree.proofs.Free.{bits}
-use Rattle.rowset.specs.Rows.{wordsOf}
-use Rattle.rowset.specs.declared.Row.{Row}
+use Rattle.rowset.specs.Rows.{rowAt}
 use Rattle.kinds.specs.Kinds.{inMask}
-use Rattle.formed.specs.Tests.{MaskOf, rowCut, rowsFit, ageFits, agedFit}
+use Rattle.formed.specs.Tests.{MaskOf, rowCut, rowsFit, ageFits, agedFit, mostOf, rowUnder}
 
 -- the mask of a set of variables has these
 pub mask-has : (f : ℕ → Bool) (v : ℕ) → v < 4 → inMask (maskOf f) v ≡ f v
@@ -35,14 +34,14 @@ word-cut zero (suc x) l m = ne-eqb (suc x) 0 (λ e. omega arith) ∙ sym (lt-leb
 word-cut (suc zero) x l m = eq-eqb x x refl ∙ sym (le-leb x 4294967295 (omega arith))
 word-cut (suc (suc b)) x l m = absurd (omega arith)
 
--- a row is cut down to a mask where each word is at most the largest that its bit leaves
-pub row-words : (mask : ℕ) (u : Row) → (u .v0 < 4294967296) × (u .v1 < 4294967296) × (u .v2 < 4294967296) × (u .v3 < 4294967296)
-    → rowCut mask (wordsOf u)
-    ≡ (leb (u .v0) (mask / 1 % 2 * 4294967295) && (leb (u .v1) (mask / 2 % 2 * 4294967295) && (leb (u .v2) (mask / 4 % 2 * 4294967295) && leb (u .v3) (mask / 8 % 2 * 4294967295))))
-row-words mask u l =
-    ap₂ _&&_ (word-cut (mask / 1 % 2) (u .v0) (omega arith) (l .0))
-    (ap₂ _&&_ (word-cut (mask / 2 % 2) (u .v1) (omega arith) (l .1))
-    (ap₂ _&&_ (word-cut (mask / 4 % 2) (u .v2) (omega arith) (l .2)) (and-true (eqb (u .v3) (cond (inMask mask 3) (u .v3) 0)) ∙ word-cut (mask / 8 % 2) (u .v3) (omega arith) (l .3))))
+-- a row is cut down to a mask where no word is above the largest that its bit leaves
+pub row-under : (mask : ℕ) (vs : List ℕ) → ((i : ℕ) → getD vs i 0 < 4294967296) → (k : ℕ) → rowUnder (mostOf mask) (rowAt vs k) ≡ rowCut mask (rowAt vs k)
+row-under mask vs l k =
+    sym
+    (ap₂ _&&_ (word-cut (mask / 1 % 2) (getD vs (k * 4) 0) (omega arith) (l (k * 4)))
+    (ap₂ _&&_ (word-cut (mask / 2 % 2) (getD vs (k * 4 + 1) 0) (omega arith) (l (k * 4 + 1)))
+    (ap₂ _&&_ (word-cut (mask / 4 % 2) (getD vs (k * 4 + 2) 0) (omega arith) (l (k * 4 + 2)))
+    (and-true (eqb (getD vs (k * 4 + 3) 0) (cond (inMask mask 3) (getD vs (k * 4 + 3) 0) 0)) ∙ word-cut (mask / 8 % 2) (getD vs (k * 4 + 3) 0) (omega arith) (l (k * 4 + 3))))))
 
 module _ {b : List ℕ} {x mask : ℕ} (m : MaskOf b x mask) where
   row-same : (u : List ℕ) → rowCut mask u ≡ rowOfNode b x u

@@ -5,7 +5,7 @@ use native.Mathlib.Numerals.{add-one}
 use native.Mathlib.Omega.{arith}
 use mathlib.Core.Path.{_≡_, refl, sym, ap, ap₂, _∙_}
 use mathlib.Core.Bool.{true, false, _&&_}
-use mathlib.Core.List.{List, [], _∷_, _++_, map, append-assoc, append-nil, List·Memᴰ, Memᴰ·of-map}
+use mathlib.Core.List.{List, [], _∷_, _++_, map, append-assoc, append-nil, append-cancel-right, List·Memᴰ, Memᴰ·of-map}
 use lib.ListN.{getD, drop}
 use lib.Dec.{eqb}
 use borrow.Author.Tests.{eqb-true, eq-eqb, ne-eqb}
@@ -29,6 +29,7 @@ use Rattle.shelving.specs.Shelved.{setEntries, agedEntries}
 use Rattle.shelving.proofs.Gathered.{sets-more, sets-first, sets-later}
 use Rattle.shelving.proofs.Paired.{pairOf, all-owned}
 use Rattle.formed.specs.Walk.{front, behind, setsRest, rowsFound, pairsFound, nodesRest, runsFit, ownRuns, ownFit, entriesFit}
+use Rattle.formed.specs.Steps.{OwnFirst}
 use Rattle.formed.proofs.Fronts.{two-parts, front-passes, behind-these, begins-none}
 
 -- ---- what is found, and what is behind it
@@ -110,17 +111,29 @@ module _ (low : ℕ → Point) (end : ℕ → ℕ) (sets : ℕ → Point → Lis
       let z : e .node ≡ y = of-node low (λ x. end x - low x .0) sets pairs y e h in
       rw (ne-eqb (e .node) x (λ d. omega arith)))
 
+  -- from the node's own entries on, its sets and what is behind them, and then its pairs
+  module _ (k m : ℕ) {es : List Entry} (h : es ≡ gather runs (range k (suc m))) where
+    past-sets : setsRest k (low k) (end k - low k .0) es ≡ agedEntries k (pairs k) ++ gather runs (range (suc k) m)
+    past-sets =
+        let later : List Entry = gather runs (range (suc k) m) in
+        let n : ℕ = end k - low k .0 in
+        ap (setsRest k (low k) n) (h ∙ append-assoc (setEntries k (sets k) (low k) n) (agedEntries k (pairs k)) later)
+        ∙ through-sets k (sets k) (low k) n (agedEntries k (pairs k) ++ later) (pairs-other k (pairs k) later (later-other k 0 m))
+
+    past-pairs : behind (hasOwner k 1) (setsRest k (low k) (end k - low k .0) es) ≡ gather runs (range (suc k) m)
+    past-pairs = ap (behind (hasOwner k 1)) past-sets ∙ behind-these (hasOwner k 1) (agedEntries k (pairs k)) (gather runs (range (suc k) m)) (all-owned k (pairs k)) (later-other k 1 m)
+
+    sets-end : begins (hasOwner k 0) (setsRest k (low k) (end k - low k .0) es) ≡ false
+    sets-end = ap (begins (hasOwner k 0)) past-sets ∙ pairs-other k (pairs k) (gather runs (range (suc k) m)) (later-other k 0 m)
+
+  left-over : (nodes k : ℕ) → suc k ≤ nodes → gather runs (range k (nodes - k)) ≡ gather runs (range k (suc (nodes - suc k)))
+  left-over nodes k l =
+      let e : nodes - k ≡ suc (nodes - suc k) = omega arith in
+      ap (λ m. gather runs (range k m)) e
+
   through-nodes : (nodes k : ℕ) → k ≤ nodes → nodesRest low end (gather runs (range 0 nodes)) k ≡ gather runs (range k (nodes - k))
   through-nodes nodes zero l = let e : nodes - 0 ≡ nodes = omega arith in rw e
-  through-nodes nodes (suc k) l =
-      let later : List Entry = gather runs (range (suc k) (nodes - suc k)) in
-      let n : ℕ = end k - low k .0 in
-      let e : nodes - k ≡ suc (nodes - suc k) = omega arith in
-      let there : nodesRest low end (gather runs (range 0 nodes)) k ≡ setEntries k (sets k) (low k) n ++ (agedEntries k (pairs k) ++ later)
-      = through-nodes nodes k (omega arith) ∙ ap (λ m. gather runs (range k m)) e ∙ append-assoc (setEntries k (sets k) (low k) n) (agedEntries k (pairs k)) later in
-      ap (λ es. behind (hasOwner k 1) (setsRest k (low k) n es)) there
-      ∙ ap (behind (hasOwner k 1)) (through-sets k (sets k) (low k) n (agedEntries k (pairs k) ++ later) (pairs-other k (pairs k) later (later-other k 0 (nodes - suc k))))
-      ∙ behind-these (hasOwner k 1) (agedEntries k (pairs k)) later (all-owned k (pairs k)) (later-other k 1 (nodes - suc k))
+  through-nodes nodes (suc k) l = past-pairs k (nodes - suc k) (through-nodes nodes k (omega arith) ∙ left-over nodes k l)
 
 -- ---- the walk and the entries that are read off
 
@@ -164,12 +177,23 @@ module _ (b : List ℕ) (low : ℕ → Point) (end : ℕ → ℕ) (es : List Ent
       pairs-held : pairsIn x ≡ heldPairs es x
       pairs-held = sym (ap (λ ys. heldPairs ys x) all-found ∙ heldPairs-is low many setsIn pairsIn nodes x o (pair-there x))
 
+      sets-own : setEntries x (setsIn x) (low x) (many x) ≡ setEntries x (held es x) (low x) (many x)
+      sets-own = gather-over (λ j. map (entryOf x 0 (j .0)) (setsIn x j)) (λ j. map (entryOf x 0 (j .0)) (held es x j)) (low x .0) (many x) (λ j u l. ap (map (entryOf x 0 (j .0))) (sets-held j u l))
+
       found-own : found x ≡ ownRuns b low end es x
       unfolding ownRuns
-      found-own =
-          ap₂ (λ s t. s ++ t)
-          (gather-over (λ j. map (entryOf x 0 (j .0)) (setsIn x j)) (λ j. map (entryOf x 0 (j .0)) (held es x j)) (low x .0) (many x) (λ j u l. ap (map (entryOf x 0 (j .0))) (sets-held j u l)))
-          (ap (agedEntries x) pairs-held)
+      found-own = ap₂ (λ s t. s ++ t) sets-own (ap (agedEntries x) pairs-held)
+
+      -- what stands before the rest, at the node's first entry and at its first pair
+      pub rows-own : (A : List Entry) → A ++ setsRest x (low x) (many x) (nodesRest low end es x) ≡ nodesRest low end es x → A ≡ setEntries x (held es x) (low x) (many x)
+      rows-own A h =
+          let rest : List Entry = setsRest x (low x) (many x) (nodesRest low end es x) in
+          append-cancel-right A (setEntries x (setsIn x) (low x) (many x)) rest (h ∙ sym (sets-whole x (low x) (many x) (nodesRest low end es x))) ∙ sets-own
+
+      pub pairs-own : (A : List Entry) → A ++ nodesRest low end es (suc x) ≡ setsRest x (low x) (many x) (nodesRest low end es x) → A ≡ agedEntries x (heldPairs es x)
+      pairs-own A h =
+          let at : List Entry = setsRest x (low x) (many x) (nodesRest low end es x) in
+          append-cancel-right A (front (hasOwner x 1) at) (behind (hasOwner x 1) at) (h ∙ sym (two-parts (hasOwner x 1) at)) ∙ sym (pairs-back x at) ∙ ap (agedEntries x) pairs-held
 
       fit-same : runsFit b x (low x) (many x) (nodesRest low end es x) ≡ ownFit b low end es x
       unfolding runsFit ownFit
@@ -190,13 +214,23 @@ module _ (b : List ℕ) (low : ℕ → Point) (end : ℕ → ℕ) (es : List Ent
 
   -- and back
   module _ (t : entriesFit b low end es nodes ≡ true) where
+    gathered : es ≡ gather (ownRuns b low end es) (range 0 nodes)
+    unfolding entriesFit
+    gathered = entries-same es _ (search first)
+
+    through : (k : ℕ) → k ≤ nodes → nodesRest low end es k ≡ gather (nodeOf low many (held es) (heldPairs es)) (range k (nodes - k))
+    unfolding ownRuns
+    through k l = ap (λ ys. nodesRest low end ys k) gathered ∙ through-nodes low end (held es) (heldPairs es) nodes k l
+
     pub walk-ends : nodesRest low end es nodes ≡ []
-    unfolding entriesFit ownRuns
     walk-ends =
         let z : nodes - nodes ≡ 0 = omega arith in
-        let e : es ≡ gather (ownRuns b low end es) (range 0 nodes) = entries-same es _ (search first) in
-        ap (λ ys. nodesRest low end ys nodes) e ∙ through-nodes low end (held es) (heldPairs es) nodes nodes (omega arith) ∙ ap (λ m. gather (ownRuns b low end es) (range nodes m)) z
+        through nodes (omega arith) ∙ ap (λ m. gather (nodeOf low many (held es) (heldPairs es)) (range nodes m)) z
 
-    pub walk-fits : (x : ℕ) → x < nodes → runsFit b x (low x) (many x) (nodesRest low end es x) ≡ true
+    pub walk-fits : (x : ℕ) → x < nodes → OwnFirst b x (low x) (many x) (nodesRest low end es x)
     unfolding entriesFit
-    walk-fits x o = fit-same walk-ends x o ∙ all-at (ownFit b low end es) (range-of 0 nodes (omega arith) (omega arith)) (search second)
+    walk-fits x o =
+        record {
+          fit = fit-same walk-ends x o ∙ all-at (ownFit b low end es) (range-of 0 nodes (omega arith) (omega arith)) (search second);
+          ends = sets-end low end (held es) (heldPairs es) x (nodes - suc x) (through x (omega arith) ∙ left-over low end (held es) (heldPairs es) nodes x o);
+        }

@@ -1,7 +1,7 @@
 -- The parts of the test, and that together they are well-formedness.
 use Prim.Native.Nat.{ℕ, zero, suc, _+_, _-_, _≤_, _<_}
 use native.Mathlib.Omega.{arith}
-use mathlib.Core.Path.{_≡_, refl, sym, ap, ap₂, _∙_}
+use mathlib.Core.Path.{_≡_, refl, sym, subst, ap, ap₂, _∙_}
 use mathlib.Core.Bool.{Bool, true, false, _&&_}
 use mathlib.Core.List.{List, _++_}
 use lib.ListN.{length, getD, take, length-map, length-take}
@@ -25,10 +25,11 @@ use Rattle.rulefile.specs.Weighing.{Masked}
 use Rattle.kinds.specs.Kinds.{inMask}
 use Rattle.shelf.specs.Entries.{entryAt, entriesFrom}
 use Rattle.shelving.specs.Shelved.{setEntries, agedEntries}
-use Rattle.formed.specs.Known.{storedIn, Known}
+use Rattle.formed.specs.Known.{storedIn, Known, Places}
 use Rattle.formed.specs.Walk.{ownRuns, ownFit, entriesFit}
 use Rattle.formed.specs.Parts.{countsIn, Counted, timesFit, keptFit}
 use Rattle.formed.specs.Tests.{MaskOf}
+use Rattle.formed.specs.Steps.{Placed}
 use Rattle.formed.proofs.Masks.{mask-has}
 
 -- ---- the rule
@@ -146,3 +147,10 @@ module _ (b : List ℕ) (points : ℕ) (times os ns vs : List ℕ) (count : ℕ)
         counts-stored = c .exact;
         lows-wanted = λ x o. l x o ∙ ap (λ cs. wantedFrom b (λ y. getD cs y 0) x .0) (part-exact c);
       }
+
+  pub places : (counts begins pairs : List ℕ) → Counted b points times counts
+      → Placed os ns vs count (wantedFrom b (λ y. getD (take (nodeCount b - 0) counts) y 0)) (λ y. getD (take (nodeCount b - 0) counts) y 0) (nodeCount b) begins pairs → Places s os ns vs count begins pairs
+  unfolding countsIn countsStored countBefore
+  places counts begins pairs c p =
+      let q = subst (λ cs. Placed os ns vs count (wantedFrom b (λ y. getD cs y 0)) (λ y. getD cs y 0) (nodeCount b) begins pairs) (part-exact c) p in
+      record { rows-first = q .rows-first; pairs-last = q .pairs-last; within = q .within; rows-there = q .rows-there; pairs-there = q .pairs-there }

@@ -1,43 +1,45 @@
--- What the steps of a walk through entries in slices ensure.
+-- What the steps of a walk through the nodes' entries in slices ensure.
 use Prim.Native.Nat.{ℕ, _+_, _-_, _≤_, _<_}
 use mathlib.Core.Path.{_≡_}
 use mathlib.Core.Bool.{true, false}
 use mathlib.Core.List.{List}
+use lib.ListN.{getD}
 use Rattle.meaning.specs.Kept.{Entry}
 use Rattle.meaning.specs.declared.Point.{Point}
-use Rattle.shelf.specs.Entries.{entriesFrom, hasOwner}
-use Rattle.formed.specs.declared.Walked.{Walked}
-use Rattle.formed.specs.declared.Walked.the-variants.{To, Stuck}
-use Rattle.formed.specs.Tests.{rowsFit}
-use Rattle.formed.specs.Walk.{behind, setsRest, rowsFound, runsFit}
+use Rattle.method.specs.Stored.{held, heldPairs}
+use Rattle.shelf.specs.Entries.{entriesFrom, begins, hasOwner}
+use Rattle.shelving.specs.Shelved.{setEntries, agedEntries}
+use Rattle.formed.specs.declared.Ended.{Ended}
+use Rattle.formed.specs.declared.Ended.the-variants.{At, Stuck}
+use Rattle.formed.specs.Walk.{behind, setsRest, runsFit}
 
 -- the entries from cursor on
 abbrev pub restAt : List ℕ → List ℕ → List ℕ → ℕ → ℕ → List Entry
 restAt os ns vs count cursor = entriesFrom os ns vs cursor (count - cursor)
 
--- r is behind node x's runs at n points from low on, and the rows of each fit the mask
-pub record SetsTo (os ns vs : List ℕ) (count cursor x : ℕ) (low : Point) (n mask r : ℕ) : Type 0 where
+-- what is asked of entries from node x's first on: that its runs fit it, and that none of its rows is behind them
+pub record OwnFirst (b : List ℕ) (x : ℕ) (low : Point) (n : ℕ) (es : List Entry) : Type 0 where
+  pub fit : runsFit b x low n es ≡ true
+  pub ends : begins (hasOwner x 0) (setsRest x low n es) ≡ false
+
+-- node x's pairs begin at p, and r is behind them; all its entries fit it
+pub record NodeTo (os ns vs : List ℕ) (count cursor : ℕ) (b : List ℕ) (x : ℕ) (low : Point) (n p r : ℕ) : Type 0 where
+  pub rows-first : cursor ≤ p
+  pub pairs-last : p ≤ r
   pub within : r ≤ count
-  pub rest : restAt os ns vs count r ≡ setsRest x low n (restAt os ns vs count cursor)
-  pub fit : (j : Point) → low .0 ≤ j .0 → j .0 < low .0 + n → rowsFit mask (rowsFound x low (restAt os ns vs count cursor) j) ≡ true
-
--- the rows at one of these points don't
-pub record SetStuck (os ns vs : List ℕ) (count cursor x : ℕ) (low : Point) (n mask : ℕ) : Type 0 where
-  pub at : Point
-  pub from : low .0 ≤ at .0
-  pub before : at .0 < low .0 + n
-  pub unfit : rowsFit mask (rowsFound x low (restAt os ns vs count cursor) at) ≡ false
-
-abbrev pub SetsWalked : List ℕ → List ℕ → List ℕ → ℕ → ℕ → ℕ → Point → ℕ → ℕ → Walked → Type 0
-SetsWalked os ns vs count cursor x low n mask (To r) = SetsTo os ns vs count cursor x low n mask r
-SetsWalked os ns vs count cursor x low n mask Stuck = SetStuck os ns vs count cursor x low n mask
-
--- r is behind all entries of node x, and they fit it
-pub record NodeTo (os ns vs : List ℕ) (count cursor : ℕ) (b : List ℕ) (x : ℕ) (low : Point) (n r : ℕ) : Type 0 where
-  pub within : r ≤ count
+  pub paired : restAt os ns vs count p ≡ setsRest x low n (restAt os ns vs count cursor)
   pub rest : restAt os ns vs count r ≡ behind (hasOwner x 1) (setsRest x low n (restAt os ns vs count cursor))
   pub fit : runsFit b x low n (restAt os ns vs count cursor) ≡ true
 
-abbrev pub NodeWalked : List ℕ → List ℕ → List ℕ → ℕ → ℕ → List ℕ → ℕ → Point → ℕ → Walked → Type 0
-NodeWalked os ns vs count cursor b x low n (To r) = NodeTo os ns vs count cursor b x low n r
-NodeWalked os ns vs count cursor b x low n Stuck = runsFit b x low n (restAt os ns vs count cursor) ≡ false
+abbrev pub NodeEnded : List ℕ → List ℕ → List ℕ → ℕ → ℕ → List ℕ → ℕ → Point → ℕ → Ended → Type 0
+NodeEnded os ns vs count cursor b x low n (At p r) = NodeTo os ns vs count cursor b x low n p r
+NodeEnded os ns vs count cursor b x low n Stuck = OwnFirst b x low n (restAt os ns vs count cursor) → ⊥
+
+-- where each node's entries begin, and its pairs among them, with those that are read off all entries for it; node y's rows are kept from point low y on and up to point end y
+pub record Placed (os ns vs : List ℕ) (count : ℕ) (low : ℕ → Point) (end : ℕ → ℕ) (nodes : ℕ) (begins pairs : List ℕ) : Type 0 where
+  pub rows-first : (x : ℕ) → x < nodes → getD begins x 0 ≤ getD pairs x 0
+  pub pairs-last : (x : ℕ) → x < nodes → getD pairs x 0 ≤ getD begins (x + 1) 0
+  pub within : (x : ℕ) → x < nodes → getD begins (x + 1) 0 ≤ count
+  pub rows-there : (x : ℕ) → x < nodes
+      → entriesFrom os ns vs (getD begins x 0) (getD pairs x 0 - getD begins x 0) ≡ setEntries x (held (entriesFrom os ns vs 0 count) x) (low x) (end x - low x .0)
+  pub pairs-there : (x : ℕ) → x < nodes → entriesFrom os ns vs (getD pairs x 0) (getD begins (x + 1) 0 - getD pairs x 0) ≡ agedEntries x (heldPairs (entriesFrom os ns vs 0 count) x)

@@ -1,10 +1,11 @@
 -- The tests of rows and pairs as they stand in words, with a node's free variables as a mask.
-use Prim.Native.Nat.{ℕ, _+_, _<_}
+use Prim.Native.Nat.{ℕ, _+_, _*_, _/_, _%_, _≤_, _<_}
 use mathlib.Core.Path.{_≡_}
-use mathlib.Core.Bool.{Bool, true, cond, _&&_}
+use mathlib.Core.Bool.{Bool, true, false, _&&_}
 use mathlib.Core.List.{List}
 use lib.ListN.{length, getD, drop}
-use lib.Dec.{ltb, leb, eqb}
+use lib.Bits.{bitOr}
+use lib.Dec.{leb, eqb}
 use Rattle.meaning.specs.Lists.{all, sameRow}
 use Rattle.meaning.specs.Outcome.{mostRows}
 use Rattle.meaning.specs.Order.{before, ascending}
@@ -12,8 +13,10 @@ use Rattle.meaning.specs.Formula.{free}
 use Rattle.meaning.specs.Evaluator.{cutTo, valuationOf}
 use Rattle.meaning.specs.RuleFile.{formulaAt}
 use Rattle.meaning.specs.Kept.{belowEnd, countedAge}
+use Rattle.meaning.specs.declared.Point.{Point}
 use Rattle.meaning.specs.declared.Window.{Window}
-use Rattle.kinds.specs.Kinds.{inMask}
+use Rattle.rowset.specs.declared.Row.{Row}
+use Rattle.kinds.specs.Kinds.{inMask, pairAt}
 
 -- the mask has the variables that are free in node x
 pub record MaskOf (b : List ℕ) (x mask : ℕ) : Type 0 where
@@ -37,6 +40,49 @@ pairCut mask w p = ageFits w (getD p 0 0) && rowCut mask (drop 1 p)
 abbrev pub agedFit : ℕ → Window → List (List ℕ) → Bool
 agedFit mask w pairs = ascending pairs && all (pairCut mask w) pairs
 
--- of what an accessor gives up to number to: that at i passes, and stands before the next, if there is one
-abbrev pub stepsUp : (ℕ → List ℕ) → (List ℕ → Bool) → ℕ → ℕ → Bool
-stepsUp at p to i = p (at i) && cond (ltb (i + 1) to) (before (at i) (at (i + 1))) true
+-- the largest value of each variable that a mask leaves: 0 where it doesn't have it; and no word of a row is above these
+abbrev pub mostOf : ℕ → Row
+mostOf mask = record { v0 = mask / 1 % 2 * 4294967295; v1 = mask / 2 % 2 * 4294967295; v2 = mask / 4 % 2 * 4294967295; v3 = mask / 8 % 2 * 4294967295 }
+
+abbrev pub rowUnder : Row → List ℕ → Bool
+rowUnder most u = leb (getD u 0 0) (most .v0) && (leb (getD u 1 0) (most .v1) && (leb (getD u 2 0) (most .v2) && leb (getD u 3 0) (most .v3)))
+
+-- a test says yes where something holds, and no where it doesn't
+abbrev pub Tells : Bool → Type 0 → Type 0
+Tells true P = P
+Tells false P = P → ⊥
+
+-- the bits of two rows, word by word
+abbrev pub joinedBits : Row → Row → Row
+joinedBits x y = record { v0 = bitOr (x .v0) (y .v0); v1 = bitOr (x .v1) (y .v1); v2 = bitOr (x .v2) (y .v2); v3 = bitOr (x .v3) (y .v3) }
+
+-- a word is at least each word of a column from one row up to another, and 0 where these are
+pub record Bits (column : ℕ → ℕ) (from to w : ℕ) : Type 0 where
+  pub word : w < 4294967296
+  pub most : (i : ℕ) → from ≤ i → i < to → column i ≤ w
+  pub none : ((i : ℕ) → from ≤ i → i < to → column i ≡ 0) → w ≡ 0
+
+pub record BitsOf (vs : List ℕ) (from to : ℕ) (r : Row) : Type 0 where
+  pub bits0 : Bits (λ i. getD vs (i * 4) 0) from to (r .v0)
+  pub bits1 : Bits (λ i. getD vs (i * 4 + 1) 0) from to (r .v1)
+  pub bits2 : Bits (λ i. getD vs (i * 4 + 2) 0) from to (r .v2)
+  pub bits3 : Bits (λ i. getD vs (i * 4 + 3) 0) from to (r .v3)
+
+-- what an accessor gives from one number up to another: each stands before the next
+pub record Ascends (at : ℕ → List ℕ) (from to : ℕ) : Type 0 where
+  pub up : (i : ℕ) → from ≤ i → i + 1 < to → before (at i) (at (i + 1)) ≡ true
+
+-- and each passes
+pub record Rising (at : ℕ → List ℕ) (p : List ℕ → Bool) (from to : ℕ) : Type 0 where
+  pub each : (i : ℕ) → from ≤ i → i < to → p (at i) ≡ true
+  pub up : (i : ℕ) → from ≤ i → i + 1 < to → before (at i) (at (i + 1)) ≡ true
+
+-- no entry has the number of the one that stands as many before it as a point may have rows
+pub record FewAlike (ns : List ℕ) (from to : ℕ) : Type 0 where
+  pub apart : (i : ℕ) → from ≤ i → i + mostRows < to → getD ns i 0 ≡ getD ns (i + mostRows) 0 → ⊥
+
+-- entries from one number up to another are a node's rows at points from low on and before end: by point, and then by row
+pub record SetsFit (ns vs : List ℕ) (from to : ℕ) (low end : Point) (mask : ℕ) : Type 0 where
+  pub rise : Rising (pairAt ns vs) (λ p. rowCut mask (drop 1 p)) from to
+  pub inside : (i : ℕ) → from ≤ i → i < to → (low .0 ≤ getD ns i 0) × (getD ns i 0 < end .0)
+  pub few : FewAlike ns from to

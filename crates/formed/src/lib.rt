@@ -1,85 +1,191 @@
 // Whether what is stored is well formed.
+use meaning::MOST_KEPT;
+use meaning::MOST_OPEN;
+use meaning::MOST_POINTS;
+use meaning::MOST_ROWS;
+use meaning::MOST_TIMES;
 use meaning::Node;
 use meaning::Point;
 use meaning::Window;
 use rowset::Row;
 ghost use mathlib.Core.Path.{_≡_};
 ghost use mathlib.Core.Bool.{true, _&&_};
-ghost use mathlib.Core.List.{_∷_};
 ghost use Prim.Native.Nat.{ℕ, _+_, _-_, _*_, _≤_, _<_};
-ghost use lib.ListN.{length, getD};
+ghost use lib.ListN.{length, getD, drop};
 ghost use lib.Dec.{leb, eqb};
-ghost use Rattle.meaning.specs.Outcome.{given, mostPoints};
+ghost use Rattle.meaning.specs.Outcome.{given, mostPoints, mostKept};
 ghost use Rattle.meaning.specs.RuleFile.{Accepted, checking, isAccepted, nodeCount, nodeAt};
 ghost use Rattle.meaning.specs.Log.{point};
+ghost use Rattle.meaning.specs.Order.{before};
 ghost use Rattle.method.specs.Stored.{leastOf, firstRetained};
 ghost use Rattle.method.specs.Step.{wantedFrom};
 ghost use Rattle.method.specs.WellFormed.{mostTimes, notFalling, pairsFit, wellFormed};
 ghost use Rattle.progress.specs.Bounds.{Within};
-ghost use Rattle.rowset.specs.Rows.{wordsOf, rowAt, rowsFrom};
-ghost use Rattle.rowset.specs.Sets.{Run};
+ghost use Rattle.rowset.specs.Rows.{wordsOf};
 ghost use Rattle.kinds.specs.Kinds.{pairAt, pairsFrom};
 ghost use Rattle.shelf.specs.Entries.{entriesFrom, Stands};
-ghost use Rattle.formed.specs.Known.{storedIn, Known};
+ghost use Rattle.formed.specs.Known.{storedIn, Known, Places};
 ghost use Rattle.formed.specs.Parts.{Counted, timesFit, keptFit};
 ghost use Rattle.formed.specs.Walk.{entriesFit};
-ghost use Rattle.formed.specs.Tests.{MaskOf, rowCut, rowsFit, ageFits, pairCut, agedFit, stepsUp};
-ghost use Rattle.formed.specs.Steps.{SetsWalked, NodeWalked};
+ghost use Rattle.formed.specs.Tests.{Tells, MaskOf, rowCut, mostOf, rowUnder, joinedBits, BitsOf, Ascends, Rising, FewAlike, SetsFit, ageFits, agedFit};
+ghost use Rattle.formed.specs.Steps.{NodeEnded, Placed};
 
-// How far a walk through the entries has come: to an entry, or it met one that doesn't fit.
-pub enum Walked {
-    To(usize),
+// The largest word.
+const LARGEST: u32 = 4294967295;
+
+// Nodes at most that a rule has.
+const MOST_NODES: usize = 32;
+
+// Where a node's pairs begin, and the entry behind them; or its entries don't fit.
+pub enum Ended {
+    At(usize, usize),
     Stuck,
 }
 
-// The row is 0 at variables that the mask doesn't have: 0 is the largest value of a variable outside the mask.
-fn row_cut(mask: u8, u: Row) -> bool
-    ensures { λ t. ⌜ t ≡ rowCut mask (wordsOf u) ⌝ }
+// The largest value of each variable that a mask leaves: 0 where the mask doesn't have it.
+fn most_of(mask: u8) -> Row
+    ensures { λ r. ⌜ r ≡ mostOf mask ⌝ }
 {
     let m = mask as u32;
-    if m / 1 % 2 * 4294967295 < u.v0 {
-        return false;
+    Row {
+        v0: m / 1 % 2 * LARGEST,
+        v1: m / 2 % 2 * LARGEST,
+        v2: m / 4 % 2 * LARGEST,
+        v3: m / 8 % 2 * LARGEST,
     }
-    if m / 2 % 2 * 4294967295 < u.v1 {
-        return false;
-    }
-    if m / 4 % 2 * 4294967295 < u.v2 {
-        return false;
-    }
-    u.v3 <= m / 8 % 2 * 4294967295
 }
 
-// Row i is cut down to the mask, and stands before the next, if there is one.
-fn row_fits(values: &[u32], i: usize, to: usize, mask: u8) -> bool
-    requires { ⌜ (i < to) × (to * 4 ≤ length (now values)) ⌝ }
-    ensures { λ t. ⌜ t ≡ stepsUp (rowAt (now (values .entry))) (rowCut mask) to i ⌝ }
+// No variable of the row is above its largest value.
+fn is_under(most: Row, u: Row) -> bool
+    ensures { λ t. ⌜ t ≡ rowUnder most (wordsOf u) ⌝ }
 {
-    let row = rowset::row_at(values, i);
-    if !row_cut(mask, row) {
+    if most.v0 < u.v0 {
         return false;
     }
-    if i + 1 < to {
-        return rowset::is_before(row, rowset::row_at(values, i + 1));
+    if most.v1 < u.v1 {
+        return false;
     }
-    true
+    if most.v2 < u.v2 {
+        return false;
+    }
+    u.v3 <= most.v3
 }
 
-// Rows from..to are a node's at a point: at most 32, ascending, cut down to the mask.
-fn rows_fit(values: &[u32], from: usize, to: usize, mask: u8) -> bool
-    requires { ⌜ Run (now values) from to ⌝ }
-    ensures { λ t. ⌜ t ≡ rowsFit mask (rowsFrom (now (values .entry)) from (to - from)) ⌝ }
+// The bits of two rows, word by word.
+fn joined(x: Row, y: Row) -> Row
+    ensures { λ r. ⌜ r ≡ joinedBits x y ⌝ }
 {
-    if 32 < to - from {
-        return false;
+    Row {
+        v0: x.v0 | y.v0,
+        v1: x.v1 | y.v1,
+        v2: x.v2 | y.v2,
+        v3: x.v3 | y.v3,
     }
+}
+
+// The bits of rows from..to, word by word: 0 just where all are 0.
+fn bits_of(values: &[u32], from: usize, to: usize) -> Row
+    requires { ⌜ (from ≤ to) × (to * 4 ≤ length (now values)) ⌝ }
+    ensures { λ r. ⌜ BitsOf (now (values .entry)) from to r ⌝ }
+{
+    let mut bits = Row {
+        v0: 0,
+        v1: 0,
+        v2: 0,
+        v3: 0,
+    };
     let mut i = from;
     while i < to {
-        if !row_fits(values, i, to, mask) {
+        bits = joined(bits, rowset::row_at(values, i));
+        i += 1;
+    }
+    bits
+}
+
+// Entry i stands behind the one before it, by its number and then by its row.
+fn is_behind(numbers: &[u32], values: &[u32], i: usize) -> bool
+    requires { ⌜ (0 < i) × (i < length (now numbers)) × (i * 4 + 4 ≤ length (now values)) ⌝ }
+    ensures { λ t. ⌜ t ≡ before (pairAt (now (numbers .entry)) (now (values .entry)) (i - 1)) (pairAt (now (numbers .entry)) (now (values .entry)) i) ⌝ }
+{
+    since::pair_before(
+        numbers[i - 1],
+        rowset::row_at(values, i - 1),
+        numbers[i],
+        rowset::row_at(values, i),
+    )
+}
+
+// Entries from..to, of which there is one, ascend by number and then by row.
+fn ascend(numbers: &[u32], values: &[u32], from: usize, to: usize) -> bool
+    requires { ⌜ (from < to) × (to ≤ length (now numbers)) × (to * 4 ≤ length (now values)) ⌝ }
+    ensures { λ t. ⌜ Tells t (Ascends (pairAt (now (numbers .entry)) (now (values .entry))) from to) ⌝ }
+{
+    let mut i = from + 1;
+    while i < to {
+        if !is_behind(numbers, values, i) {
             return false;
         }
         i += 1;
     }
     true
+}
+
+// Entries from..to, of which there is one, ascend, and their rows are 0 at variables that the mask doesn't have.
+fn rows_ascend(numbers: &[u32], values: &[u32], from: usize, to: usize, mask: u8) -> bool
+    requires { ⌜ (from < to) × (to ≤ length (now numbers)) × (to * 4 ≤ length (now values)) ⌝ }
+    ensures { λ t. ⌜ Tells t (Rising (pairAt (now (numbers .entry)) (now (values .entry))) (λ p. rowCut mask (drop 1 p)) from to) ⌝ }
+{
+    if is_under(most_of(mask), bits_of(values, from, to)) {
+        return ascend(numbers, values, from, to);
+    }
+    false
+}
+
+// Of entries from..to, which ascend, no more than a point may have rows have one number: none has that of the one so many before it.
+fn few_alike(numbers: &[u32], from: usize, to: usize) -> bool
+    requires { ⌜ (from ≤ to) × (to ≤ length (now numbers)) ⌝ }
+    ensures { λ t. ⌜ Tells t (FewAlike (now (numbers .entry)) from to) ⌝ }
+{
+    let most = MOST_ROWS as usize;
+    if to - from <= most {
+        return true;
+    }
+    let mut i = from + most;
+    while i < to {
+        if numbers[i] == numbers[i - most] {
+            return false;
+        }
+        i += 1;
+    }
+    true
+}
+
+// Entries from..to are a node's rows at points from low on and before end, where the mask has its free variables.
+fn sets_fit(
+    numbers: &[u32],
+    values: &[u32],
+    from: usize,
+    to: usize,
+    low: Point,
+    end: Point,
+    mask: u8,
+) -> bool
+    requires { ⌜ (from ≤ to) × (to ≤ length (now numbers)) × (to * 4 ≤ length (now values)) ⌝ }
+    ensures { λ t. ⌜ Tells t (SetsFit (now (numbers .entry)) (now (values .entry)) from to low end mask) ⌝ }
+{
+    if from == to {
+        return true;
+    }
+    if numbers[from] < low.0 {
+        return false;
+    }
+    if end.0 <= numbers[to - 1] {
+        return false;
+    }
+    if !rows_ascend(numbers, values, from, to, mask) {
+        return false;
+    }
+    few_alike(numbers, from, to)
 }
 
 // The largest age that fits the window: the last before its end, and where there is no end its start.
@@ -92,55 +198,18 @@ fn oldest(w: Window) -> u32
     w.end - 1
 }
 
-// The age is before the window's end, and where there is no end at most the start.
-fn age_fits(w: Window, age: u32) -> bool
-    ensures { λ t. ⌜ t ≡ ageFits w age ⌝ }
-{
-    age <= oldest(w)
-}
-
-// A pair's age fits the window, and its row the mask.
-fn pair_cut(mask: u8, w: Window, age: u32, row: Row) -> bool
-    ensures { λ t. ⌜ t ≡ pairCut mask w (age ∷ wordsOf row) ⌝ }
-{
-    if age_fits(w, age) {
-        return row_cut(mask, row);
-    }
-    false
-}
-
-// Pair i fits the window and the mask, and stands before the next, if there is one.
-fn pair_fits(numbers: &[u32], values: &[u32], i: usize, to: usize, mask: u8, w: Window) -> bool
-    requires { ⌜ (i < to) × (to ≤ length (now numbers)) × (to * 4 ≤ length (now values)) ⌝ }
-    ensures { λ t. ⌜ t ≡ stepsUp (pairAt (now (numbers .entry)) (now (values .entry))) (pairCut mask w) to i ⌝ }
-{
-    let age = numbers[i];
-    let row = rowset::row_at(values, i);
-    if !pair_cut(mask, w, age, row) {
-        return false;
-    }
-    if i + 1 < to {
-        return pairs::pair_before(age, row, numbers[i + 1], rowset::row_at(values, i + 1));
-    }
-    true
-}
-
-// Pairs from..to ascend, and fit the window and the mask.
+// Pairs from..to, of which there is one, ascend, and fit the window and the mask: the last is the oldest.
 fn aged_fit(numbers: &[u32], values: &[u32], from: usize, to: usize, mask: u8, w: Window) -> bool
-    requires { ⌜ (from ≤ to) × (to ≤ length (now numbers)) × (to * 4 ≤ length (now values)) ⌝ }
+    requires { ⌜ (from < to) × (to ≤ length (now numbers)) × (to * 4 ≤ length (now values)) ⌝ }
     ensures { λ t. ⌜ t ≡ agedFit mask w (pairsFrom (now (numbers .entry)) (now (values .entry)) from (to - from)) ⌝ }
 {
-    let mut i = from;
-    while i < to {
-        if !pair_fits(numbers, values, i, to, mask, w) {
-            return false;
-        }
-        i += 1;
+    if oldest(w) < numbers[to - 1] {
+        return false;
     }
-    true
+    rows_ascend(numbers, values, from, to, mask)
 }
 
-// Pairs from..to are node x's: only kinds 9, 10 and 13 have any.
+// Pairs from..to, of which there is one, are node x's: only kinds 9, 10 and 13 have any.
 fn kind_fits(
     rule: &[u8],
     x: u8,
@@ -151,7 +220,7 @@ fn kind_fits(
     mask: u8,
 ) -> bool
     requires { ⌜ (length (now rule) ≡ 12 + 20 * nodeCount (now rule)) × (x < nodeCount (now rule)) × MaskOf (now rule) x mask ⌝ }
-    requires { ⌜ (from ≤ to) × (to ≤ length (now numbers)) × (to * 4 ≤ length (now values)) ⌝ }
+    requires { ⌜ (from < to) × (to ≤ length (now numbers)) × (to * 4 ≤ length (now values)) ⌝ }
     ensures { λ t. ⌜ t ≡ pairsFit (now (rule .entry)) x (nodeAt (now (rule .entry)) x) (pairsFrom (now (numbers .entry)) (now (values .entry)) from (to - from)) ⌝ }
 {
     let node = rulenodes::node_at(rule, x);
@@ -159,17 +228,7 @@ fn kind_fits(
         Node::Since(_, _, w) => aged_fit(numbers, values, from, to, mask, w),
         Node::NotSince(_, _, w) => aged_fit(numbers, values, from, to, mask, w),
         Node::Once(_, w) => aged_fit(numbers, values, from, to, mask, w),
-        Node::Atom(_, _) => from == to,
-        Node::And(_, _) => from == to,
-        Node::AndNot(_, _) => from == to,
-        Node::Keep(_, _, _) => from == to,
-        Node::Or(_, _) => from == to,
-        Node::Exists(_, _) => from == to,
-        Node::Previous(_, _) => from == to,
-        Node::Next(_, _) => from == to,
-        Node::Until(_, _, _) => from == to,
-        Node::NotUntil(_, _, _) => from == to,
-        Node::Eventually(_, _) => from == to,
+        _ => false,
     }
 }
 
@@ -193,37 +252,7 @@ fn pairs_fit(
     kind_fits(rule, x, numbers, values, from, to, mask)
 }
 
-// Walks through node x's rows at each point from low on and before end.
-fn sets_end(
-    owners: &[u32],
-    numbers: &[u32],
-    values: &[u32],
-    cursor: usize,
-    count: usize,
-    x: u8,
-    low: Point,
-    end: Point,
-    mask: u8,
-) -> Walked
-    requires { ⌜ (cursor ≤ count) × Stands (now owners) (now numbers) (now values) count ⌝ }
-    ensures { λ r. ⌜ SetsWalked (now (owners .entry)) (now (numbers .entry)) (now (values .entry)) count cursor x low (end .0 - low .0) mask r ⌝ }
-{
-    let owner = (x as u32) * 2;
-    let last = end.0;
-    let mut next = cursor;
-    let mut number = low.0;
-    while number < last {
-        let to = shelf::run_end(owners, numbers, next, count, owner, Point(number));
-        if !rows_fit(values, next, to, mask) {
-            return Walked::Stuck;
-        }
-        next = to;
-        number += 1;
-    }
-    Walked::To(next)
-}
-
-// Walks through all entries of node x: its rows at each point from low on and before end, and its pairs.
+// Finds all entries of node x at the cursor, and tests them: its rows at points from low on and before end, and its pairs.
 fn node_end(
     rule: &[u8],
     x: u8,
@@ -235,23 +264,24 @@ fn node_end(
     low: Point,
     end: Point,
     mask: u8,
-) -> Walked
+) -> Ended
     requires { ⌜ (length (now rule) ≡ 12 + 20 * nodeCount (now rule)) × (x < nodeCount (now rule)) × MaskOf (now rule) x mask ⌝ }
     requires { ⌜ (cursor ≤ count) × Stands (now owners) (now numbers) (now values) count ⌝ }
-    ensures { λ r. ⌜ NodeWalked (now (owners .entry)) (now (numbers .entry)) (now (values .entry)) count cursor (now (rule .entry)) x low (end .0 - low .0) r ⌝ }
+    ensures { λ r. ⌜ NodeEnded (now (owners .entry)) (now (numbers .entry)) (now (values .entry)) count cursor (now (rule .entry)) x low (end .0 - low .0) r ⌝ }
 {
-    let Walked::To(next) = sets_end(owners, numbers, values, cursor, count, x, low, end, mask)
-    else {
-        return Walked::Stuck;
-    };
-    let to = shelf::pair_run_end(owners, next, count, (x as u32) * 2 + 1);
-    if !pairs_fit(rule, x, numbers, values, next, to, mask) {
-        return Walked::Stuck;
+    let owner = (x as u32) * 2;
+    let first = shelf::pair_run_end(owners, cursor, count, owner);
+    let to = shelf::pair_run_end(owners, first, count, owner + 1);
+    if !sets_fit(numbers, values, cursor, first, low, end, mask) {
+        return Ended::Stuck;
     }
-    Walked::To(to)
+    if !pairs_fit(rule, x, numbers, values, first, to, mask) {
+        return Ended::Stuck;
+    }
+    Ended::At(first, to)
 }
 
-// Whether the entries are those of the nodes in turn, from each node's first kept point on and before its first unsettled one, and fit them.
+// Whether the entries are those of the nodes in turn, from each node's first kept point on and before its first unsettled one, and fit them. Where they are, begins and pairs say where each node's begin, and its pairs.
 fn entries_fit(
     rule: &[u8],
     owners: &[u32],
@@ -261,17 +291,22 @@ fn entries_fit(
     masks: &[u8],
     counts: &[u32],
     lows: &[u32],
+    begins: &mut [u32],
+    pairs: &mut [u32],
 ) -> bool
-    requires { ⌜ (length (now rule) ≡ 12 + 20 * nodeCount (now rule)) × Stands (now owners) (now numbers) (now values) count ⌝ }
+    requires { ⌜ (length (now rule) ≡ 12 + 20 * nodeCount (now rule)) × Stands (now owners) (now numbers) (now values) count × (count ≤ mostKept) ⌝ }
     requires { ⌜ (nodeCount (now rule) ≤ length (now masks)) × (nodeCount (now rule) ≤ length (now counts)) × (nodeCount (now rule) ≤ length (now lows)) × ((x : ℕ) → x < nodeCount (now rule) → MaskOf (now rule) x (getD (now masks) x 0)) ⌝ }
-    ensures { λ r. ⌜ r ≡ entriesFit (now (rule .entry)) (λ y. point (getD (now (lows .entry)) y 0)) (λ y. getD (now (counts .entry)) y 0) (entriesFrom (now (owners .entry)) (now (numbers .entry)) (now (values .entry)) 0 count) (nodeCount (now (rule .entry))) ⌝ }
+    requires { ⌜ (nodeCount (now rule) < length (now begins)) × (nodeCount (now rule) ≤ length (now pairs)) ⌝ }
+    ensures answer { λ r. ⌜ r ≡ entriesFit (now (rule .entry)) (λ y. point (getD (now (lows .entry)) y 0)) (λ y. getD (now (counts .entry)) y 0) (entriesFrom (now (owners .entry)) (now (numbers .entry)) (now (values .entry)) 0 count) (nodeCount (now (rule .entry))) ⌝ }
+    ensures placed { λ r. ⌜ (r ≡ true → Placed (now (owners .entry)) (now (numbers .entry)) (now (values .entry)) count (λ y. point (getD (now (lows .entry)) y 0)) (λ y. getD (now (counts .entry)) y 0) (nodeCount (now (rule .entry))) (now (begins .exit)) (now (pairs .exit))) ⌝ }
 {
     let n = rule[2];
     let mut next = 0;
     let mut x: u8 = 0;
+    begins[0] = 0;
     while x < n {
         let k = x as usize;
-        let Walked::To(to) = node_end(
+        let Ended::At(first, to) = node_end(
             rule,
             x,
             owners,
@@ -285,6 +320,8 @@ fn entries_fit(
         ) else {
             return false;
         };
+        pairs[k] = first as u32;
+        begins[k + 1] = to as u32;
         next = to;
         x += 1;
     }
@@ -344,7 +381,7 @@ fn count_points(rule: &[u8], points: u32, times: &[u32], counts: &mut [u32])
     ensures { λ _. ⌜ Counted (now (rule .entry)) points (now (times .entry)) (now (counts .exit)) ⌝ }
 {
     let base = Point(progress::less(points, times.len() as u32));
-    let from = [base.0; 32];
+    let from = [base.0; MOST_NODES];
     progress::counts(rule, times, base, points, &from, counts);
 }
 
@@ -354,15 +391,15 @@ fn times_fit(rule: &[u8], points: u32, times: &[u32], counts: &mut [u32]) -> boo
     ensures answer { λ r. ⌜ r ≡ timesFit (now (rule .entry)) points (now (times .entry)) ⌝ }
     ensures counted { λ r. ⌜ (r ≡ true → (points ≤ mostPoints) × Counted (now (rule .entry)) points (now (times .entry)) (now (counts .exit))) ⌝ }
 {
-    if 10000000 < points {
+    if MOST_POINTS < points {
         return false;
     }
-    if 64 < times.len() {
+    if MOST_TIMES < times.len() {
         return false;
     }
     count_points(rule, points, times, counts);
     let n = rule[2] as usize;
-    if 32 < progress::less(points, counts[n - 1]) {
+    if MOST_OPEN < progress::less(points, counts[n - 1]) {
         return false;
     }
     times_asked(points, times, &counts[0..n])
@@ -378,18 +415,33 @@ fn kept_fit(
     masks: &[u8],
     counts: &[u32],
     lows: &mut [u32],
+    begins: &mut [u32],
+    pairs: &mut [u32],
 ) -> bool
     requires { ⌜ ((a : Accepted) × (checking (now rule) ≡ given a)) ⌝ }
     requires { ⌜ Stands (now owners) (now numbers) (now values) count × (32 ≤ length (now masks)) × ((x : ℕ) → x < nodeCount (now rule) → MaskOf (now rule) x (getD (now masks) x 0)) ⌝ }
     requires { ⌜ (nodeCount (now rule) ≤ length (now counts)) × Within mostPoints (now counts) × (32 ≤ length (now lows)) ⌝ }
+    requires { ⌜ (33 ≤ length (now begins)) × (32 ≤ length (now pairs)) ⌝ }
     ensures answer { λ r. ⌜ r ≡ keptFit (now (rule .entry)) (now (counts .entry)) (entriesFrom (now (owners .entry)) (now (numbers .entry)) (now (values .entry)) 0 count) count ⌝ }
     ensures wanted { λ r. ⌜ (r ≡ true → (x : ℕ) → x < nodeCount (now (rule .entry)) → getD (now (lows .exit)) x 0 ≡ wantedFrom (now (rule .entry)) (λ y. getD (now (counts .entry)) y 0) x .0) ⌝ }
+    ensures placed { λ r. ⌜ (r ≡ true → Placed (now (owners .entry)) (now (numbers .entry)) (now (values .entry)) count (wantedFrom (now (rule .entry)) (λ y. getD (now (counts .entry)) y 0)) (λ y. getD (now (counts .entry)) y 0) (nodeCount (now (rule .entry))) (now (begins .exit)) (now (pairs .exit))) ⌝ }
 {
-    if 512 < count {
+    if MOST_KEPT < count {
         return false;
     }
     wanted::wanted(rule, counts, lows);
-    entries_fit(rule, owners, numbers, values, count, masks, counts, lows)
+    entries_fit(
+        rule,
+        owners,
+        numbers,
+        values,
+        count,
+        masks,
+        counts,
+        lows,
+        begins,
+        pairs,
+    )
 }
 
 // The rule is accepted; the lent bytes then hold the mask of each node's free variables.
@@ -401,7 +453,7 @@ fn accepts(rule: &[u8], masks: &mut [u8]) -> bool
     rulefile::accepts(rule, masks)
 }
 
-// Whether what is stored is well formed. Where it is, the lent words hold for each node the mask of its free variables, how many points it has settled, and from which point on its rows are kept.
+// Whether what is stored is well formed. Where it is, the lent words hold for each node the mask of its free variables, how many points it has settled, from which point on its rows are kept, and where its entries begin, and its pairs among them; behind the last node's begin, where its entries end.
 pub fn well_formed(
     rule: &[u8],
     points: u32,
@@ -413,11 +465,15 @@ pub fn well_formed(
     masks: &mut [u8],
     counts: &mut [u32],
     lows: &mut [u32],
+    begins: &mut [u32],
+    pairs: &mut [u32],
 ) -> bool
     requires { ⌜ Stands (now owners) (now numbers) (now values) count ⌝ }
     requires { ⌜ (32 ≤ length (now masks)) × (32 ≤ length (now counts)) × (32 ≤ length (now lows)) ⌝ }
+    requires { ⌜ (33 ≤ length (now begins)) × (32 ≤ length (now pairs)) ⌝ }
     ensures answer { λ r. ⌜ r ≡ wellFormed (storedIn (now (rule .entry)) points (now (times .entry)) (now (owners .entry)) (now (numbers .entry)) (now (values .entry)) count) ⌝ }
     ensures known { λ r. ⌜ (r ≡ true → Known (storedIn (now (rule .entry)) points (now (times .entry)) (now (owners .entry)) (now (numbers .entry)) (now (values .entry)) count) (now (masks .exit)) (now (counts .exit)) (now (lows .exit))) ⌝ }
+    ensures placed { λ r. ⌜ (r ≡ true → Places (storedIn (now (rule .entry)) points (now (times .entry)) (now (owners .entry)) (now (numbers .entry)) (now (values .entry)) count) (now (owners .entry)) (now (numbers .entry)) (now (values .entry)) count (now (begins .exit)) (now (pairs .exit))) ⌝ }
 {
     if !accepts(rule, masks) {
         return false;
@@ -435,5 +491,7 @@ pub fn well_formed(
         masks,
         &counts[0..n],
         lows,
+        begins,
+        pairs,
     )
 }

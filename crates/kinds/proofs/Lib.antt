@@ -1,3 +1,2 @@
 -- Facts about the kinds' rows.
 pub mod Atoms
-pub mod Candidates

@@ -2,9 +2,9 @@
 use Prim.Native.Nat.{ℕ, _+_, _*_, _/_, _%_, _^_, _≤_}
 use mathlib.Core.Bool.{Bool, true, not}
 use mathlib.Core.List.{List, _∷_, map}
-use lib.ListN.{length, getD, take, drop}
-use lib.Dec.{leb, eqb}
-use Rattle.meaning.specs.Lists.{range, select}
+use lib.ListN.{length, getD, take}
+use lib.Dec.{eqb}
+use Rattle.meaning.specs.Lists.{range}
 use Rattle.meaning.specs.Log.{Row}
 use Rattle.meaning.specs.Event.{rowCount, relationOf, columnsOf}
 use Rattle.rowset.specs.Rows.{rowAt}
@@ -47,7 +47,3 @@ pairsFrom ages values from count = map (pairAt ages values) (range from count)
 pub record PairsThere (ages values : List ℕ) (n : ℕ) : Type 0 where
   pub agesThere : n ≤ length ages
   pub valuesThere : n * 4 ≤ length values
-
--- the rows of the pairs that have reached an age
-abbrev pub aged : ℕ → List (List ℕ) → List (List ℕ)
-aged age pairs = map (drop 1) (select (λ p. leb age (getD p 0 0)) pairs)

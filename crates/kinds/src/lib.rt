@@ -16,7 +16,7 @@ ghost use Rattle.meaning.specs.Event.{rowCount, columnsOf};
 ghost use Rattle.meaning.specs.Evaluator.{cutTo, valuationOf, bound, matches, atomRows, agrees, joined, andRows};
 ghost use Rattle.rowset.specs.Rows.{wordsOf, rowsFrom, lookUp};
 ghost use Rattle.rowset.specs.Sets.{Run, Room, Added};
-ghost use Rattle.kinds.specs.Kinds.{inMask, EventThere, rowFrom, rowsWith, pairsFrom, aged};
+ghost use Rattle.kinds.specs.Kinds.{inMask, EventThere, rowFrom, rowsWith};
 
 // What since and until ask of left at a point: that it holds, that it doesn't, or nothing.
 pub enum Left {
@@ -292,33 +292,6 @@ pub fn exists(x: u32, rows: &[u32], from: usize, to: usize, out: &mut [u32], n: 
     while i < to {
         let u = without(x, rowset::row_at(rows, i));
         k = rowset::add(out, k, u);
-        i += 1;
-    }
-    k
-}
-
-// The rows of the pairs from..to that are at least as old as age says. Many pairs share a row, so each is looked for near the one before it.
-pub fn old_enough(
-    age: u32,
-    ages: &[u32],
-    values: &[u32],
-    from: usize,
-    to: usize,
-    out: &mut [u32],
-) -> usize
-    requires { ⌜ Run (now values) from to ⌝ }
-    requires { ⌜ to ≤ length (now ages) ⌝ }
-    requires { ⌜ Room (now out) 0 ⌝ }
-    ensures { λ k. ⌜ Added (now (out .entry)) 0 (now (out .exit)) k (aged age (pairsFrom (now (ages .entry)) (now (values .entry)) from (to - from))) ⌝ }
-{
-    let mut k = 0;
-    let mut near = 0;
-    let mut i = from;
-    while i < to {
-        let row = rowset::row_at(values, i);
-        let gathered = rowset::add_near_if(age <= ages[i], out, k, near, row);
-        k = gathered.count;
-        near = gathered.near;
         i += 1;
     }
     k

@@ -1,5 +1,6 @@
 -- What the functions' proofs share, and what is stored in memory after a taking (Stores).
-pub mod Front
 pub mod Words
-pub mod Taken
+pub mod Ready
+pub mod Stored
+pub mod Memory
 pub mod Stores

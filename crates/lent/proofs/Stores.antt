@@ -9,10 +9,11 @@ use Rattle.meaning.specs.Lists.{gather}
 use Rattle.method.specs.Stored.{Stored}
 use Rattle.method.specs.WellFormed.{Formed}
 use Rattle.method.proofs.Rowed.{rowed}
-use Rattle.lent.specs.Lent.{Lent, fitting, stored, ownerOf, lentWith}
-use Rattle.lent.proofs.Front.{front-long, front-read}
+use Rattle.figures.proofs.Front.{front-long, front-read}
+use Rattle.workspace.specs.Stores.{ownerOf}
+use Rattle.lent.specs.Lent.{Lent, fitting, stored, lentWith}
 use Rattle.lent.proofs.Words.{entries-back, values-long}
-use Rattle.lent.proofs.Taken.{fits-sized, sized-fits}
+use Rattle.lent.proofs.Memory.{fits-sized, sized-fits}
 
 module _ (m : Lent) (s : Stored) (formed : Formed s) where
   pub stored-with : s .rule ≡ stored m .rule → stored (lentWith s m) ≡ s

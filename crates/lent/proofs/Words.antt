@@ -1,45 +1,16 @@
--- Entries as words and back: the owners, the numbers and the values of entries, each in a list of its own.
-use Prim.Native.Nat.{ℕ, zero, suc, _+_, _*_, _≤_, _<_}
+-- Entries read back from their words, the owners, the numbers and the values each in a list of its own with others behind them.
+use Prim.Native.Nat.{ℕ, suc, _+_, _*_, _<_}
 use native.Mathlib.Omega.{arith}
 use mathlib.Core.Path.{_≡_, refl, ap, _∙_}
 use mathlib.Core.List.{List, [], _∷_, _++_, map, List·Memᴰ, List·Memᴰ·head, List·Memᴰ·tail, append-assoc}
-use lib.ListN.{length, getD, take, length-append}
-use Rattle.meaning.specs.Lists.{range, gather}
+use lib.ListN.{length, length-append}
+use Rattle.meaning.specs.Lists.{gather}
 use Rattle.meaning.specs.Kept.{Entry, entryOf}
 use Rattle.method.proofs.Rowed.{Rowed}
 use Rattle.shelf.specs.Entries.{ownedBy, entryAt, entriesFrom}
-use Rattle.shelf.proofs.Listed.{listed-same, listed-moved, map-twice}
-use Rattle.shelf.proofs.Packing.{owned-by}
-use Rattle.figuring.proofs.Slices.{front-take}
-use Rattle.lent.specs.Lent.{ownerOf}
-
--- ---- the words of entries that stand in lists
-
-module _ (os ns vs : List ℕ) (n : ℕ) where
-  pub owners-of : n ≤ length os → map ownerOf (entriesFrom os ns vs 0 n) ≡ take n os
-  unfolding entriesFrom
-  owners-of l = map-twice ownerOf (entryAt os ns vs) (range 0 n) ∙ listed-same (λ k. ownerOf (entryAt os ns vs k)) (λ k. getD os k 0) 0 n (λ k u v. omega arith) ∙ front-take n os l
-
-  pub numbers-of : n ≤ length ns → map (λ e. e .number) (entriesFrom os ns vs 0 n) ≡ take n ns
-  unfolding entriesFrom
-  numbers-of l = map-twice (λ e. e .number) (entryAt os ns vs) (range 0 n) ∙ front-take n ns l
-
-  pub values-of : 4 * n ≤ length vs → gather (λ e. e .values) (entriesFrom os ns vs 0 n) ≡ take (4 * n) vs
-  unfolding entriesFrom
-  values-of l = words 0 n ∙ front-take (4 * n) vs l
-    where
-      words : (a k : ℕ) → gather (λ e. e .values) (map (entryAt os ns vs) (range a k)) ≡ map (λ j. getD vs j 0) (range (4 * a) (4 * k))
-      words a zero = refl
-      words a (suc k) =
-          let e : 4 * suc k ≡ suc (suc (suc (suc (4 * k)))) = omega arith in
-          let f : 4 * suc a ≡ suc (suc (suc (suc (4 * a)))) = omega arith in
-          let z : a * 4 ≡ 4 * a = omega arith in
-          let i : a * 4 + 1 ≡ suc (4 * a) = omega arith in
-          let j : a * 4 + 2 ≡ suc (suc (4 * a)) = omega arith in
-          let h : a * 4 + 3 ≡ suc (suc (suc (4 * a))) = omega arith in
-          rw (e, i, j, h, z, ← f) (ap (λ ws. getD vs (4 * a) 0 ∷ getD vs (suc (4 * a)) 0 ∷ getD vs (suc (suc (4 * a))) 0 ∷ getD vs (suc (suc (suc (4 * a)))) 0 ∷ ws) (words (suc a) k))
-
--- ---- entries read back from their words, with others behind them
+use Rattle.shelf.proofs.Listed.{listed-moved}
+use Rattle.shelf.proofs.Entries.{owned-by}
+use Rattle.workspace.specs.Stores.{ownerOf}
 
 entries-cons : (o n a b c d : ℕ) (os ns vs : List ℕ) (k : ℕ) → entriesFrom (o ∷ os) (n ∷ ns) (a ∷ b ∷ c ∷ d ∷ vs) 0 (suc k) ≡ ownedBy o n (a ∷ b ∷ c ∷ d ∷ []) ∷ entriesFrom os ns vs 0 k
 unfolding entriesFrom

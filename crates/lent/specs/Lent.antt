@@ -1,19 +1,20 @@
 -- What a taking leaves in the memory that it was lent: every word of it is what a definition gives.
-use Prim.Native.Nat.{ℕ, _+_, _*_}
+use Prim.Native.Nat.{ℕ, _≤_}
 use mathlib.Core.Path.{_≡_}
 use mathlib.Core.Bool.{Bool, cond, _&&_}
-use mathlib.Core.List.{List, _++_, map}
-use lib.ListN.{length, drop}
+use mathlib.Core.List.{List, map}
+use lib.ListN.{length}
 use lib.Dec.{eqb}
 use Rattle.meaning.specs.Lists.{gather}
 use Rattle.meaning.specs.Outcome.{Outcome, refused, given, notWellFormed}
-use Rattle.meaning.specs.Kept.{Entry}
 use Rattle.meaning.specs.Keeper.{bufferAfter}
 use Rattle.method.specs.Stored.{Stored}
 use Rattle.method.specs.Step.{storedNow, reportNow}
 use Rattle.weighing.specs.Weighs.{refusalOf}
-use Rattle.figuring.specs.Fronts.{storedFront}
-use Rattle.taking.specs.Answers.{takeAnswer}
+use Rattle.shelf.specs.Appended.{atFront}
+use Rattle.figures.specs.Fronts.{storedFront}
+use Rattle.workspace.specs.Stores.{ownerOf}
+use Rattle.lent.specs.Answers.{takeAnswer}
 use Rattle.lent.specs.declared.Answer.{Answer}
 use Rattle.lent.specs.declared.Answer.the-variants.{Written, Refused}
 
@@ -39,17 +40,18 @@ lengthsFit rule times owners numbers values = eqb (length rule) 652 && (eqb (len
 abbrev pub fitting : Lent → Bool
 fitting m = lengthsFit (m .rule) (m .times) (m .owners) (m .numbers) (m .values)
 
+-- slices of those lengths but for the rule, of which so many times and entries are a state's
+pub record SizedWords (times os ns vs : List ℕ) (retained count : ℕ) : Type 0 where
+  pub times-long : length times ≡ 65
+  pub owners-long : length os ≡ 512
+  pub numbers-long : length ns ≡ 512
+  pub values-long : length vs ≡ 2048
+  pub few-times : retained ≤ 64
+  pub few-kept : count ≤ 512
+
 -- what is stored in it: the first bytes of the rule, the first times and the first entries, as many as its figures say
 abbrev pub stored : Lent → Stored
 stored m = storedFront (m .rule) (m .bytes) (m .points) (m .times) (m .retained) (m .owners) (m .numbers) (m .values) (m .count)
-
--- words at the front of others, of which the rest stay behind them
-abbrev pub atFront : List ℕ → List ℕ → List ℕ
-atFront words old = words ++ drop (length words) old
-
--- an entry's owner in one word: its node twice, and its mark
-abbrev pub ownerOf : Entry → ℕ
-ownerOf e = e .node * 2 + e .mark
 
 -- what is lent once s is stored in it: the times and the words of the entries at the front of their slices, and the figures; every word behind them, the rule and its length as they were
 abbrev pub lentWith : Stored → Lent → Lent

@@ -1,2 +1,3 @@
--- What is lent, and what a taking leaves in it.
+-- What is lent, what a taking leaves in it, and what the steps of a taking answer and leave.
+pub mod Answers
 pub mod Lent

@@ -1,13 +1,25 @@
-// Taking an event in memory that the caller lends: what is stored is changed in place, and a refusal changes nothing.
-use taking::Taken;
+// Taking an event in memory that the caller lends: the checks in the order of their refusals, the figures of the call, and the call settled; what is stored is changed in place, and a refusal changes nothing.
+use events::Admitted;
+use meaning::Point;
 use weighing::Refusal;
+use weighing::Weighed;
 ghost use mathlib.Core.Path.{_≡_};
-ghost use Prim.Native.Nat.{_*_, _≤_};
+ghost use mathlib.Core.Bool.{_&&_};
+ghost use Prim.Native.Nat.{ℕ, _*_, _≤_, _<_};
 ghost use lib.ListN.{length, take};
-ghost use Rattle.meaning.specs.Outcome.{mostKept};
-ghost use Rattle.shelf.specs.Entries.{Stands};
+ghost use lib.Dec.{leb};
+ghost use Rattle.meaning.specs.Outcome.{Outcome};
+ghost use Rattle.meaning.specs.RuleFile.{nodeCount};
+ghost use Rattle.method.specs.WellFormed.{Formed};
+ghost use Rattle.kinds.specs.Kinds.{EventThere};
+ghost use Rattle.formed.specs.Known.{storedIn, Known, Places};
+ghost use Rattle.events.specs.Answers.{outcomeOf};
+ghost use Rattle.events.specs.declared.Admitted.the-variants.{Fine};
+ghost use Rattle.weighing.specs.Weighs.{refusalOf};
+ghost use Rattle.workspace.specs.Settles.{weighedNow};
 ghost use Rattle.lent.specs.declared.Answer.the-variants.{Refused};
-ghost use Rattle.lent.specs.Lent.{lent, lengthsFit, atFront, TakesLent};
+ghost use Rattle.lent.specs.Answers.{takeAnswer, Finishes, TakesIn};
+ghost use Rattle.lent.specs.Lent.{lent, lengthsFit, SizedWords, TakesLent};
 
 // The answer of a taking: the words written, or the refusal.
 pub enum Answer {
@@ -23,31 +35,159 @@ pub struct Left {
     pub answer: Answer,
 }
 
-// Copies the times and entries that are kept to the front of the lent slices; the words behind them stay.
-fn store(
-    stamps: &[u32],
-    out_owners: &[u32],
-    out_numbers: &[u32],
-    out_values: &[u32],
-    retained: usize,
-    kept: usize,
+// What a step of a taking gives: a refusal, or the words written, the times retained and the entries kept.
+enum Taken {
+    Refused(Refusal),
+    Done(u32, u32, u32),
+}
+
+// What follows once 13 to 16 are weighed: where nothing is refused, the times that are retained are stored.
+fn finish(weighed: Weighed, after: &[u32], points: u32, stamps: &[u32], times: &mut [u32]) -> Taken
+    requires { ⌜ (length (now stamps) ≤ points) × (length (now stamps) ≤ length (now times)) × (length (now stamps) < 4294967296) ⌝ }
+    ensures { λ r. ⌜ Finishes points (now (after .entry)) (now (stamps .entry)) (now (times .entry)) (now (times .exit)) weighed r ⌝ }
+{
+    match weighed {
+        Weighed::Refused(refusal) => Taken::Refused(refusal),
+        Weighed::Written(words, kept) => {
+            let retained = figures::retain(after, points, stamps, times);
+            Taken::Done(words, retained, kept)
+        }
+    }
+}
+
+// An event that passes 9 to 12, taken in a state that is well formed. For each node of the rule there are the mask of its free variables, how many points it has settled, from which point on its rows are kept, and where its entries and its pairs begin.
+fn take_admitted(
+    rule: &[u8],
+    points: u32,
     times: &mut [u32],
+    retained: usize,
     owners: &mut [u32],
     numbers: &mut [u32],
     values: &mut [u32],
-)
-    requires { ⌜ (retained ≤ 65) × (kept ≤ mostKept) × (65 ≤ length (now stamps)) × (65 ≤ length (now times)) ⌝ }
-    requires { ⌜ Stands (now «out_owners») (now «out_numbers») (now «out_values») mostKept ⌝ }
-    requires { ⌜ Stands (now owners) (now numbers) (now values) mostKept ⌝ }
-    ensures times { λ _. ⌜ now (times .exit) ≡ atFront (take retained (now (stamps .entry))) (now (times .entry)) ⌝ }
-    ensures owners { λ _. ⌜ now (owners .exit) ≡ atFront (take kept (now («out_owners» .entry))) (now (owners .entry)) ⌝ }
-    ensures numbers { λ _. ⌜ now (numbers .exit) ≡ atFront (take kept (now («out_numbers» .entry))) (now (numbers .entry)) ⌝ }
-    ensures values { λ _. ⌜ now (values .exit) ≡ atFront (take (4 * kept) (now («out_values» .entry))) (now (values .entry)) ⌝ }
+    count: usize,
+    event: &[u32],
+    report: &mut [u32],
+    masks: &[u8],
+    counts: &[u32],
+    lows: &[u32],
+    begins: &[u32],
+    pairs: &[u32],
+) -> Taken
+    requires { ⌜ SizedWords (now times) (now owners) (now numbers) (now values) retained count ⌝ }
+    requires { ⌜ Formed (storedIn (now rule) points (take retained (now times)) (now owners) (now numbers) (now values) count) ⌝ }
+    requires { ⌜ Known (storedIn (now rule) points (take retained (now times)) (now owners) (now numbers) (now values) count) (now masks) (now counts) (now lows) × Places (storedIn (now rule) points (take retained (now times)) (now owners) (now numbers) (now values) count) (now owners) (now numbers) (now values) count (now begins) (now pairs) ⌝ }
+    requires { ⌜ EventThere (now event) × (points < 10000000) ⌝ }
+    requires { ⌜ (32 ≤ length (now masks)) × (32 ≤ length (now counts)) × (32 ≤ length (now lows)) × (33 ≤ length (now begins)) × (32 ≤ length (now pairs)) ⌝ }
+    ensures { λ r. ⌜ TakesIn (storedIn (now (rule .entry)) points (take retained (now (times .entry))) (now (owners .entry)) (now (numbers .entry)) (now (values .entry)) count) (now (event .entry)) (now (report .entry)) (now (report .exit)) (now (times .entry)) (now (owners .entry)) (now (numbers .entry)) (now (values .entry)) (now (times .exit)) (now (owners .exit)) (now (numbers .exit)) (now (values .exit)) (weighedNow (storedIn (now (rule .entry)) points (take retained (now (times .entry))) (now (owners .entry)) (now (numbers .entry)) (now (values .entry)) count) (now (event .entry)) (length (now (report .entry)))) r ⌝ }
 {
-    shelf::copy_words(stamps, retained, times, 0);
-    shelf::copy_words(out_owners, kept, owners, 0);
-    shelf::copy_words(out_numbers, kept, numbers, 0);
-    shelf::copy_words(out_values, 4 * kept, values, 0);
+    let n = figures::node_total(rule);
+    let k = retained + 1;
+    let mut stamps = [0u32; 65];
+    let mut after = [0u32; 32];
+    let mut table = [0u32; 288];
+    let needed = figures::call_table(
+        rule,
+        points,
+        &times[0..retained],
+        event,
+        masks,
+        &counts[0..n],
+        lows,
+        begins,
+        pairs,
+        &mut stamps,
+        &mut after,
+        &mut table,
+    );
+    let weighed = workspace::settle_in_room(
+        rule,
+        &table,
+        &stamps[0..k],
+        points,
+        event,
+        owners,
+        numbers,
+        values,
+        count,
+        report,
+        needed,
+    );
+    finish(weighed, &after[0..n], points + 1, &stamps[0..k], times)
+}
+
+// The refusal that the first checks of an event give.
+fn refusal_of(admitted: Admitted) -> Refusal
+    requires { ⌜ (admitted ≡ Fine → ⊥) ⌝ }
+    ensures { λ r. ⌜ ((rest : Outcome ℕ) → refusalOf r ≡ outcomeOf admitted rest) ⌝ }
+{
+    match admitted {
+        Admitted::Fine => Refusal::NotAnEvent,
+        Admitted::NotAnEvent => Refusal::NotAnEvent,
+        Admitted::RowOut(k) => Refusal::RowOut(k),
+        Admitted::TimeFalls => Refusal::TimeFalls,
+        Admitted::LogFull => Refusal::LogFull,
+    }
+}
+
+// An event in any state that stands in the slices: 8, then 9 to 12, then what follows.
+fn take_stored(
+    rule: &[u8],
+    points: u32,
+    times: &mut [u32],
+    retained: usize,
+    owners: &mut [u32],
+    numbers: &mut [u32],
+    values: &mut [u32],
+    count: usize,
+    event: &[u32],
+    report: &mut [u32],
+) -> Taken
+    requires { ⌜ SizedWords (now times) (now owners) (now numbers) (now values) retained count ⌝ }
+    ensures { λ r. ⌜ TakesIn (storedIn (now (rule .entry)) points (take retained (now (times .entry))) (now (owners .entry)) (now (numbers .entry)) (now (values .entry)) count) (now (event .entry)) (now (report .entry)) (now (report .exit)) (now (times .entry)) (now (owners .entry)) (now (numbers .entry)) (now (values .entry)) (now (times .exit)) (now (owners .exit)) (now (numbers .exit)) (now (values .exit)) (takeAnswer (storedIn (now (rule .entry)) points (take retained (now (times .entry))) (now (owners .entry)) (now (numbers .entry)) (now (values .entry)) count) (now (event .entry)) (length (now (report .entry)))) r ⌝ }
+{
+    let mut masks = [0u8; 32];
+    let mut counts = [0u32; 32];
+    let mut lows = [0u32; 32];
+    let mut begins = [0u32; 33];
+    let mut pairs = [0u32; 32];
+    if !formed::well_formed(
+        rule,
+        points,
+        &times[0..retained],
+        owners,
+        numbers,
+        values,
+        count,
+        &mut masks,
+        &mut counts,
+        &mut lows,
+        &mut begins,
+        &mut pairs,
+    ) {
+        return Taken::Refused(Refusal::NotWellFormed);
+    }
+    let latest = figures::latest(&times[0..retained]);
+    let admitted = events::admit(rule, event, latest, points);
+    let Admitted::Fine = admitted else {
+        return Taken::Refused(refusal_of(admitted));
+    };
+    take_admitted(
+        rule,
+        points,
+        times,
+        retained,
+        owners,
+        numbers,
+        values,
+        count,
+        event,
+        report,
+        &masks,
+        &counts,
+        &lows,
+        &begins,
+        &pairs,
+    )
 }
 
 // Whether slices have the lengths of a state's arrays.
@@ -81,7 +221,20 @@ fn as_it_was(points: u32, times: u32, entries: u32, refusal: Refusal) -> Left
     }
 }
 
-// Takes an event: slices of any length and content, which stand for a state as for `taking::take`, any event words, any report buffer. Where a length isn't a state's the answer is 8.
+// Whether the figures of a state are within its arrays.
+fn figures_fit(bytes: u32, retained: u32, count: u32) -> bool
+    ensures { λ r. ⌜ r ≡ (leb bytes 652 && (leb retained 64 && leb count 512)) ⌝ }
+{
+    if 652 < bytes {
+        return false;
+    }
+    if 64 < retained {
+        return false;
+    }
+    count <= 512
+}
+
+// Takes an event: slices of any length and content: the rule, the times and the entries are at the front of their slices, as many as `bytes`, `retained` and `count` say; any event words, any report buffer. Where a length isn't a state's the answer is 8.
 pub fn take(
     rule: &[u8],
     bytes: u32,
@@ -100,49 +253,29 @@ pub fn take(
     if !lengths_fit(rule, times, owners, numbers, values) {
         return as_it_was(points, retained, count, Refusal::NotWellFormed);
     }
-    let mut stamps = [0u32; 65];
-    let mut out_owners = [0u32; 512];
-    let mut out_numbers = [0u32; 512];
-    let mut out_values = [0u32; 2048];
-    let taken = taking::take(
-        rule,
-        bytes,
+    if !figures_fit(bytes, retained, count) {
+        return as_it_was(points, retained, count, Refusal::NotWellFormed);
+    }
+    let n = bytes as usize;
+    let taken = take_stored(
+        &rule[0..n],
         points,
         times,
-        retained,
+        retained as usize,
         owners,
         numbers,
         values,
-        count,
+        count as usize,
         event,
         report,
-        &mut stamps,
-        &mut out_owners,
-        &mut out_numbers,
-        &mut out_values,
     );
     match taken {
         Taken::Refused(refusal) => as_it_was(points, retained, count, refusal),
-        Taken::Done(words, kept_times, kept) => {
-            let accepted = points + 1;
-            store(
-                &stamps,
-                &out_owners,
-                &out_numbers,
-                &out_values,
-                kept_times as usize,
-                kept as usize,
-                times,
-                owners,
-                numbers,
-                values,
-            );
-            Left {
-                points: accepted,
-                retained: kept_times,
-                count: kept,
-                answer: Answer::Written(words),
-            }
-        }
+        Taken::Done(words, kept_times, kept) => Left {
+            points: points + 1,
+            retained: kept_times,
+            count: kept,
+            answer: Answer::Written(words),
+        },
     }
 }

@@ -7,7 +7,7 @@ use lib.ListN.{length}
 use Rattle.meaning.specs.Outcome.{Outcome, refused, given}
 use Rattle.method.specs.Stored.{Stored}
 use Rattle.method.specs.Step.{keptStored}
-use Rattle.figuring.specs.Fronts.{openAnswer}
+use Rattle.figures.specs.Fronts.{openAnswer}
 use Rattle.refusals.specs.Told.{toldOf}
 use Rattle.refusals.specs.declared.Told.{Told}
 use Rattle.weighing.specs.Weighs.{refusalOf}

@@ -4,7 +4,7 @@ use Prim.Native.Nat.{ℕ}
 use Rattle.meaning.specs.Outcome.{Outcome, refused, given, notAnEvent}
 use Rattle.method.specs.Stored.{Stored}
 use Rattle.method.specs.Step.{keptStored}
-use Rattle.figuring.specs.Fronts.{openAnswer}
+use Rattle.figures.specs.Fronts.{openAnswer}
 use Rattle.lines.specs.Text.{refusedLine, lastLine}
 use Rattle.lines.specs.declared.input.Next.{Next}
 use Rattle.lines.specs.declared.input.Next.the-variants.{Event, Cut, Ended}

@@ -1,5 +1,5 @@
 // What is printed for a taking's answer and at the end of a run, put to the front of lent bytes.
-use figuring::Open;
+use figures::Open;
 use lent::Answer;
 use lines::Next;
 use lines::put_last;

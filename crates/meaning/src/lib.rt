@@ -1,4 +1,19 @@
-// The types that definitions and code share. They hold plain numbers; what the numbers mean is in specs/.
+// The types and limits that definitions and code share. They hold plain numbers; what the numbers mean is in specs/.
+
+// Rows at most that a node has at a point, or an event.
+pub const MOST_ROWS: u32 = 32;
+
+// Open points at most.
+pub const MOST_OPEN: u32 = 32;
+
+// Times at most that are retained.
+pub const MOST_TIMES: usize = 64;
+
+// Entries at most that are kept.
+pub const MOST_KEPT: usize = 512;
+
+// Points at most that a log has.
+pub const MOST_POINTS: u32 = 10_000_000;
 
 // A point's number in the log, from 0: the paper's i.
 pub struct Point(pub u32);

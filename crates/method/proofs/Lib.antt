@@ -1,13 +1,12 @@
 -- Facts about the method.
 pub mod Counted
-pub mod Grown
+pub mod Sinces
 pub mod Lists
 pub mod Parents
 pub mod Held
 pub mod Keeps
 pub mod Seen
 pub mod Turns
-pub mod News
 pub mod Bounds
 pub mod Newly
 pub mod Sums

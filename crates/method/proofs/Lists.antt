@@ -5,14 +5,15 @@ use native.Mathlib.Omega.{arith}
 use mathlib.Core.Path.{_≡_, refl, _∙_, ap, ap₂}
 use mathlib.Core.Bool.{Bool, true, false, cond, _&&_}
 use mathlib.Core.Logic.{_⊎_, inl, inr}
-use mathlib.Core.List.{List, [], _∷_, _++_, map, append-nil, List·Memᴰ, List·Memᴰ·head, List·Memᴰ·tail}
+use mathlib.Core.List.{List, [], _∷_, _++_, map, append-nil, List·Memᴰ, List·Memᴰ·head, List·Memᴰ·tail, List·Memᴰ·not-nil, List·Memᴰ·cases-cons}
 use lib.Dec.{ltb, leb}
 use borrow.Author.Tests.{le-leb, lt-ltb, le-ltb, lt-leb}
 use Rattle.meaning.specs.Lists.{any, select, gather, range}
-use Rattle.meaning.specs.Log.{point, pointsFrom}
+use Rattle.meaning.specs.Log.{point, pointBefore, pointsFrom}
 use Rattle.meaning.specs.declared.Point.{Point}
 use Rattle.meaning.proofs.Rows.{both-ways, any-at, any-of, range-at, range-of}
 use Rattle.meaning.proofs.Points.{select-append, select-none, pointsFrom-append}
+use Rattle.method.specs.Settle.{backFrom}
 
 -- a test that some number of a run passes, decided by what it comes to
 pub any-is : (q : ℕ → Bool) (n : ℕ) (t : Bool) → ((i : ℕ) → i < n → q i ≡ true → t ≡ true) → (t ≡ true → (i : ℕ) × (i < n) × (q i ≡ true)) → any q (range 0 n) ≡ t
@@ -55,10 +56,42 @@ select-run p n lo hi a b h = ap (select p) parts ∙ select-append p (pointsFrom
         )
         (select-all p lo (hi - lo) (λ j u o. h j (omega arith) ∙ (rw (le-leb lo (j .0) (omega arith), lt-ltb (j .0) hi (omega arith)))))
 
+-- the points from start on up to i, the last first
+back-run : {j : Point} (i : Point) (n : ℕ) → n ≤ suc (i .0) → List·Memᴰ j (backFrom i n) → (suc (i .0) ≤ j .0 + n) × (j .0 ≤ i .0)
+back-run i zero h m = absurd (List·Memᴰ·not-nil m)
+back-run {j} i (suc n) h m = go (List·Memᴰ·cases-cons m) (back-run (pointBefore i) n (omega arith))
+  where
+    go : (j ≡ i) ⊎ List·Memᴰ j (backFrom (pointBefore i) n) → (List·Memᴰ j (backFrom (pointBefore i) n) → (suc (i .0 - 1) ≤ j .0 + n) × (j .0 ≤ i .0 - 1)) → (suc (i .0) ≤ j .0 + suc n) × (j .0 ≤ i .0)
+    go (inl e) below = let d : j .0 ≡ i .0 = ap (λ (p : Point). p .0) e in omega arith
+    go (inr k) below = let r = below k in omega (arith, r .0, r .1)
+
+pub back-at : {j : Point} (start i : Point) → start .0 ≤ i .0 → List·Memᴰ j (backFrom i (suc (i .0) - start .0)) → (start .0 ≤ j .0) × (j .0 ≤ i .0)
+back-at start i h m = let r = back-run i (suc (i .0) - start .0) (omega arith) m in omega (arith, r .0, r .1)
+
+run-back : {j : Point} (i : Point) (n : ℕ) → j .0 ≤ i .0 → suc (i .0) ≤ j .0 + n → List·Memᴰ j (backFrom i n)
+run-back i zero u o = absurd (omega arith)
+run-back {j} i (suc n) u o = go (eq-or-lt-of-le u) (λ v. run-back (pointBefore i) n (omega arith) (omega arith))
+  where
+    go : (j .0 ≡ i .0) ⊎ (j .0 < i .0) → (j .0 < i .0 → List·Memᴰ j (backFrom (pointBefore i) n)) → List·Memᴰ j (backFrom i (suc n))
+    go (inl e) below = List·Memᴰ·head (ap point e)
+    go (inr v) below = List·Memᴰ·tail (below v)
+
+pub back-of : {j : Point} (start i : Point) → start .0 ≤ j .0 → j .0 ≤ i .0 → List·Memᴰ j (backFrom i (suc (i .0) - start .0))
+back-of start i u o = run-back i (suc (i .0) - start .0) o (omega arith)
+
 module _ {A B : Type 0} where
   pub select-gather : (q : B → Bool) (f : A → List B) (xs : List A) → select q (gather f xs) ≡ gather (λ x. select q (f x)) xs
   select-gather q f [] = refl
   select-gather q f (x ∷ xs) = select-append q (f x) (gather f xs) ∙ ap (λ ys. select q (f x) ++ ys) (select-gather q f xs)
+
+  -- two tests and two functions that give the same at every element
+  pub gather-chosen : (p q : A → Bool) (f g : A → List B) (xs : List A) → ((x : A) → List·Memᴰ x xs → (p x ≡ q x) × (f x ≡ g x)) → gather f (select p xs) ≡ gather g (select q xs)
+  gather-chosen p q f g [] h = refl
+  gather-chosen p q f g (x ∷ xs) h = let e = h x (List·Memᴰ·head refl) in rw (e .0) (go (e .1) (gather-chosen p q f g xs (λ y m. h y (List·Memᴰ·tail m))) (q x))
+    where
+      go : f x ≡ g x → gather f (select p xs) ≡ gather g (select q xs) → (t : Bool) → gather f (cond t (x ∷ select p xs) (select p xs)) ≡ gather g (cond t (x ∷ select q xs) (select q xs))
+      go e rest true = ap₂ (λ s t. s ++ t) e rest
+      go e rest false = rest
 
   pub select-map : (q : B → Bool) (f : A → B) (xs : List A) → select q (map f xs) ≡ map f (select (λ x. q (f x)) xs)
   select-map q f [] = refl

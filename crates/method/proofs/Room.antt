@@ -1,26 +1,30 @@
 -- How much room a walk over the rule's tree needs at most: each node's sets more that the room can hold double the nodes that it is enough for.
-use Prim.Native.Nat.{ℕ, zero, suc, _+_, _*_, _^_, _≤_, _<_, max}
+use Prim.Native.Nat.{ℕ, zero, suc, _+_, _-_, _*_, _^_, _≤_, _<_, max}
 use native.Mathlib.Nat.{two-pow-succ}
 use native.Mathlib.Omega.{arith}
-use mathlib.Core.Path.{_≡_, refl, ap}
+use mathlib.Core.Path.{_≡_, refl, sym, ap, ap₂, _∙_}
 use mathlib.Core.Bool.{false}
-use mathlib.Core.List.{List, [], _∷_, List·Memᴰ}
-use lib.ListN.{length}
+use mathlib.Core.List.{List, [], _∷_, map, List·Memᴰ}
+use lib.ListN.{length, getD, drop, length-append, length-map}
 use lib.Dec.{ltb}
 use borrow.Author.Tests.{ltb-true, ltb-false}
-use Rattle.meaning.specs.Lists.{range}
+use Rattle.meaning.specs.Lists.{range, gather}
+use Rattle.meaning.specs.Log.{pointsFrom}
+use Rattle.meaning.specs.Kept.{Entry, entryOf}
+use Rattle.meaning.specs.declared.Point.{Point}
 use Rattle.meaning.specs.Outcome.{given, mostOpen, mostKept, mostRows}
 use Rattle.meaning.specs.RuleFile.{Accepted, checking, nodeCount, nodeAt, childrenOf, lastNode}
 use Rattle.meaning.specs.declared.Node.{Node}
 use Rattle.meaning.specs.declared.Node.the-variants.{Atom, And, AndNot, Keep, Or, Exists, Previous, Next, Since, NotSince, Until, NotUntil, Once, Eventually}
 use Rattle.meaning.proofs.Accepted.{nodes-most, last-is-node}
 use Rattle.meaning.proofs.Points.{Tested, passed, failed, tested}
-use Rattle.method.specs.Stored.{Stored}
+use Rattle.method.specs.Stored.{Stored, held, heldPairs}
+use Rattle.method.specs.Step.{wantedFrom, countBefore}
 use Rattle.method.specs.WellFormed.{ownEntries, Formed}
-use Rattle.method.specs.Room.{weight, isPrevious, otherAt, previousIn, othersIn, heavier, lighter, need, newPoints, rowsMost, setsNeeded, SettlesAtMost, mostSets, RoomEnough}
-use Rattle.method.proofs.Bounds.{below, by-children}
+use Rattle.method.specs.Room.{weight, isPrevious, otherAt, previousIn, othersIn, heavier, lighter, need, newPoints, keptRows, rowsMost, setsMost, setsNeeded, SettlesAtMost, mostSets, RoomEnough}
+use Rattle.method.proofs.Bounds.{below, by-children, span}
 use Rattle.method.proofs.Seen.{one, two}
-use Rattle.method.proofs.Sums.{length-gather}
+use Rattle.method.proofs.Sums.{sum-same, sum-plus, length-gather}
 use Rattle.method.proofs.Lags.{new-points}
 use Rattle.method.proofs.Weights.{both-sides, lighter-less, weight-step, weight-two, need-step, whole-weight, nodes-split, no-shares}
 
@@ -122,21 +126,46 @@ worst k q u = go (tested (ltb q 2)) (tested (ltb q 18)) (tested (ltb q 30))
     go (failed c) (failed d) (passed e) = (4, omega (arith, ltb-false), omega (arith, ltb-true))
     go (failed c) (failed d) (failed e) = (3, omega (arith, ltb-false), omega arith)
 
-module _ (s : Stored) (f : Formed s) where
-  kept-shares : weight (s .rule) (λ x. length (ownEntries s x)) (lastNode (s .rule)) ≤ mostKept
+-- each row of some sets as an entry
+pub entries-rows : (e : Point → List ℕ → Entry) (S : Point → List (List ℕ)) (js : List Point) → length (gather (λ j. map (e j) (S j)) js) ≡ length (gather S js)
+entries-rows e S [] = refl
+entries-rows e S (j ∷ js) =
+    length-append (map (e j) (S j)) (gather (λ j. map (e j) (S j)) js) ∙ ap₂ (λ p q. p + q) (length-map (S j) (e j)) (entries-rows e S js) ∙ sym (length-append (S j) (gather S js))
+
+module _ (s : Stored) (f : Formed s) (w : List ℕ) where
+  -- a node's entries are its rows and its pairs
+  entries-split : (x : ℕ) → length (ownEntries s x) ≡ length (keptRows s w x) + length (heldPairs (s .entries) x)
+  unfolding ownEntries
+  entries-split x =
+      let low : Point = wantedFrom (s .rule) (countBefore s) x in
+      length-append (gather (λ j. map (entryOf x 0 (j .0)) (held (s .entries) x j)) (pointsFrom low (countBefore s x - low .0))) _
+      ∙ ap₂ (λ p q. p + q) (entries-rows (λ j. entryOf x 0 (j .0)) (held (s .entries) x) (pointsFrom low (countBefore s x - low .0)))
+      (length-map (heldPairs (s .entries) x) (λ p. entryOf x 1 (getD p 0 0) (drop 1 p)))
+
+  kept-shares : weight (s .rule) (λ x. length (keptRows s w x)) (lastNode (s .rule)) ≤ mostKept
   kept-shares =
       let (a, ok) = f .accepted in
-      omega (arith, whole-weight (s .rule) a ok (λ x. length (ownEntries s x)), length-gather (ownEntries s) (range 0 (nodeCount (s .rule))), ap length (f .entries-own), f .few-kept)
+      let nodes : List ℕ = range 0 (nodeCount (s .rule)) in
+      omega (
+        arith,
+        whole-weight (s .rule) a ok (λ x. length (keptRows s w x)),
+        length-gather (ownEntries s) nodes,
+        sum-same (λ x. length (ownEntries s x)) (λ x. length (keptRows s w x) + length (heldPairs (s .entries) x)) nodes (λ x m. entries-split x),
+        sum-plus (λ x. length (keptRows s w x)) (λ x. length (heldPairs (s .entries) x)) nodes,
+        ap length (f .entries-own),
+        f .few-kept,
+      )
 
-  pub room-enough : (w : List ℕ) → RoomEnough s w
-  room-enough w =
+  pub room-enough : RoomEnough s w
+  room-enough =
       let (m, u, v) = worst (othersIn b (lastNode b)) q nodes in
       record {
         points = news;
         by-points = λ most m h u. within most m h (omega arith);
         calm = λ h. omega (arith, within 1 6 h (omega (arith, nodes)));
         sets = omega (arith, within (mostOpen + 1 + q) m news u);
-        rows = omega (arith, kept-shares, need-within b a ok (rowsMost s w) (λ x. length (ownEntries s x)) (mostRows * (mostOpen + 1 + q)) (λ x o. omega (arith, news x o)) (lastNode b) last m u);
+        rows = omega (arith, kept-shares, need-within b a ok (rowsMost s w) (λ x. length (keptRows s w x)) (mostRows * (mostOpen + 1 + q)) (λ x o. omega (arith, news x o)) (lastNode b) last m u);
+        marks = omega (arith, need-within b a ok (setsMost s w) (λ x. 0) 65 (λ x o. span s a ok (f .few-times) (f .times-many) w x o) (lastNode b) last 6 (omega (arith, nodes)), no-shares b a ok);
       }
     where
       b : List ℕ

@@ -1,19 +1,19 @@
--- One node at one point: from children's rows that are the evaluator's where the point consults them, `settle` gives the evaluator's rows there.
-use Prim.Native.Nat.{ℕ, zero, suc, _+_, _-_, _≤_, _<_, min}
+-- One node at a newly settled point: from children's rows that are the evaluator's where such points consult them, and the pairs of the point before the first such point, `settle` gives the evaluator's rows there and `pairsAfter` its pairs.
+use Prim.Native.Nat.{ℕ, suc, _+_, _-_, _≤_, _<_, min}
 use native.Mathlib.Omega.{arith}
-use mathlib.Core.Path.{_≡_, refl, sym, _∙_, ap, ap₂, fun-ext}
+use mathlib.Core.Path.{_≡_, refl, sym, _∙_, ap, ap₂}
 use mathlib.Core.Bool.{Bool, true, false, not, cond, _&&_, _||_}
-use mathlib.Core.List.{List, [], _∷_, _++_, map, append-nil, List·Memᴰ, List·Memᴰ·head, List·Memᴰ·tail}
+use mathlib.Core.List.{List, [], _∷_, append-nil, List·Memᴰ, List·Memᴰ·head, List·Memᴰ·tail}
 use lib.ListN.{length}
 use lib.Dec.{ltb, eqb}
-use borrow.Author.Tests.{ltb-true, ltb-false, lt-ltb, le-ltb, eqb-false, eq-eqb, ne-eqb}
+use borrow.Author.Tests.{ltb-true, ltb-false, lt-ltb, le-ltb, eq-eqb, ne-eqb}
 use Rattle.meaning.specs.Lists.{all, select, gather}
-use Rattle.meaning.specs.Log.{Log, Ordered, point, size, time, rowsAt, elapsed, pointBefore, pointAfter, pointsFrom}
+use Rattle.meaning.specs.Log.{Log, Ordered, size, time, rowsAt, elapsed, pointBefore, pointAfter, pointsFrom}
 use Rattle.meaning.specs.Formula.{Formula, free, termsOf, inWindow, variables}
 use Rattle.meaning.specs.Evaluator.{cutTo, valuationOf, setOf, atomRows, leading, untilRows, among, vals}
-use Rattle.meaning.specs.Settled.{settled, settledUntil}
+use Rattle.meaning.specs.Settled.{settled, settledSince, settledUntil}
 use Rattle.meaning.specs.RuleFile.{childrenOf, formulaOf}
-use Rattle.meaning.specs.Kept.{pairs, belowEnd}
+use Rattle.meaning.specs.Kept.{pairs}
 use Rattle.meaning.specs.declared.Point.{Point}
 use Rattle.meaning.specs.declared.Stamp.{Stamp}
 use Rattle.meaning.specs.declared.Window.{Window}
@@ -26,18 +26,17 @@ use Rattle.meaning.proofs.Agreement.{ascends, rows-length}
 use Rattle.meaning.proofs.Settles.{UntilSettled, until-parts, since-each, twin, present}
 use Rattle.meaning.proofs.Steady.{past-end}
 use Rattle.rowset.proofs.Places.{look-member}
-use Rattle.method.specs.Settle.{Sight, found, settle, grownBy, older, grow, pairsNow}
+use Rattle.method.specs.Settle.{Sight, found, settle, pairsAfter}
 use Rattle.method.specs.Step.{firstWanted}
 use Rattle.method.proofs.Counted.{Counted, counted-most}
-use Rattle.method.proofs.Grown.{Grows, since-grows, notSince-grows, once-grows}
+use Rattle.method.proofs.Sinces.{SameSince, rows-straight, pairs-straight}
 
--- What node n's turn at point i has to see: the stamps from the point before on, and its children's variables, counts and rows where the point consults them.
-pub record Sees (v : Sight) (l : Log) (F : ℕ → Formula) (n : Node) (i : Point) : Type 0 where
-  pub stamps : (j : Point) → i .0 ≤ suc (j .0) → j .0 < size l → v .stamps j ≡ time l j
+-- What node n's turn from point start on has to see: the stamps from the point before on, and its children's variables, counts and rows where these points consult them.
+pub record Sees (v : Sight) (l : Log) (F : ℕ → Formula) (n : Node) (start : Point) : Type 0 where
+  pub stamps : (j : Point) → start .0 ≤ suc (j .0) → j .0 < size l → v .stamps j ≡ time l j
   pub variables : v .free ≡ (λ y. free (F y))
   pub counts : (y : ℕ) → List·Memᴰ y (childrenOf n) → Counted l (F y) (v .count y)
-  pub fine : (y : ℕ) → List·Memᴰ y (childrenOf n) → Fine (F y)
-  pub rows : (y : ℕ) → List·Memᴰ y (childrenOf n) → (j : Point) → firstWanted n (i .0) .0 ≤ j .0 → j .0 < v .count y → v .rows y j ≡ vals l (F y) j
+  pub rows : (y : ℕ) → List·Memᴰ y (childrenOf n) → (j : Point) → firstWanted n (start .0) .0 ≤ j .0 → j .0 < v .count y → v .rows y j ≡ vals l (F y) j
 
 -- a child's rows, asked for a row
 found-among : (v : Sight) (l : Log) (F : ℕ → Formula) (a : ℕ) (k : Point) → Fine (F a) → v .free ≡ (λ y. free (F y)) → v .rows a k ≡ vals l (F a) k → (u : List ℕ) → found v a u k ≡ among (free (F a)) (vals l (F a)) u k
@@ -112,36 +111,13 @@ one = List·Memᴰ·head refl
 pub two : {x y : ℕ} {ys : List ℕ} → List·Memᴰ y (x ∷ y ∷ ys)
 two = List·Memᴰ·tail (List·Memᴰ·head refl)
 
--- an age of 0 is below every end
-age-below : (w : Window) → belowEnd w 0 ≡ true
-age-below w = go (tested (eqb (w .end) 0))
-  where
-    go : Tested (eqb (w .end) 0) → belowEnd w 0 ≡ true
-    go (passed e) = rw e
-    go (failed e) = rw e (lt-ltb 0 (w .end) (some (w .end) (eqb-false (w .end) 0 e)))
-      where
-        some : (d : ℕ) → (d ≡ 0 → ⊥) → 0 < d
-        some d h = omega arith
-
--- one equation for the first point and the later ones
-grows-at : {l : Log} {w : Window} {left : List ℕ → Point → Bool} {right pairsAt rowsAt : Point → List (List ℕ)} → Grows l w left right pairsAt rowsAt
-    → (i : Point) → i .0 < size l → pairsAt i ≡ grow (time l) w left right i (cond (eqb (i .0) 0) [] (pairsAt (pointBefore i)))
-grows-at {l} {w} {left} {right} {pairsAt} g i n = go (i .0) refl
-  where
-    last : (k : ℕ) → cond (eqb (suc k) 0) [] (pairsAt (pointBefore (point (suc k)))) ≡ pairsAt (point k)
-    last k = let z : suc k - 1 ≡ k = omega arith in rw (ne-eqb (suc k) 0 (λ d. omega arith), z)
-
-    go : (k : ℕ) → i .0 ≡ k → pairsAt (point k) ≡ grow (time l) w left right (point k) (cond (eqb k 0) [] (pairsAt (pointBefore (point k))))
-    go zero e = g .first
-    go (suc k) e = g .next k (omega arith) ∙ ap (grow (time l) w left right (point (suc k))) (sym (last k))
-
-module _ (v : Sight) (l : Log) (ordered : Ordered l) (F : ℕ → Formula) (i : Point) where
+module _ (v : Sight) (l : Log) (ordered : Ordered l) (F : ℕ → Formula) (start i : Point) (from : start .0 ≤ i .0) where
   -- the rows of a child at a point that is consulted and settled
-  seen : (n : Node) → Sees v l F n i → (y : ℕ) → List·Memᴰ y (childrenOf n) → (j : Point) → firstWanted n (i .0) .0 ≤ j .0 → settled l (F y) j ≡ true → v .rows y j ≡ vals l (F y) j
+  seen : (n : Node) → Sees v l F n start → (y : ℕ) → List·Memᴰ y (childrenOf n) → (j : Point) → firstWanted n (start .0) .0 ≤ j .0 → settled l (F y) j ≡ true → v .rows y j ≡ vals l (F y) j
   seen n s y m j u e = s .rows y m j u (below l (F y) (v .count y) (s .counts y m) j e)
 
   -- until over two children, with a test of left that is the same
-  settle-two : (n : Node) → Sees v l F n i → (a b : ℕ) → List·Memᴰ a (childrenOf n) → List·Memᴰ b (childrenOf n) → firstWanted n (i .0) .0 ≡ i .0 → (w : Window) → 0 < w .end
+  settle-two : (n : Node) → Sees v l F n start → (a b : ℕ) → List·Memᴰ a (childrenOf n) → List·Memᴰ b (childrenOf n) → firstWanted n (start .0) .0 ≡ start .0 → (w : Window) → 0 < w .end
       → settledUntil l w (twin l (F a) (F b)) i ≡ true → (left left' : List ℕ → Point → Bool)
       → ((j : Point) → v .rows a j ≡ vals l (F a) j → (u : List ℕ) → left u j ≡ left' u j)
       → untilRows (v .stamps) (min (v .count a) (v .count b)) w left (v .rows b) i ≡ untilRows (time l) (size l) w left' (vals l (F b)) i
@@ -153,8 +129,39 @@ module _ (v : Sight) (l : Log) (ordered : Ordered l) (F : ℕ → Formula) (i : 
       (λ j u o. same j (s .rows a ma j (omega arith) (omega arith)))
       (λ j u o. s .rows b mb j (omega arith) (omega arith))
 
-  pub settle-right : (n : Node) → Sees v l F n i → Fine (formulaOf F n) → settled l (formulaOf F n) i ≡ true → (childrenOf n ≡ [] → v .event ≡ rowsAt l i)
-      → settle v (pairs l (formulaOf F n) i) i n ≡ vals l (formulaOf F n) i
+  -- since over two children, with a test of left that is the same
+  sees-two : (n : Node) → Sees v l F n start → (a b : ℕ) → List·Memᴰ a (childrenOf n) → List·Memᴰ b (childrenOf n) → firstWanted n (start .0) .0 ≡ start .0 → i .0 < size l
+      → settledSince (twin l (F a) (F b)) i ≡ true → (left left' : List ℕ → Point → Bool)
+      → ((j : Point) → v .rows a j ≡ vals l (F a) j → (u : List ℕ) → left u j ≡ left' u j)
+      → SameSince (v .stamps) (time l) left left' (v .rows b) (vals l (F b)) start i
+  sees-two n s a b ma mb wanted here e left left' same =
+      record {
+        order = from;
+        stamps = λ j u o. s .stamps j u (omega arith);
+        lefts = λ j u o. same j (seen n s a ma j (omega arith) (first (settled l (F a) j) (settled l (F b) j) (since-each (twin l (F a) (F b)) i e j o)));
+        rights = λ j u o. seen n s b mb j (omega arith) (second (settled l (F a) j) (settled l (F b) j) (since-each (twin l (F a) (F b)) i e j o));
+      }
+
+  sees-since : (a b : ℕ) (w : Window) → Sees v l F (Since a b w) start → Fine (formulaOf F (Since a b w)) → settled l (formulaOf F (Since a b w)) i ≡ true
+      → SameSince (v .stamps) (time l) (found v a) (among (free (F a)) (vals l (F a))) (v .rows b) (vals l (F b)) start i
+  sees-since a b w s f e = sees-two (Since a b w) s a b one two refl (present l (formulaOf F (Since a b w)) i e) e _ _ (λ j. found-among v l F a j (f .0) (s .variables))
+
+  sees-notSince : (a b : ℕ) (w : Window) → Sees v l F (NotSince a b w) start → Fine (formulaOf F (NotSince a b w)) → settled l (formulaOf F (NotSince a b w)) i ≡ true
+      → SameSince (v .stamps) (time l) (λ u k. not (found v a u k)) (λ u k. not (among (free (F a)) (vals l (F a)) u k)) (v .rows b) (vals l (F b)) start i
+  sees-notSince a b w s f e = sees-two (NotSince a b w) s a b one two refl (present l (formulaOf F (NotSince a b w)) i e) e _ _ (λ j p u. ap not (found-among v l F a j (f .0) (s .variables) p u))
+
+  sees-once : (a : ℕ) (w : Window) → Sees v l F (Once a w) start → settled l (formulaOf F (Once a w)) i ≡ true
+      → SameSince (v .stamps) (time l) (λ u k. true) (λ u k. true) (v .rows a) (vals l (F a)) start i
+  sees-once a w s e =
+      record {
+        order = from;
+        stamps = λ j u o. s .stamps j u (omega (arith, present l (formulaOf F (Once a w)) i e));
+        lefts = λ j u o x. refl;
+        rights = λ j u o. seen (Once a w) s a one j u (since-each (settled l (F a)) i e j o);
+      }
+
+  pub settle-right : (n : Node) → Sees v l F n start → Fine (formulaOf F n) → settled l (formulaOf F n) i ≡ true → (childrenOf n ≡ [] → v .event ≡ rowsAt l i)
+      → settle v (pairsBefore l (formulaOf F n) start) start i n ≡ vals l (formulaOf F n) i
   unfolding settle
   settle-right (Atom r t) s f e h = ap (λ rows. setOf (atomRows r (termsOf t) rows)) (h refl)
   settle-right (And a b) s f e h =
@@ -182,29 +189,20 @@ module _ (v : Sight) (l : Log) (ordered : Ordered l) (F : ℕ → Formula) (i : 
   settle-right (Next a w) s f e h =
       let n : suc (i .0) < size l = present l (F a) (pointAfter i) e in
       rw (lt-ltb (suc (i .0)) (size l) n, s .stamps i (omega arith) (omega arith), s .stamps (pointAfter i) (omega arith) n, seen (Next a w) s a one (pointAfter i) (omega arith) e)
-  settle-right (Since a b w) s f e h = sym (since-grows l ordered w (age-below w) (F a) (F b) (f .1) .rows i)
-  settle-right (NotSince a b w) s f e h = sym (notSince-grows l ordered w (age-below w) (F a) (F b) (f .1) .rows i)
+  settle-right (Since a b w) s f e h = rows-straight l ordered w (sees-since a b w s f e) (rows-length l (F b) (f .1)) (present l (formulaOf F (Since a b w)) i e)
+  settle-right (NotSince a b w) s f e h = rows-straight l ordered w (sees-notSince a b w s f e) (rows-length l (F b) (f .1)) (present l (formulaOf F (NotSince a b w)) i e)
   settle-right (Until a b w) s f e h =
       ap setOf (settle-two (Until a b w) s a b one two refl w (f .3) e (found v a) (among (free (F a)) (vals l (F a))) (λ j p. found-among v l F a j (f .0) (s .variables) p))
   settle-right (NotUntil a b w) s f e h =
       ap setOf (settle-two (NotUntil a b w) s a b one two refl w (f .3) e (λ u k. not (found v a u k)) (λ u k. not (among (free (F a)) (vals l (F a)) u k)) (λ j p u. ap not (found-among v l F a j (f .0) (s .variables) p u)))
-  settle-right (Once a w) s f e h = sym (once-grows l ordered w (age-below w) (F a) f .rows i)
+  settle-right (Once a w) s f e h = rows-straight l ordered w (sees-once a w s e) (rows-length l (F a) f) (present l (formulaOf F (Once a w)) i e)
   settle-right (Eventually a w) s f e h =
       ap setOf
       (settle-until l (v .stamps) w (settled l (F a)) (v .count a) (λ u k. true) (λ u k. true) (v .rows a) (vals l (F a)) i (f .1) (s .counts a one)
-      (counted-most l (F a) (v .count a) (s .counts a one)) e (λ j u o. s .stamps j (omega arith) o) (λ j u o x. refl) (λ j u o. s .rows a one j u o))
+      (counted-most l (F a) (v .count a) (s .counts a one)) e (λ j u o. s .stamps j (omega arith) o) (λ j u o x. refl) (λ j u o. s .rows a one j (omega arith) o))
 
-  -- growing pairs by what is seen
-  grow-seen : (w : Window) (left left' : List ℕ → Point → Bool) (right right' : Point → List (List ℕ)) (ps : List (List ℕ))
-      → ((j : Point) → i .0 ≤ suc (j .0) → j .0 < size l → v .stamps j ≡ time l j) → i .0 < size l
-      → ((u : List ℕ) → left u i ≡ left' u i) → right i ≡ right' i → grow (v .stamps) w left right i ps ≡ grow (time l) w left' right' i ps
-  grow-seen w left left' right right' ps t n p q = rw (q, by) (ap (λ g. setOf (map (λ u. 0 ∷ u) (right' i) ++ older w (grownBy (time l) i) g ps)) (fun-ext p))
-    where
-      by : grownBy (v .stamps) i ≡ grownBy (time l) i
-      by = ap₂ (λ s s'. cond (eqb (i .0) 0) 0 (elapsed s s')) (t (pointBefore i) (omega arith) (omega arith)) (t i (omega arith) n)
-
-  pub pairs-right : (n : Node) → Sees v l F n i → Fine (formulaOf F n) → settled l (formulaOf F n) i ≡ true
-      → pairsNow v (pairsBefore l (formulaOf F n) i) i n ≡ pairs l (formulaOf F n) i
+  pub pairs-right : (n : Node) → Sees v l F n start → Fine (formulaOf F n) → settled l (formulaOf F n) i ≡ true
+      → pairsAfter v (pairsBefore l (formulaOf F n) start) start i n ≡ pairs l (formulaOf F n) i
   pairs-right (Atom r t) s f e = refl
   pairs-right (And a b) s f e = refl
   pairs-right (AndNot a b) s f e = refl
@@ -213,22 +211,9 @@ module _ (v : Sight) (l : Log) (ordered : Ordered l) (F : ℕ → Formula) (i : 
   pairs-right (Exists a x) s f e = refl
   pairs-right (Previous a w) s f e = refl
   pairs-right (Next a w) s f e = refl
-  pairs-right (Since a b w) s f e =
-      let p : v .rows a i ≡ vals l (F a) i = seen (Since a b w) s a one i (omega arith) (first (settled l (F a) i) (settled l (F b) i) (since-each (twin l (F a) (F b)) i e i (omega arith))) in
-      let q : v .rows b i ≡ vals l (F b) i = seen (Since a b w) s b two i (omega arith) (second (settled l (F a) i) (settled l (F b) i) (since-each (twin l (F a) (F b)) i e i (omega arith))) in
-      grow-seen w (found v a) (among (free (F a)) (vals l (F a))) (v .rows b) (vals l (F b)) (pairsBefore l (formulaOf F (Since a b w)) i) (s .stamps) (present l (formulaOf F (Since a b w)) i e)
-      (found-among v l F a i (f .0) (s .variables) p) q
-      ∙ sym (grows-at (since-grows l ordered w (age-below w) (F a) (F b) (f .1)) i (present l (formulaOf F (Since a b w)) i e))
-  pairs-right (NotSince a b w) s f e =
-      let p : v .rows a i ≡ vals l (F a) i = seen (NotSince a b w) s a one i (omega arith) (first (settled l (F a) i) (settled l (F b) i) (since-each (twin l (F a) (F b)) i e i (omega arith))) in
-      let q : v .rows b i ≡ vals l (F b) i = seen (NotSince a b w) s b two i (omega arith) (second (settled l (F a) i) (settled l (F b) i) (since-each (twin l (F a) (F b)) i e i (omega arith))) in
-      grow-seen w (λ u k. not (found v a u k)) (λ u k. not (among (free (F a)) (vals l (F a)) u k)) (v .rows b) (vals l (F b)) (pairsBefore l (formulaOf F (NotSince a b w)) i) (s .stamps) (present l (formulaOf F (NotSince a b w)) i e)
-      (λ u. ap not (found-among v l F a i (f .0) (s .variables) p u)) q
-      ∙ sym (grows-at (notSince-grows l ordered w (age-below w) (F a) (F b) (f .1)) i (present l (formulaOf F (NotSince a b w)) i e))
+  pairs-right (Since a b w) s f e = pairs-straight l ordered w (sees-since a b w s f e) (rows-length l (F b) (f .1)) (present l (formulaOf F (Since a b w)) i e)
+  pairs-right (NotSince a b w) s f e = pairs-straight l ordered w (sees-notSince a b w s f e) (rows-length l (F b) (f .1)) (present l (formulaOf F (NotSince a b w)) i e)
   pairs-right (Until a b w) s f e = refl
   pairs-right (NotUntil a b w) s f e = refl
-  pairs-right (Once a w) s f e =
-      grow-seen w (λ u k. true) (λ u k. true) (v .rows a) (vals l (F a)) (pairsBefore l (formulaOf F (Once a w)) i) (s .stamps) (present l (formulaOf F (Once a w)) i e)
-      (λ u. refl) (seen (Once a w) s a one i (omega arith) (since-each (settled l (F a)) i e i (omega arith)))
-      ∙ sym (grows-at (once-grows l ordered w (age-below w) (F a) f) i (present l (formulaOf F (Once a w)) i e))
+  pairs-right (Once a w) s f e = pairs-straight l ordered w (sees-once a w s e) (rows-length l (F a) f) (present l (formulaOf F (Once a w)) i e)
   pairs-right (Eventually a w) s f e = refl

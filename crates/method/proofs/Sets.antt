@@ -2,17 +2,17 @@
 use Prim.Native.Nat.{ℕ, zero, suc, _-_, _≤_, _<_}
 use native.Mathlib.Omega.{arith}
 use mathlib.Core.Path.{_≡_, refl, sym, subst}
-use mathlib.Core.Bool.{Bool, true, not, _&&_}
+use mathlib.Core.Bool.{Bool, true, _&&_}
 use mathlib.Core.Logic.{inl, inr, Iff·rfl}
-use mathlib.Core.List.{List, [], _∷_, _++_, map, List·Memᴰ, List·Memᴰ·head, List·Memᴰ·tail, List·Memᴰ·not-nil, List·Memᴰ·cases-cons, List·Memᴰ·append-cases, Memᴰ·of-map}
+use mathlib.Core.List.{List, [], _∷_, _++_, map, List·Memᴰ, List·Memᴰ·head, List·Memᴰ·tail, List·Memᴰ·not-nil, List·Memᴰ·append-cases, Memᴰ·of-map}
 use lib.ListN.{length, getD, drop}
 use lib.Dec.{ltb, eqb}
 use borrow.Author.Tests.{eqb-true}
-use Rattle.meaning.specs.Lists.{all, select}
+use Rattle.meaning.specs.Lists.{all, select, gather}
 use Rattle.meaning.specs.Order.{ascending}
 use Rattle.meaning.specs.Log.{point, elapsed, pointBefore, pointAfter, pointsFrom}
 use Rattle.meaning.specs.Formula.{Formula, inWindow, free, termsOf}
-use Rattle.meaning.specs.Evaluator.{cutTo, valuationOf, setOf, leading, untilRows}
+use Rattle.meaning.specs.Evaluator.{cutTo, valuationOf, setOf, lasting, leading, untilRows}
 use Rattle.meaning.specs.Exact.{Exact}
 use Rattle.meaning.specs.RuleFile.{nodeCount, nodeAt, childrenOf, formulaOf, formulaAt}
 use Rattle.meaning.specs.Event.{pointOf}
@@ -27,7 +27,7 @@ use Rattle.meaning.proofs.Agreement.{gives-or, gives-exists, gives-and, gives-a
 use Rattle.meaning.proofs.Points.{first, second}
 use Rattle.meaning.proofs.Rows.{all-at, cond-at, select-at, gather-at, same-row, insertAll-at, setOf-ascends}
 use Rattle.method.specs.Stored.{Stored, held, heldPairs}
-use Rattle.method.specs.Settle.{Sight, found, oldEnough, candidates, settle, grow, pairsNow, rowsOfTurn}
+use Rattle.method.specs.Settle.{Sight, fresh, rowsSince, candidates, settle, rowsOfTurn}
 use Rattle.method.specs.Step.{wantedFrom, newRows, turnOf, sightOf, turnsTo, stampsNow, countBefore, countAfter, turn}
 use Rattle.method.specs.WellFormed.{rowOfNode, setFits, pairFits, pairsFit, nodeFits, Formed}
 use Rattle.method.proofs.Bounds.{by-children}
@@ -69,17 +69,16 @@ module _ (v : Sight) {f : ℕ → Bool} where
       let (j, a, k) = gather-at (leading left right i) (select (λ j. inWindow w (elapsed (v .stamps i) (v .stamps j))) (pointsFrom i (n - i .0))) m in
       r j .cut u (select-at _ (right j) k .0)
 
-  old-cut : (w : Window) {ps : List (List ℕ)} → PairsOf f ps → (u : List ℕ) → List·Memᴰ u (oldEnough w ps) → Cut f u
-  old-cut w {ps} c u m = let (p, k, e) = Memᴰ·of-map (drop 1) _ m in subst (Cut f) e (c .cut p (select-at _ ps k .0))
-
-  grow-cut : (w : Window) (left : List ℕ → Point → Bool) (right : Point → List (List ℕ)) (i : Point) {ps : List (List ℕ)} → RowsOf f (right i) → PairsOf f ps → PairsOf f (grow (v .stamps) w left right i ps)
-  grow-cut w left right i {ps} r c =
-      record {
-        cut = λ p m. elim (List·Memᴰ·append-cases (map (λ u. 0 ∷ u) (right i)) (set-at _ m)) [
-          | inl k ↦ let (u, n, e) = Memᴰ·of-map (λ u. 0 ∷ u) (right i) k in subst (λ q. Cut f (drop 1 q)) e (r .cut u n)
-          | inr k ↦ let (q, n, e) = Memᴰ·of-map _ _ k in subst (λ z. Cut f (drop 1 z)) e (c .cut q (select-at _ ps n .0))
-        ];
-      }
+  since-cut : (w : Window) (left : List ℕ → Point → Bool) (right : Point → List (List ℕ)) (held : List (List ℕ)) (start i : Point) → ((j : Point) → RowsOf f (right j)) → PairsOf f held
+      → (u : List ℕ) → List·Memᴰ u (rowsSince (v .stamps) w left right held start i) → Cut f u
+  unfolding rowsSince
+  since-cut w left right held start i r c u m = elim (List·Memᴰ·append-cases (gather (lasting left right i) new) m) [
+    | inl k ↦ let (j, a, n) = gather-at (lasting left right i) new k in r j .cut u (select-at _ (right j) n .0)
+    | inr k ↦ let (p, n, e) = Memᴰ·of-map (drop 1) _ k in subst (Cut f) e (c .cut p (select-at _ held n .0))
+  ]
+    where
+      new : List Point
+      new = select (λ j. inWindow w (elapsed (v .stamps j) (v .stamps i))) (fresh (v .stamps) w left right held start i)
 
 no-pairs : (f : ℕ → Bool) → PairsOf f []
 no-pairs f = record { cut = λ p m. absurd (List·Memᴰ·not-nil m) }
@@ -89,50 +88,27 @@ module _ (F : ℕ → Formula) (v : Sight) (same : v .free ≡ (λ y. free (F y)
   abbrev Children : Node → Type 0
   Children n = (y : ℕ) → List·Memᴰ y (childrenOf n) → (j : Point) → RowsOf (free (F y)) (v .rows y j)
 
-  candidates-cut : (n : Node) → Fine (formulaOf F n) → Children n → (ps : List (List ℕ)) → PairsOf (free (formulaOf F n)) ps → (i : Point) (u : List ℕ) → List·Memᴰ u (candidates v ps i n) → Cut (free (formulaOf F n)) u
-  candidates-cut (Atom r t) f s ps c i u m = gives-atom r (termsOf t) f (v .event) .cut u m
-  candidates-cut (And a b) f s ps c i u m = gives-and (exactly (s a one i)) (exactly (s b two i)) .cut u (rw same at m)
-  candidates-cut (AndNot a b) f s ps c i u m = s a one i .cut u (select-at _ (v .rows a i) m .0)
-  candidates-cut (Keep a k t) f s ps c i u m = s a one i .cut u (select-at _ (v .rows a i) m .0)
-  candidates-cut (Or a b) f s ps c i u m = gives-or (exactly (s a one i)) (exactly (s b two i)) (f .2) (f .3) .cut u m
-  candidates-cut (Exists a x) f s ps c i u m = gives-exists (exactly (s a one i)) x .cut u m
-  candidates-cut (Previous a w) f s ps c i u m = s a one (pointBefore i) .cut u (cond-at (ltb 0 (i .0) && inWindow w (elapsed (v .stamps (pointBefore i)) (v .stamps i))) (v .rows a (pointBefore i)) m .1)
-  candidates-cut (Next a w) f s ps c i u m = s a one (pointAfter i) .cut u (cond-at (inWindow w (elapsed (v .stamps i) (v .stamps (pointAfter i)))) (v .rows a (pointAfter i)) m .1)
-  candidates-cut (Since a b w) f s ps c i u m = old-cut v w c u m
-  candidates-cut (NotSince a b w) f s ps c i u m = old-cut v w c u m
-  candidates-cut (Until a b w) f s ps c i u m = until-cut v _ w _ (v .rows b) i (s b two) u m
-  candidates-cut (NotUntil a b w) f s ps c i u m = until-cut v _ w _ (v .rows b) i (s b two) u m
-  candidates-cut (Once a w) f s ps c i u m = old-cut v w c u m
-  candidates-cut (Eventually a w) f s ps c i u m = until-cut v _ w _ (v .rows a) i (s a one) u m
+  candidates-cut : (n : Node) → Fine (formulaOf F n) → Children n → (ps : List (List ℕ)) → PairsOf (free (formulaOf F n)) ps → (start i : Point) (u : List ℕ) → List·Memᴰ u (candidates v ps start i n) → Cut (free (formulaOf F n)) u
+  candidates-cut (Atom r t) f s ps c start i u m = gives-atom r (termsOf t) f (v .event) .cut u m
+  candidates-cut (And a b) f s ps c start i u m = gives-and (exactly (s a one i)) (exactly (s b two i)) .cut u (rw same at m)
+  candidates-cut (AndNot a b) f s ps c start i u m = s a one i .cut u (select-at _ (v .rows a i) m .0)
+  candidates-cut (Keep a k t) f s ps c start i u m = s a one i .cut u (select-at _ (v .rows a i) m .0)
+  candidates-cut (Or a b) f s ps c start i u m = gives-or (exactly (s a one i)) (exactly (s b two i)) (f .2) (f .3) .cut u m
+  candidates-cut (Exists a x) f s ps c start i u m = gives-exists (exactly (s a one i)) x .cut u m
+  candidates-cut (Previous a w) f s ps c start i u m = s a one (pointBefore i) .cut u (cond-at (ltb 0 (i .0) && inWindow w (elapsed (v .stamps (pointBefore i)) (v .stamps i))) (v .rows a (pointBefore i)) m .1)
+  candidates-cut (Next a w) f s ps c start i u m = s a one (pointAfter i) .cut u (cond-at (inWindow w (elapsed (v .stamps i) (v .stamps (pointAfter i)))) (v .rows a (pointAfter i)) m .1)
+  candidates-cut (Since a b w) f s ps c start i u m = since-cut v w _ (v .rows b) ps start i (s b two) c u m
+  candidates-cut (NotSince a b w) f s ps c start i u m = since-cut v w _ (v .rows b) ps start i (s b two) c u m
+  candidates-cut (Until a b w) f s ps c start i u m = until-cut v _ w _ (v .rows b) i (s b two) u m
+  candidates-cut (NotUntil a b w) f s ps c start i u m = until-cut v _ w _ (v .rows b) i (s b two) u m
+  candidates-cut (Once a w) f s ps c start i u m = since-cut v w _ (v .rows a) ps start i (s a one) c u m
+  candidates-cut (Eventually a w) f s ps c start i u m = until-cut v _ w _ (v .rows a) i (s a one) u m
 
-  pairs-cut : (n : Node) → Children n → (ps : List (List ℕ)) → PairsOf (free (formulaOf F n)) ps → (i : Point) → PairsOf (free (formulaOf F n)) (pairsNow v ps i n)
-  pairs-cut (Atom r t) s ps c i = no-pairs _
-  pairs-cut (And a b) s ps c i = no-pairs _
-  pairs-cut (AndNot a b) s ps c i = no-pairs _
-  pairs-cut (Keep a k t) s ps c i = no-pairs _
-  pairs-cut (Or a b) s ps c i = no-pairs _
-  pairs-cut (Exists a x) s ps c i = no-pairs _
-  pairs-cut (Previous a w) s ps c i = no-pairs _
-  pairs-cut (Next a w) s ps c i = no-pairs _
-  pairs-cut (Since a b w) s ps c i = grow-cut v w (found v a) (v .rows b) i (s b two i) c
-  pairs-cut (NotSince a b w) s ps c i = grow-cut v w (λ u k. not (found v a u k)) (v .rows b) i (s b two i) c
-  pairs-cut (Until a b w) s ps c i = no-pairs _
-  pairs-cut (NotUntil a b w) s ps c i = no-pairs _
-  pairs-cut (Once a w) s ps c i = grow-cut v w (λ u k. true) (v .rows a) i (s a one i) c
-  pairs-cut (Eventually a w) s ps c i = no-pairs _
-
-  settle-rows : (n : Node) → Fine (formulaOf F n) → Children n → (ps : List (List ℕ)) → PairsOf (free (formulaOf F n)) ps → (i : Point) → RowsOf (free (formulaOf F n)) (settle v ps i n)
+  new-rows : (n : Node) → Fine (formulaOf F n) → Children n → (start : Point) (count : ℕ) (ps : List (List ℕ)) → PairsOf (free (formulaOf F n)) ps → (rows : List (List ℕ)) → List·Memᴰ rows (newRows v n start count ps) → RowsOf (free (formulaOf F n)) rows
   unfolding settle
-  settle-rows n f s ps c i = record { ascends = setOf-ascends (candidates v ps i n); cut = λ u m. candidates-cut n f s ps c i u (set-at (candidates v ps i n) m) }
-
-  new-rows : (n : Node) → Fine (formulaOf F n) → Children n → (i : Point) (count : ℕ) (ps : List (List ℕ)) → PairsOf (free (formulaOf F n)) ps → (rows : List (List ℕ)) → List·Memᴰ rows (newRows v n i count ps) → RowsOf (free (formulaOf F n)) rows
-  new-rows n f s i zero ps c rows m = absurd (List·Memᴰ·not-nil m)
-  new-rows n f s i (suc count) ps c rows m =
-      let d : PairsOf (free (formulaOf F n)) (pairsNow v ps i n) = pairs-cut n s ps c i in
-      elim (List·Memᴰ·cases-cons m) [
-        | inl e ↦ subst (RowsOf (free (formulaOf F n))) (sym e) (settle-rows n f s (pairsNow v ps i n) d i)
-        | inr k ↦ new-rows n f s (pointAfter i) count (pairsNow v ps i n) d rows k
-      ]
+  new-rows n f s start count ps c rows m =
+      let (i, k, e) = Memᴰ·of-map (λ i. settle v ps start i n) (pointsFrom start count) m in
+      subst (RowsOf (free (formulaOf F n))) e (record { ascends = setOf-ascends (candidates v ps start i n); cut = λ u k. candidates-cut n f s ps c start i u (set-at (candidates v ps start i n) k) })
 
 -- ---- what is held
 

@@ -38,7 +38,7 @@ use Rattle.method.proofs.Lists.{gather-each, select-run}
 use Rattle.method.proofs.Keeps.{wanted-low, held-is, heldPairs-is, entries-run}
 use Rattle.method.proofs.Seen.{Sees, pairsBefore}
 use Rattle.method.proofs.Bounds.{Placed, at-last, with-parent, placed, wanted-under, wanted-moves}
-use Rattle.method.proofs.Turns.{any-over, least-below, least-most, least-grows, drop-points, gather-over, from-getD, points-length, getD-points, map-points, map-append, Ready, new-rows, new-pairs, atom-counted, wanted-on, turns-at, turns-seen}
+use Rattle.method.proofs.Turns.{any-over, least-below, least-most, least-grows, drop-points, gather-over, from-getD, points-length, getD-points, map-points, map-append, Ready, new-rows, new-pairs, atom-counted, turns-at, turns-seen}
 use Rattle.method.proofs.Newly.{newly-run}
 
 -- no point, no time
@@ -226,12 +226,9 @@ module _ (b : List ℕ) (a : Accepted) (ok : checking b ≡ given a) (l : Log) (
     unfolding rowsAt
     new-rows-are = ap (λ (p : LogPoint). p .rows) (sym new-point)
 
-    ready : (x : ℕ) (o : x < nodeCount b) → ((y : ℕ) → y < x → TurnRight y) → (i : Point) → was x ≤ i .0 → i .0 < is x → Ready (sight x) l' ordered' (formulaAt b) (nodeAt b x) (fine-node x o) i
-    ready x o under i u v = (sees, holds, event)
+    ready : (x : ℕ) (o : x < nodeCount b) → (i : Point) → was x ≤ i .0 → i .0 < is x → Ready (sight x) l' ordered' (formulaAt b) (nodeAt b x) (fine-node x o) i
+    ready x o i u v = (holds, event)
       where
-        low : (y : ℕ) → List·Memᴰ y (childrenOf (nodeAt b x)) → y < x
-        low y m = lower b (nodeCount b) (accepted b a ok .each) x o x (omega arith) y m
-
         holds : settled l' (formulaOf (formulaAt b) (nodeAt b x)) i ≡ true
         holds = subst (λ φ. settled l' φ i ≡ true) (stepped x o) (upto-holds (settled l' (formulaAt b x)) (is x) (is-counted x o) i v)
 
@@ -242,17 +239,19 @@ module _ (b : List ℕ) (a : Accepted) (ok : checking b ≡ given a) (l : Log) (
             let z : size l ≡ i .0 = omega (arith, size-grown) in
             new-rows-are ∙ ap (λ j. rowsAt l' (point j)) z
 
-        sees : Sees (sight x) l' (formulaAt b) (nodeAt b x) i
-        sees =
-            record {
-              stamps = λ j p q. stamps-right j (omega (arith, base-low x o)) q;
-              variables = refl;
-              counts = λ y m. subst (Counted l' (formulaAt b y)) (sym (count-after y (omega (arith, low y m)))) (is-counted y (omega (arith, low y m)));
-              fine = λ y m. fine b a ok y (omega (arith, low y m));
-              rows = λ y m j p q.
-                  ap (λ (r : Point → List (List ℕ)). r j) (sight-rows x y (low y m) o)
-                  ∙ under y (low y m) .rows j (omega (arith, wanted-under b a ok was x o y m, wanted-on (nodeAt b x) (was x) (i .0) u)) (omega (arith, count-after y (omega (arith, low y m))));
-            }
+    sees : (x : ℕ) → x < nodeCount b → ((y : ℕ) → y < x → TurnRight y) → Sees (sight x) l' (formulaAt b) (nodeAt b x) (point (was x))
+    sees x o under =
+        record {
+          stamps = λ j p q. stamps-right j (omega (arith, base-low x o)) q;
+          variables = refl;
+          counts = λ y m. subst (Counted l' (formulaAt b y)) (sym (count-after y (omega (arith, low y m)))) (is-counted y (omega (arith, low y m)));
+          rows = λ y m j p q.
+              ap (λ (r : Point → List (List ℕ)). r j) (sight-rows x y (low y m) o)
+              ∙ under y (low y m) .rows j (omega (arith, wanted-under b a ok was x o y m)) (omega (arith, count-after y (omega (arith, low y m))));
+        }
+      where
+        low : (y : ℕ) → List·Memᴰ y (childrenOf (nodeAt b x)) → y < x
+        low y m = lower b (nodeCount b) (accepted b a ok .each) x o x (omega arith) y m
 
     -- the pairs as the turn begins, and as it ends
     start-pairs : (x : ℕ) → x < nodeCount b → heldPairs (entries b l) x ≡ pairsBefore l' (formulaAt b x) (point (was x))
@@ -280,7 +279,7 @@ module _ (b : List ℕ) (a : Accepted) (ok : checking b ≡ given a) (l : Log) (
       node = nodeAt b x
 
       ready-run : (j : Point) → was x ≤ j .0 → j .0 < was x + (is x - was x) → Ready (sight x) l' ordered' (formulaAt b) node (fine-node x o) j
-      ready-run j u v = ready x o under j u (omega (arith, was-is x o))
+      ready-run j u v = ready x o j u (omega (arith, was-is x o))
 
       old-rows : map (held (entries b l) x) (pointsFrom lo (was x - lo .0)) ≡ map (vals l' (formulaAt b x)) (pointsFrom lo (was x - lo .0))
       old-rows =
@@ -291,14 +290,14 @@ module _ (b : List ℕ) (a : Accepted) (ok : checking b ≡ given a) (l : Log) (
       made-rows : newRows (sight x) node (point (was x)) (is x - was x) (heldPairs (entries b l) x) ≡ map (vals l' (formulaAt b x)) (pointsFrom (point (was x)) (is x - was x))
       made-rows =
           ap (newRows (sight x) node (point (was x)) (is x - was x)) (start-pairs x o ∙ ap (λ φ. pairsBefore l' φ (point (was x))) (stepped x o))
-          ∙ new-rows (sight x) l' ordered' (formulaAt b) node (fine-node x o) (was x) (is x - was x) ready-run
+          ∙ new-rows (sight x) l' ordered' (formulaAt b) node (fine-node x o) (point (was x)) (is x - was x) (sees x o under) ready-run
           ∙ ap (λ φ. map (vals l' φ) (pointsFrom (point (was x)) (is x - was x))) (sym (stepped x o))
 
       made-pairs : newPairs (sight x) node (point (was x)) (is x - was x) (heldPairs (entries b l) x) ≡ lastPairs l' (formulaAt b x)
       made-pairs =
           let z : was x + (is x - was x) ≡ is x = omega (arith, was-is x o) in
           ap (newPairs (sight x) node (point (was x)) (is x - was x)) (start-pairs x o ∙ ap (λ φ. pairsBefore l' φ (point (was x))) (stepped x o))
-          ∙ new-pairs (sight x) l' ordered' (formulaAt b) node (fine-node x o) (was x) (is x - was x) ready-run
+          ∙ new-pairs (sight x) l' ordered' (formulaAt b) node (fine-node x o) (point (was x)) (is x - was x) (sees x o under) ready-run
           ∙ ap (λ k. pairsBefore l' (formulaOf (formulaAt b) node) (point k)) z ∙ ap (λ φ. pairsBefore l' φ (point (is x))) (sym (stepped x o)) ∙ end-pairs x
 
       all-rows : map (held (entries b l) x) (pointsFrom lo (was x - lo .0)) ++ newRows (sight x) node (point (was x)) (is x - was x) (heldPairs (entries b l) x) ≡ map (vals l' (formulaAt b x)) (pointsFrom lo (is x - lo .0))

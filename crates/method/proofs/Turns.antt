@@ -15,14 +15,14 @@ use Rattle.meaning.specs.Formula.{Formula}
 use Rattle.meaning.specs.Evaluator.{vals}
 use Rattle.meaning.specs.Settled.{settled}
 use Rattle.meaning.specs.RuleFile.{childrenOf, formulaOf}
-use Rattle.meaning.specs.Kept.{pairs, Entry}
+use Rattle.meaning.specs.Kept.{Entry}
 use Rattle.meaning.specs.declared.Point.{Point}
 use Rattle.meaning.specs.declared.Stamp.{Stamp}
 use Rattle.meaning.specs.declared.Node.{Node}
 use Rattle.meaning.specs.declared.Node.the-variants.{Atom, And, AndNot, Keep, Or, Exists, Previous, Next, Since, NotSince, Until, NotUntil, Once, Eventually}
 use Rattle.meaning.proofs.Fine.{Fine}
 use Rattle.method.specs.Stored.{leastOf}
-use Rattle.method.specs.Settle.{Sight, pairsNow, Turn, rowsOfTurn}
+use Rattle.method.specs.Settle.{Sight, settle, Turn, rowsOfTurn}
 use Rattle.method.specs.Step
 use Rattle.method.specs.Step.{firstWanted, newRows, newPairs, turnOf, sightOf, turnsTo, noTurn}
 use Rattle.method.proofs.Counted.{Counted}
@@ -92,33 +92,30 @@ pub map-append : {A B : Type 0} (f : A → B) (xs ys : List A) → map f (xs ++ 
 map-append f [] ys = refl
 map-append f (x ∷ xs) ys = ap (λ zs. f x ∷ zs) (map-append f xs ys)
 
--- ---- newly settled points in turn
+-- ---- newly settled points
+
+module _ (v : Sight) (node : Node) (start : Point) (count : ℕ) (held : List (List ℕ)) where
+  pub newRows-length : length (newRows v node start count held) ≡ count
+  newRows-length = length-map (pointsFrom start count) _ ∙ points-length start count
+
+  pub newRows-at : (q : ℕ) → q < count → getD (newRows v node start count held) q [] ≡ settle v held start (point (start .0 + q)) node
+  newRows-at q h = getD-points (λ i. settle v held start i node) [] (start .0) count q h
 
 module _ (v : Sight) (l : Log) (ordered : Ordered l) (F : ℕ → Formula) (n : Node) (f : Fine (formulaOf F n)) where
   abbrev pub Ready : Point → Type 0
-  Ready i = Sees v l F n i × (settled l (formulaOf F n) i ≡ true) × (childrenOf n ≡ [] → v .event ≡ rowsAt l i)
+  Ready i = (settled l (formulaOf F n) i ≡ true) × (childrenOf n ≡ [] → v .event ≡ rowsAt l i)
 
-  next : (k : ℕ) → pairs l (formulaOf F n) (point k) ≡ pairsBefore l (formulaOf F n) (point (suc k))
-  next k = let z : suc k - 1 ≡ k = omega arith in rw (ne-eqb (suc k) 0 (λ d. omega arith), z)
+  pub new-rows : (start : Point) (count : ℕ) → Sees v l F n start → ((j : Point) → start .0 ≤ j .0 → j .0 < start .0 + count → Ready j)
+      → newRows v n start count (pairsBefore l (formulaOf F n) start) ≡ map (vals l (formulaOf F n)) (pointsFrom start count)
+  new-rows start count s h = map-points _ (vals l (formulaOf F n)) (start .0) count (λ j u o. let r = h j u o in settle-right v l ordered F start j u n s f (r .0) (r .1))
 
-  pub new-rows : (i count : ℕ) → ((j : Point) → i ≤ j .0 → j .0 < i + count → Ready j)
-      → newRows v n (point i) count (pairsBefore l (formulaOf F n) (point i)) ≡ map (vals l (formulaOf F n)) (pointsFrom (point i) count)
-  new-rows i zero h = refl
-  new-rows i (suc count) h =
-      let r : Ready (point i) = h (point i) (omega arith) (omega arith) in
-      let p : pairsNow v (pairsBefore l (formulaOf F n) (point i)) (point i) n ≡ pairs l (formulaOf F n) (point i) = pairs-right v l ordered F (point i) n (r .0) f (r .1) in
-      rw p
-      (ap₂ (λ s t. s ∷ t) (settle-right v l ordered F (point i) n (r .0) f (r .1) (r .2))
-      (ap (newRows v n (point (suc i)) count) (next i) ∙ new-rows (suc i) count (λ j u o. h j (omega arith) (omega arith))))
-
-  pub new-pairs : (i count : ℕ) → ((j : Point) → i ≤ j .0 → j .0 < i + count → Ready j)
-      → newPairs v n (point i) count (pairsBefore l (formulaOf F n) (point i)) ≡ pairsBefore l (formulaOf F n) (point (i + count))
-  new-pairs i zero h = let z : i + 0 ≡ i = omega arith in rw z
-  new-pairs i (suc count) h =
-      let r : Ready (point i) = h (point i) (omega arith) (omega arith) in
-      let p : pairsNow v (pairsBefore l (formulaOf F n) (point i)) (point i) n ≡ pairs l (formulaOf F n) (point i) = pairs-right v l ordered F (point i) n (r .0) f (r .1) in
-      let z : i + suc count ≡ suc i + count = omega arith in
-      rw (p, z) (ap (newPairs v n (point (suc i)) count) (next i) ∙ new-pairs (suc i) count (λ j u o. h j (omega arith) (omega arith)))
+  pub new-pairs : (start : Point) (count : ℕ) → Sees v l F n start → ((j : Point) → start .0 ≤ j .0 → j .0 < start .0 + count → Ready j)
+      → newPairs v n start count (pairsBefore l (formulaOf F n) start) ≡ pairsBefore l (formulaOf F n) (point (start .0 + count))
+  new-pairs start zero s h = let z : start .0 + 0 ≡ start .0 = omega arith in rw z
+  new-pairs start (suc count) s h =
+      let z : start .0 + suc count - 1 ≡ start .0 + count = omega arith in
+      rw (ne-eqb (start .0 + suc count) 0 (λ d. omega arith), z)
+      (pairs-right v l ordered F start (point (start .0 + count)) (omega arith) n s f (h (point (start .0 + count)) (omega arith) (omega arith) .0))
 
 -- an atom has settled every point
 pub atom-counted : (l : Log) (F : ℕ → Formula) (n : Node) → childrenOf n ≡ [] → Counted l (formulaOf F n) (size l)

@@ -4,14 +4,14 @@ use mathlib.Core.Bool.{Bool, true, false, not, cond}
 use mathlib.Core.List.{List, [], _∷_, map}
 use lib.ListN.{length}
 use lib.Dec.{ltb}
-use Rattle.meaning.specs.Lists.{total}
+use Rattle.meaning.specs.Lists.{gather, total}
+use Rattle.meaning.specs.Log.{point, pointsFrom}
 use Rattle.meaning.specs.Outcome.{mostRows, mostOpen, mostKept}
 use Rattle.meaning.specs.RuleFile.{nodeCount, nodeAt, childrenOf, lastNode, oneIf}
 use Rattle.meaning.specs.declared.Node.{Node}
 use Rattle.meaning.specs.declared.Node.the-variants.{Atom, And, AndNot, Keep, Or, Exists, Previous, Next, Since, NotSince, Until, NotUntil, Once, Eventually}
-use Rattle.method.specs.Stored.{Stored}
-use Rattle.method.specs.Step.{countBefore, countAfter}
-use Rattle.method.specs.WellFormed.{ownEntries}
+use Rattle.method.specs.Stored.{Stored, held}
+use Rattle.method.specs.Step.{wantedFrom, countBefore, countAfter}
 
 -- a node's figure, made from its children's, so many nodes deep; in an accepted rule children are lower, so that x + 1 deep is all of node x
 abbrev pub madeWithin : ((ℕ → ℕ) → ℕ → ℕ) → ℕ → ℕ → ℕ
@@ -82,9 +82,17 @@ module _ (s : Stored) (w : List ℕ) where
   abbrev pub newPoints : ℕ → ℕ
   newPoints x = countAfter s w x - countBefore s x
 
-  -- its rows at most: what is kept of it, and 32 in each new set
+  -- the rows that are kept of it
+  abbrev pub keptRows : ℕ → List (List ℕ)
+  keptRows x = gather (held (s .entries) x) (pointsFrom (wantedFrom (s .rule) (countBefore s) x) (countBefore s x - wantedFrom (s .rule) (countBefore s) x .0))
+
+  -- its rows at most: those that are kept, and 32 in each new set
   abbrev pub rowsMost : ℕ → ℕ
-  rowsMost x = length (ownEntries s x) + mostRows * newPoints x
+  rowsMost x = length (keptRows x) + mostRows * newPoints x
+
+  -- how many sets it has: at the points from which on its rows are kept, and at the new ones
+  abbrev pub setsMost : ℕ → ℕ
+  setsMost x = countAfter s w x - wantedFrom (s .rule) (countBefore s) x .0
 
   -- the room that the call takes, in sets and in rows
   abbrev pub setsNeeded : ℕ
@@ -93,6 +101,10 @@ module _ (s : Stored) (w : List ℕ) where
   abbrev pub rowsNeeded : ℕ
   rowsNeeded = need (s .rule) rowsMost (lastNode (s .rule))
 
+  -- the marks that it takes, one for each set that stands
+  abbrev pub marksNeeded : ℕ
+  marksNeeded = need (s .rule) setsMost (lastNode (s .rule))
+
   -- no node newly settles more than so many points
   abbrev pub SettlesAtMost : ℕ → Type 0
   SettlesAtMost most = (x : ℕ) → x < nodeCount (s .rule) → newPoints x ≤ most
@@ -100,6 +112,10 @@ module _ (s : Stored) (w : List ℕ) where
 -- the largest room, in sets: five times 33 + 17, where 17 of 32 nodes are "previous"
 abbrev pub mostSets : ℕ
 mostSets = 250
+
+-- and in marks: six times 65
+abbrev pub mostMarks : ℕ
+mostMarks = 390
 
 -- "That the largest room is enough for every well-formed state is proved": what is claimed of a call
 pub record RoomEnough (s : Stored) (w : List ℕ) : Type 0 where
@@ -110,3 +126,5 @@ pub record RoomEnough (s : Stored) (w : List ℕ) : Type 0 where
   pub calm : SettlesAtMost s w 1 → setsNeeded s w ≤ 6
   pub sets : setsNeeded s w ≤ mostSets
   pub rows : rowsNeeded s w ≤ mostKept + mostRows * mostSets
+  -- 65 points at most of each of 32 nodes: six times as many
+  pub marks : marksNeeded s w ≤ mostMarks

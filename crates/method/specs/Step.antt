@@ -6,7 +6,7 @@ use lib.ListN.{length, getD, drop}
 use lib.Dec.{ltb, eqb}
 use Rattle.meaning.specs.Lists.{any, range, select, gather}
 use Rattle.meaning.specs.Outcome.{Outcome, refused, given, mostRows}
-use Rattle.meaning.specs.Log.{Row, point, stamp, pointAfter, pointsFrom}
+use Rattle.meaning.specs.Log.{Row, point, stamp, pointsFrom}
 use Rattle.meaning.specs.Formula.{free, variables}
 use Rattle.meaning.specs.RuleFile.{nodeCount, nodeAt, formulaAt, lastNode, pattern}
 use Rattle.meaning.specs.Kept.{Entry, entryOf, parentOf}
@@ -19,7 +19,7 @@ use Rattle.meaning.specs.declared.Node.{Node}
 use Rattle.meaning.specs.declared.Node.the-variants.{Atom, And, AndNot, Keep, Or, Exists, Previous, Next, Since, NotSince, Until, NotUntil, Once, Eventually}
 use Rattle.method.specs.Stored.{Stored, baseOf, stampIn, held, heldPairs, firstRetained}
 use Rattle.method.specs.Counts.{countsTo}
-use Rattle.method.specs.Settle.{Sight, settle, pairsNow, Turn, rowsOfTurn}
+use Rattle.method.specs.Settle.{Sight, settle, pairsAfter, Turn, rowsOfTurn}
 
 -- the first point of a child that an unsettled point of its parent consults, with p points of the parent settled
 abbrev pub firstWanted : Node → ℕ → Point
@@ -42,14 +42,13 @@ firstWanted (Eventually a w) p = point p
 unfoldable pub wantedFrom : List ℕ → (ℕ → ℕ) → ℕ → Point
 wantedFrom b count x = point (cond (eqb x (lastNode b)) (count x) (min (count x) (firstWanted (nodeAt b (parentOf b x)) (count (parentOf b x)) .0)))
 
--- a node's rows at newly settled points in turn, its pairs grown before each; and its pairs after them
+-- a node's rows at newly settled points, and its pairs at the last of them
 abbrev pub newRows : Sight → Node → Point → ℕ → List (List ℕ) → List (List (List ℕ))
-newRows v node i zero pairs = []
-newRows v node i (suc count) pairs = settle v (pairsNow v pairs i node) i node ∷ newRows v node (pointAfter i) count (pairsNow v pairs i node)
+newRows v node start count held = map (λ i. settle v held start i node) (pointsFrom start count)
 
 abbrev pub newPairs : Sight → Node → Point → ℕ → List (List ℕ) → List (List ℕ)
-newPairs v node i zero pairs = pairs
-newPairs v node i (suc count) pairs = newPairs v node (pointAfter i) count (pairsNow v pairs i node)
+newPairs v node start zero held = held
+newPairs v node start (suc count) held = pairsAfter v held start (point (start .0 + count)) node
 
 -- the turn of node x, which had settled as many points as before says and now has as many as after says
 unfoldable pub turnOf : List ℕ → List Entry → (ℕ → ℕ) → (ℕ → ℕ) → Sight → ℕ → Turn

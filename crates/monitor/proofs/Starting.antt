@@ -21,9 +21,9 @@ use Rattle.rulefile.specs.Checked.{answerOf}
 use Rattle.rulefile.specs.declared.Checked.{Checked}
 use Rattle.rulefile.specs.declared.Checked.the-variants.{Accepted, Cut, OtherVersion, SizeOut, Misshapen, WindowOut, FreeBroken, NotOneParent}
 use Rattle.rulefile.proofs.Checked.{the-type}
-use Rattle.lent.specs.Lent.{atFront}
-use Rattle.lent.proofs.Front.{front-read}
-use Rattle.lent.proofs.Taken.{sized-fits}
+use Rattle.shelf.specs.Appended.{atFront}
+use Rattle.figures.proofs.Front.{front-read}
+use Rattle.lent.proofs.Memory.{sized-fits}
 use Rattle.monitor.specs.State.{blank, lentOf, startState}
 use Rattle.monitor.specs.Contracts.{Starts, stateFor}
 use Rattle.monitor.specs.declared.State.{State}

@@ -11,7 +11,7 @@ use Rattle.method.specs.Step.{keptStored, openStored}
 use Rattle.method.specs.WellFormed.{wellFormed}
 use Rattle.method.proofs.Whole.{log-ordered}
 use Rattle.method.proofs.Stepped.{kept-stored, open-stored}
-use Rattle.figuring.specs.Fronts.{openAnswer}
+use Rattle.figures.specs.Fronts.{openAnswer}
 use Rattle.lent.specs.Lent.{Lent, stored}
 use Rattle.monitor.specs.State.{lentOf}
 use Rattle.monitor.specs.Contracts.{Starts}

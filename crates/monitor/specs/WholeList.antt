@@ -9,7 +9,7 @@ use Rattle.meaning.specs.Kept.{kept, openPoints}
 use Rattle.meaning.specs.Keeper.{keeper}
 use Rattle.method.specs.Step.{keptStored}
 use Rattle.method.specs.WellFormed.{wellFormed}
-use Rattle.figuring.specs.Fronts.{openAnswer}
+use Rattle.figures.specs.Fronts.{openAnswer}
 use Rattle.monitor.specs.State.{stored}
 use Rattle.monitor.specs.Calls.{Call, takingOf, givenOf}
 use Rattle.monitor.specs.Reports.{logOf, Reports}

@@ -1,13 +1,13 @@
 // The monitor: its state, starting it, taking events, and the figures to be read off it.
-use figuring::Open;
+use figures::Open;
 use lent::Answer;
 use rulefile::Checked;
 ghost use mathlib.Core.Path.{_≡_};
 ghost use Prim.Native.Nat.{_≤_};
 ghost use lib.ListN.{length};
 ghost use Rattle.method.specs.Step.{keptStored};
-ghost use Rattle.figuring.specs.Fronts.{openOf, openAnswer};
-ghost use Rattle.lent.specs.Lent.{atFront};
+ghost use Rattle.figures.specs.Fronts.{openOf, openAnswer};
+ghost use Rattle.shelf.specs.Appended.{atFront};
 ghost use Rattle.monitor.specs.State.{stored, startState, blank};
 ghost use Rattle.monitor.specs.Contracts.{Starts, Takes};
 
@@ -145,7 +145,7 @@ pub fn kept(s: State) -> u32
 pub fn open_points(state: State) -> Open
     ensures { λ r. ⌜ openOf r ≡ openAnswer (stored state) ⌝ }
 {
-    figuring::open_points(
+    figures::open_points(
         &state.rule,
         state.bytes,
         state.points,

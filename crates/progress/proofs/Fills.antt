@@ -9,14 +9,9 @@ use lib.Seq.{take-suc-set, drop-set-lt}
 use Rattle.meaning.specs.RuleFile.{nodeCount, nodeAt}
 use Rattle.meaning.specs.declared.Point.{Point}
 use Rattle.meaning.specs.declared.Stamp.{Stamp}
-use Rattle.meaning.specs.declared.Node.{Node}
 use Rattle.method.specs.Counts.{advance, countsTo}
 use Rattle.progress.specs.Filled.{Filled}
 use Rattle.progress.proofs.Withins.{counts-within}
-
--- the count of a node from equal parts
-pub count-same : (τ : Point → Stamp) (n : ℕ) (count : ℕ → ℕ) {f f' r : ℕ} {node node' : Node} → r ≡ advance τ n count f node → f ≡ f' → node ≡ node' → r ≡ advance τ n count f' node'
-count-same τ n count e p q = cc
 
 -- there are as many counts as nodes
 pub counts-length : (b : List ℕ) (τ : Point → Stamp) (n : ℕ) (from : ℕ → ℕ) (x : ℕ) → length (countsTo b τ n from x) ≡ x

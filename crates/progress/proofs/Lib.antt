@@ -2,3 +2,4 @@
 pub mod Scans
 pub mod Withins
 pub mod Fills
+pub mod Heads

@@ -1,23 +1,16 @@
 -- No count exceeds the number of points, where the children's counts and the count to start from don't.
 use Prim.Native.Nat.{ℕ, zero, suc, _≤_}
 use native.Mathlib.Omega.{arith}
-use mathlib.Core.Path.{_≡_, sym, _∙_, ap}
 use mathlib.Core.List.{List, [], _∷_, _++_}
 use lib.ListN.{getD}
 use Rattle.meaning.specs.RuleFile.{nodeAt}
 use Rattle.meaning.specs.declared.Point.{Point}
 use Rattle.meaning.specs.declared.Stamp.{Stamp}
-use Rattle.meaning.specs.declared.Node.{Node}
 use Rattle.method.specs.Counts.{advance, countsTo}
 use Rattle.method.proofs.Bounds.{advance-most}
 use Rattle.progress.specs.Bounds.{Within}
 
 module _ (τ : Point → Stamp) (n : ℕ) where
-  -- what `advance` answers, from what it answers of the node as one of its kinds
-  pub advanced : (counts : List ℕ) (from : ℕ) {node kind : Node} {r : ℕ} → node ≡ kind → r ≡ advance τ n (λ y. getD counts y 0) from kind → (r ≡ advance τ n (λ y. getD counts y 0) from node) × (Within n counts → from ≤ n → r ≤ n)
-  advanced counts from {node} {kind} {r} p e =
-      (e ∙ sym (ap (advance τ n (λ y. getD counts y 0) from) p), λ h k. rw e (advance-most τ n (λ y. getD counts y 0) from kind (λ y m. h y) k))
-
   append-within : (xs : List ℕ) (v : ℕ) → Within n xs → v ≤ n → Within n (xs ++ v ∷ [])
   append-within [] v h k zero = k
   append-within [] v h k (suc y) = omega arith

@@ -1,5 +1,4 @@
 // How many points each node has settled, from the time stamps alone.
-use meaning::Node;
 use meaning::Point;
 use meaning::Stamp;
 ghost use mathlib.Core.Path.{_≡_};
@@ -8,10 +7,9 @@ ghost use mathlib.Core.Bool.{cond};
 ghost use lib.ListN.{length, getD};
 ghost use lib.Dec.{ltb, leb};
 ghost use Rattle.meaning.specs.Log.{point};
-ghost use Rattle.meaning.specs.RuleFile.{nodeCount, nodeAt};
+ghost use Rattle.meaning.specs.RuleFile.{nodeCount, bodies, bodyAt, nodeAt};
 ghost use Rattle.method.specs.Stored.{stampIn};
 ghost use Rattle.method.specs.Counts.{scan, untilCount, advance};
-ghost use Rattle.progress.specs.Bounds.{Within};
 ghost use Rattle.progress.specs.Filled.{Filled};
 
 // A difference that stops at 0, as it does in the definitions.
@@ -102,30 +100,22 @@ fn one_more(n: u32, m: u32) -> u32
     if m < n { m + 1 } else { n }
 }
 
-// The count of a node, from its children's counts and a count that is not too high.
-pub fn advance(node: Node, times: &[u32], base: Point, n: u32, counts: &[u32], from: u32) -> u32
-    ensures { λ r. ⌜ r ≡ advance (stampIn base (now (times .entry))) n (λ y. getD (now (counts .entry)) y 0) from node ⌝ }
-    ensures { λ r. ⌜ (Within n (now (counts .entry)) → from ≤ n → r ≤ n) ⌝ }
+// How many points node x has settled that is an until, where its children have settled m of n.
+fn until_of(rule: &[u8], times: &[u32], base: Point, n: u32, m: u32, from: &[u32], x: u8) -> u32
+    requires { ⌜ (length (now rule) ≡ 12 + 20 * nodeCount (now rule)) × (x < nodeCount (now rule)) ⌝ }
+    ensures { λ r. ⌜ r ≡ untilCount (stampIn base (now (times .entry))) n (bodyAt (bodies (now (rule .entry))) x .word1) m (getD (now (from .entry)) x 0) ⌝ }
 {
-    match node {
-        Node::Atom(_, _) => n,
-        Node::And(a, b) => both_at(counts, a, b),
-        Node::AndNot(a, b) => both_at(counts, a, b),
-        Node::Keep(a, _, _) => count_at(counts, a),
-        Node::Or(a, b) => both_at(counts, a, b),
-        Node::Exists(a, _) => count_at(counts, a),
-        Node::Previous(a, _) => one_more(n, count_at(counts, a)),
-        Node::Next(a, _) => less(count_at(counts, a), 1),
-        Node::Since(a, b, _) => both_at(counts, a, b),
-        Node::NotSince(a, b, _) => both_at(counts, a, b),
-        Node::Until(a, b, w) => until_count(times, base, n, w.end, both_at(counts, a, b), from),
-        Node::NotUntil(a, b, w) => until_count(times, base, n, w.end, both_at(counts, a, b), from),
-        Node::Once(a, _) => count_at(counts, a),
-        Node::Eventually(a, w) => until_count(times, base, n, w.end, count_at(counts, a), from),
-    }
+    until_count(
+        times,
+        base,
+        n,
+        rulenodes::end_at(rule, x),
+        m,
+        count_at(from, x),
+    )
 }
 
-// The count of node x, from the counts of the nodes below it.
+// The count of node x, from the counts of the nodes below it and a count that is not too high. Of the rule the node's head is read, and for until the window's end.
 fn count_of(
     rule: &[u8],
     times: &[u32],
@@ -138,14 +128,40 @@ fn count_of(
     requires { ⌜ (length (now rule) ≡ 12 + 20 * nodeCount (now rule)) × (x < nodeCount (now rule)) ⌝ }
     ensures { λ r. ⌜ r ≡ advance (stampIn base (now (times .entry))) n (λ y. getD (now (below .entry)) y 0) (getD (now (from .entry)) x 0) (nodeAt (now (rule .entry)) x) ⌝ }
 {
-    advance(
-        rulenodes::node_at(rule, x),
-        times,
-        base,
-        n,
-        below,
-        count_at(from, x),
-    )
+    let h = rulenodes::head_at(rule, x);
+    let kind = h.kind;
+    match kind {
+        1 => n,
+        2 => both_at(below, h.left, h.right),
+        3 => both_at(below, h.left, h.right),
+        4 => count_at(below, h.left),
+        5 => both_at(below, h.left, h.right),
+        6 => count_at(below, h.left),
+        7 => one_more(n, count_at(below, h.left)),
+        8 => less(count_at(below, h.left), 1),
+        9 => both_at(below, h.left, h.right),
+        10 => both_at(below, h.left, h.right),
+        11 => until_of(
+            rule,
+            times,
+            base,
+            n,
+            both_at(below, h.left, h.right),
+            from,
+            x,
+        ),
+        12 => until_of(
+            rule,
+            times,
+            base,
+            n,
+            both_at(below, h.left, h.right),
+            from,
+            x,
+        ),
+        13 => count_at(below, h.left),
+        _ => until_of(rule, times, base, n, count_at(below, h.left), from, x),
+    }
 }
 
 // The counts of every node of a rule, lowest first; words past them stay.

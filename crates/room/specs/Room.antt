@@ -2,6 +2,7 @@
 use Prim.Native.Nat.{ℕ, _+_, _-_, _*_, _≤_, _<_}
 use mathlib.Core.List.{List}
 use lib.ListN.{length, getD}
+use Rattle.meaning.specs.Outcome.{mostRows}
 use Rattle.meaning.specs.declared.Point.{Point}
 use Rattle.rowset.specs.Rows.{rowsFrom}
 
@@ -18,3 +19,8 @@ pub record Laid (rows at : List ℕ) (n : ℕ) : Type 0 where
   pub marks : n < length at
   pub steps : (q : ℕ) → q < n → getD at q 0 ≤ getD at (q + 1) 0
   pub words : getD at n 0 * 4 ≤ length rows
+
+-- n sets stand in the words, of at most 32 rows each
+pub record Sets (rows at : List ℕ) (n : ℕ) : Type 0 where
+  pub laid : Laid rows at n
+  pub few : (q : ℕ) → q < n → getD at (q + 1) 0 - getD at q 0 ≤ mostRows

@@ -1,1 +1,10 @@
-// Where the sets of one call stand: definitions alone.
+// Where the sets of one call stand.
+use meaning::Point;
+
+// The sets of a node's child: set `first` is the one at point `low`, and those at later points follow it; how many points the child has settled, and the mask of its free variables.
+pub struct Child {
+    pub first: usize,
+    pub low: Point,
+    pub count: u32,
+    pub mask: u8,
+}

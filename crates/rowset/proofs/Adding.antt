@@ -1,12 +1,13 @@
--- A row by its place in a run of words: there already, put in, or refused by a full set.
+-- A row by its place in a run: there already, put in, or refused by a full set.
 use Prim.Native.Nat.{ℕ, _+_, _-_, _≤_, _<_}
 use mathlib.Core.Path.{_≡_, refl, sym, ap, ap₂, _∙_}
 use mathlib.Core.Bool.{Bool, true, false, not, _&&_}
-use mathlib.Core.List.{List, [], _∷_, _++_}
+use mathlib.Core.List.{List, [], _∷_, _++_, map}
 use native.Mathlib.Omega.{arith}
 use lib.ListN.{length, getD, take, drop}
 use lib.Dec.{ltb}
 use borrow.Author.Tests.{ltb-true, lt-ltb, not-true, not-false}
+use Rattle.meaning.specs.Lists.{range}
 use Rattle.meaning.specs.Order.{before}
 use Rattle.meaning.specs.Evaluator.{insert}
 use Rattle.meaning.proofs.Points.{first, second}
@@ -14,58 +15,63 @@ use Rattle.rowset.specs.Rows.{rowAt, rowsFrom, placeOf, mostHeld, addCap
 use Rattle.rowset.specs.Sets.{Added}
 use Rattle.rowset.proofs.Saturation.{with-room, when-full}
 use Rattle.rowset.proofs.Places.{place-within, insert-there, insert-new}
-use Rattle.rowset.proofs.Runs.{rows-length, rows-at, rows-take, rows-drop}
+use Rattle.rowset.proofs.Runs.{run-length, run-at, run-take, run-drop, rows-length}
 
 pub add-full : (ws r : List ℕ) (n : ℕ) → n ≤ mostHeld → mostHeld ≤ n → Added ws n ws n (r ∷ [])
 add-full ws r n m l =
     let e = rows-length ws 0 n in
     record { most = m; long = refl; set = sym (when-full (rowsFrom ws 0 n) r (omega arith)) }
 
--- putting into a set of n rows with room for one more, by the place p
+-- putting a row in by its place p in a run of what an accessor gives
+module _ (at : ℕ → List ℕ) (n p : ℕ) (x : List ℕ) (e : p ≡ placeOf x (map at (range 0 n))) where
+  pub place-fits : p ≤ n
+  place-fits = omega (arith, place-within x (map at (range 0 n)), run-length at 0 n)
+
+  at-place : p < n → getD (map at (range 0 n)) (placeOf x (map at (range 0 n))) [] ≡ at p
+  at-place l =
+      let z : 0 + p ≡ p = omega arith in
+      ap (λ k. getD (map at (range 0 n)) k []) (sym e) ∙ run-at at [] 0 n p l ∙ ap at z
+
+  module _ {stands : Bool} (is : stands ≡ (ltb p n && not (before x (at p)))) where
+    -- x stands at p, and the run stays
+    pub stands-there : stands ≡ true → insert x (map at (range 0 n)) ≡ map at (range 0 n)
+    stands-there there =
+        let t : (ltb p n && not (before x (at p))) ≡ true = sym is ∙ there in
+        let l : p < n = ltb-true p n (first (ltb p n) (not (before x (at p))) t) in
+        let q : before x (at p) ≡ false = not-true (before x (at p)) (second (ltb p n) (not (before x (at p))) t) in
+        let m : placeOf x (map at (range 0 n)) < length (map at (range 0 n)) = omega (arith, run-length at 0 n) in
+        insert-there x (map at (range 0 n)) m (ap (before x) (at-place l) ∙ q)
+
+    -- x is put in at p, since item p, if there is one, stands after it
+    pub goes-there : stands ≡ false → insert x (map at (range 0 n)) ≡ map at (range 0 p) ++ x ∷ map at (range p (n - p))
+    goes-there none =
+        let items : List (List ℕ) = map at (range 0 n) in
+        let after : p < n → before x (at p) ≡ true = λ l. not-false (before x (at p)) (rw (lt-ltb p n l) at (sym is ∙ none)) in
+        insert-new x items (λ l. let m : p < n = omega (arith, run-length at 0 n) in ap (before x) (at-place m) ∙ after m)
+        ∙ ap (λ k. take k items ++ x ∷ drop k items) (sym e)
+        ∙ ap₂ (λ us vs. us ++ x ∷ vs) (run-take at n p place-fits) (run-drop at n p place-fits)
+
+-- putting into a set of n rows with room for one more
 module _ (ws r : List ℕ) (n p : ℕ) (room : n < mostHeld) (e : p ≡ 0 + placeOf r (rowsFrom ws 0 (n - 0))) where
-  place-is : placeOf r (rowsFrom ws 0 n) ≡ p
+  place-is : p ≡ placeOf r (map (rowAt ws) (range 0 n))
+  unfolding rowsFrom
   place-is =
       let f : n - 0 ≡ n = omega arith in
-      let g : p ≡ 0 + placeOf r (rowsFrom ws 0 n) = rw f at e in
+      let g : p ≡ 0 + placeOf r (map (rowAt ws) (range 0 n)) = rw f at e in
       omega arith
 
   pub place-most : p ≤ n
-  place-most = omega (arith, place-is, place-within r (rowsFrom ws 0 n), rows-length ws 0 n)
-
-  at-place : p < n → getD (rowsFrom ws 0 n) (placeOf r (rowsFrom ws 0 n)) [] ≡ rowAt ws p
-  at-place l =
-      let z : 0 + p ≡ p = omega arith in
-      ap (λ k. getD (rowsFrom ws 0 n) k []) place-is ∙ rows-at ws 0 n p l ∙ ap (rowAt ws) z
+  place-most = place-fits (rowAt ws) n p r place-is
 
   -- the set with room takes the row in
   taken-in : addCapped (rowsFrom ws 0 n) r ≡ insert r (rowsFrom ws 0 n)
   taken-in = with-room (rowsFrom ws 0 n) r (omega (arith, rows-length ws 0 n))
 
-  below-end : p < n → placeOf r (rowsFrom ws 0 n) < length (rowsFrom ws 0 n)
-  below-end l = omega (arith, place-is, rows-length ws 0 n)
+  module _ {stands : Bool} (is : stands ≡ (ltb p n && not (before r (rowAt ws p)))) where
+    pub add-there : stands ≡ true → Added ws n ws n (r ∷ [])
+    unfolding rowsFrom
+    add-there there = record { most = omega arith; long = refl; set = sym (taken-in ∙ stands-there (rowAt ws) n p r place-is is there) }
 
-  pub add-there : {stands : Bool} → stands ≡ (ltb p n && not (before r (rowAt ws p))) → stands ≡ true → Added ws n ws n (r ∷ [])
-  add-there is there =
-      let t : (ltb p n && not (before r (rowAt ws p))) ≡ true = sym is ∙ there in
-      let l : p < n = ltb-true p n (first (ltb p n) (not (before r (rowAt ws p))) t) in
-      let q : before r (rowAt ws p) ≡ false = not-true (before r (rowAt ws p)) (second (ltb p n) (not (before r (rowAt ws p))) t) in
-      record {
-        most = omega arith;
-        long = refl;
-        set = sym (taken-in ∙ insert-there r (rowsFrom ws 0 n) (below-end l) (ap (before r) (at-place l) ∙ q));
-      }
-
-  after-place : (ltb p n && not (before r (rowAt ws p))) ≡ false → p < n → before r (rowAt ws p) ≡ true
-  after-place t l = not-false (before r (rowAt ws p)) (rw (lt-ltb p n l) at t)
-
-  pub add-new : {stands : Bool} → stands ≡ (ltb p n && not (before r (rowAt ws p))) → stands ≡ false → (ws' : List ℕ) → length ws' ≡ length ws
-      → rowsFrom ws' 0 (n + 1) ≡ rowsFrom ws 0 p ++ r ∷ rowsFrom ws p (n - p) → Added ws n ws' (n + 1) (r ∷ [])
-  add-new is none ws' same h =
-      let rows : List (List ℕ) = rowsFrom ws 0 n in
-      let f : insert r rows ≡ take (placeOf r rows) rows ++ r ∷ drop (placeOf r rows) rows
-      = insert-new r rows (λ l. let m : p < n = omega (arith, place-is, rows-length ws 0 n) in ap (before r) (at-place m) ∙ after-place (sym is ∙ none) m) in
-      record {
-        most = omega arith;
-        long = same;
-        set = h ∙ sym (taken-in ∙ f ∙ ap (λ k. take k rows ++ r ∷ drop k rows) place-is ∙ ap₂ (λ us vs. us ++ r ∷ vs) (rows-take ws n p place-most) (rows-drop ws n p place-most));
-      }
+    pub add-new : stands ≡ false → (ws' : List ℕ) → length ws' ≡ length ws → rowsFrom ws' 0 (n + 1) ≡ rowsFrom ws 0 p ++ r ∷ rowsFrom ws p (n - p) → Added ws n ws' (n + 1) (r ∷ [])
+    unfolding rowsFrom
+    add-new none ws' same h = record { most = omega arith; long = same; set = h ∙ sym (taken-in ∙ goes-there (rowAt ws) n p r place-is is none) }

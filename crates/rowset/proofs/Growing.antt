@@ -1,9 +1,9 @@
 -- Loops that put rows into a set: what was put in and what is still to come make up the whole, from the first turn to the last.
 -- Then what the set holds in the end.
 use Prim.Native.Nat.{ℕ, _+_, _-_, _≤_, _<_}
-use mathlib.Core.Path.{_≡_, refl, sym, ap, _∙_}
+use mathlib.Core.Path.{_≡_, refl, sym, ap, subst, _∙_}
 use mathlib.Core.Bool.{Bool, true, false, cond, _&&_}
-use mathlib.Core.List.{List, [], _∷_, _++_, map}
+use mathlib.Core.List.{List, [], _∷_, _++_, map, append-nil, append-assoc}
 use native.Mathlib.Omega.{arith}
 use lib.ListN.{length}
 use lib.Dec.{ltb, leb}
@@ -20,39 +20,61 @@ use Rattle.rowset.proofs.Ascending.{addAll-ascends}
 use Rattle.rowset.proofs.Places.{insert-found, look-member}
 use Rattle.rowset.proofs.Runs.{any-listed, run-first, run-end, rows-none, rows-length, rows-sized}
 
--- a loop at item i of those up to to; gives says what rows a list of items gives. With the rows of the items still to come put into the new set too,
--- it is the old one with all put in
-pub record Through {A : Type 0} (at : ℕ → A) (gives : List A → List (List ℕ)) (to : ℕ) (old : List ℕ) (n : ℕ) (all : List (List ℕ)) (new : List ℕ) (k i : ℕ) : Type 0 where
+-- a loop at item i of those up to to: some rows are put in, and with those that the items still to come give they are all.
+-- Put says of rows that they are put in, and gives what rows a list of items gives
+pub record Turns {A : Type 0} (at : ℕ → A) (gives : List A → List (List ℕ)) (to : ℕ) (all : List (List ℕ)) (Put : List (List ℕ) → Type 0) (i : ℕ) : Type 0 where
   pub reached : i ≤ to
-  pub most : k ≤ mostHeld
-  pub long : length new ≡ length old
-  pub set : addAllCapped (rowsFrom new 0 k) (gives (map at (range i (to - i)))) ≡ addAllCapped (rowsFrom old 0 n) all
+  pub done : List (List ℕ)
+  pub parts : done ++ gives (map at (range i (to - i))) ≡ all
+  pub put : Put done
+
+module _ {A : Type 0} {at : ℕ → A} {gives : List A → List (List ℕ)} {to : ℕ} {Put : List (List ℕ) → Type 0} where
+  pub starts : {i : ℕ} → i ≤ to → Put [] → Turns at gives to (gives (map at (range i (to - i)))) Put i
+  starts l h = record { reached = l; done = []; parts = refl; put = h }
+
+  pub starts-all : Put [] → Turns at gives to (gives (map at (range 0 to))) Put 0
+  starts-all h =
+      let e : to - 0 ≡ to = omega arith in
+      rw e at (starts {i = 0} (omega arith) h)
+
+  module _ {all : List (List ℕ)} {i : ℕ} (t : Turns at gives to all Put i) where
+    -- a turn puts in what one item gives
+    pub goes-on : (one : A → List (List ℕ)) → ((x : A) (xs : List A) → gives (x ∷ xs) ≡ one x ++ gives xs) → i < to
+        → {Put' : List (List ℕ) → Type 0} {rows : List (List ℕ)} → ((xs : List (List ℕ)) → Put xs → Put' (xs ++ rows)) → rows ≡ one (at i) → Turns at gives to all Put' (i + 1)
+    goes-on one splits l {Put'} step r =
+        let rest : List A = map at (range (i + 1) (to - (i + 1))) in
+        record {
+          reached = omega arith;
+          done = t .done ++ one (at i);
+          parts = append-assoc (t .done) (one (at i)) (gives rest) ∙ ap (λ us. t .done ++ us) (sym (splits (at i) rest) ∙ ap gives (sym (run-first at to i l))) ∙ t .parts;
+          put = subst (λ us. Put' (t .done ++ us)) r (step (t .done) (t .put));
+        }
+
+    pub ended : gives [] ≡ [] → to ≤ i → Put all
+    ended none l = subst Put (sym (append-nil (t .done)) ∙ ap (λ us. t .done ++ us) (sym (ap gives (run-end at to i l) ∙ none)) ∙ t .parts) (t .put)
+
+-- rows put into a set: none, and one list after another
+pub added-none : {ws : List ℕ} {n : ℕ} → Room ws n → Added ws n ws n []
+added-none h = record { most = h .most; long = refl; set = refl }
+
+pub added-then : {old : List ℕ} {n : ℕ} {mid : List ℕ} {m : ℕ} {new : List ℕ} {k : ℕ} {xs ys : List (List ℕ)} → Added old n mid m xs → Added mid m new k ys → Added old n new k (xs ++ ys)
+added-then {old} {n} {xs = xs} {ys = ys} g h =
+    record { most = h .most; long = h .long ∙ g .long; set = h .set ∙ ap (λ s. addAllCapped s ys) (g .set) ∙ sym (addAll-append (rowsFrom old 0 n) xs ys) }
+
+-- a loop that puts rows into a set of n, which now has k
+abbrev pub Through : {A : Type 0} → (ℕ → A) → (List A → List (List ℕ)) → ℕ → List ℕ → ℕ → List (List ℕ) → List ℕ → ℕ → ℕ → Type 0
+Through at gives to old n all new k i = Turns at gives to all (Added old n new k) i
 
 module _ {A : Type 0} {at : ℕ → A} {gives : List A → List (List ℕ)} {to : ℕ} {old : List ℕ} {n : ℕ} where
   pub begun : {i : ℕ} → i ≤ to → Room old n → Through at gives to old n (gives (map at (range i (to - i)))) old n i
-  begun l h = record { reached = l; most = h .most; long = refl; set = refl }
+  begun l h = starts l (added-none h)
 
   pub begun-all : Room old n → Through at gives to old n (gives (map at (range 0 to))) old n 0
-  begun-all h =
-      let e : to - 0 ≡ to = omega arith in
-      rw e at (begun {i = 0} (omega arith) h)
+  begun-all h = starts-all (added-none h)
 
-  module _ {all : List (List ℕ)} {new : List ℕ} {k i : ℕ} (t : Through at gives to old n all new k i) where
-    -- a turn puts in what one item gives
-    pub turned : (one : A → List (List ℕ)) → ((x : A) (xs : List A) → gives (x ∷ xs) ≡ one x ++ gives xs) → i < to
-        → {new' : List ℕ} {k' : ℕ} {rows : List (List ℕ)} → Added new k new' k' rows → rows ≡ one (at i) → Through at gives to old n all new' k' (i + 1)
-    turned one splits l {new'} {k'} h r =
-        let rest : List A = map at (range (i + 1) (to - (i + 1))) in
-        let e : addAllCapped (rowsFrom new' 0 k') (gives rest) ≡ addAllCapped (rowsFrom old 0 n) all
-        = ap (λ s. addAllCapped s (gives rest)) (h .set ∙ ap (addAllCapped (rowsFrom new 0 k)) r)
-        ∙ sym (addAll-append (rowsFrom new 0 k) (one (at i)) (gives rest))
-        ∙ ap (addAllCapped (rowsFrom new 0 k)) (sym (splits (at i) rest) ∙ ap gives (sym (run-first at to i l)))
-        ∙ t .set in
-        record { reached = omega arith; most = h .most; long = h .long ∙ t .long; set = e }
-
-    pub ended : gives [] ≡ [] → to ≤ i → Added old n new k all
-    ended none l =
-        record { most = t .most; long = t .long; set = ap (addAllCapped (rowsFrom new 0 k)) (sym (ap gives (run-end at to i l) ∙ none)) ∙ t .set }
+  pub turned : {all : List (List ℕ)} {new : List ℕ} {k i : ℕ} → Through at gives to old n all new k i → (one : A → List (List ℕ)) → ((x : A) (xs : List A) → gives (x ∷ xs) ≡ one x ++ gives xs) → i < to
+      → {new' : List ℕ} {k' : ℕ} {rows : List (List ℕ)} → Added new k new' k' rows → rows ≡ one (at i) → Through at gives to old n all new' k' (i + 1)
+  turned t one splits l h r = goes-on t one splits l (λ xs g. added-then g h) r
 
 -- the rows put in, written in another way
 pub added-as : {old : List ℕ} {n : ℕ} {new : List ℕ} {k : ℕ} {rows rows' : List (List ℕ)} → Added old n new k rows → rows ≡ rows' → Added old n new k rows'
@@ -91,11 +113,6 @@ module _ (ws : List ℕ) (r : Row) (n p : ℕ) (up : ascending (rowsFrom ws 0 n)
 -- an ascending set still ascends with rows put in
 pub added-ascends : {old : List ℕ} {n : ℕ} {new : List ℕ} {k : ℕ} {rows : List (List ℕ)} → Added old n new k rows → ascending (rowsFrom old 0 n) ≡ true → ascending (rowsFrom new 0 k) ≡ true
 added-ascends {old} {n} {rows = rows} h up = ap ascending (h .set) ∙ addAll-ascends (rowsFrom old 0 n) rows up
-
--- one list of rows put in after another
-pub added-then : {old : List ℕ} {n : ℕ} {mid : List ℕ} {m : ℕ} {new : List ℕ} {k : ℕ} {xs ys : List (List ℕ)} → Added old n mid m xs → Added mid m new k ys → Added old n new k (xs ++ ys)
-added-then {old} {n} {xs = xs} {ys = ys} g h =
-    record { most = h .most; long = h .long ∙ g .long; set = h .set ∙ ap (λ s. addAllCapped s ys) (g .set) ∙ sym (addAll-append (rowsFrom old 0 n) xs ys) }
 
 -- rows put into an empty set: up to 32 it is the set of them, and a count of 33 says that they are more
 module _ {old new : List ℕ} {k : ℕ} {rows : List (List ℕ)} (h : Added old 0 new k rows) where

@@ -1,4 +1,5 @@
--- Runs of rows in words: taken from the front, in two parts, after a row was put in place of another, and a row's place in a run and looking it up there.
+-- Runs of what an accessor gives: taken from the front, in two parts, after an item was put in place of another, and one pass of an item through the rest.
+-- Then runs of rows in words, a row's place in one, and looking it up there.
 use Prim.Native.Nat.{ℕ, zero, suc, _+_, _-_, _*_, _≤_, _<_}
 use mathlib.Core.Logic.{_≢_}
 use mathlib.Core.Path.{_≡_, refl, sym, ap, ap₂, _∙_}
@@ -30,24 +31,103 @@ any-listed p at a (suc n) (suc k) l e =
     let z : suc a + k ≡ a + suc k = omega arith in
     rw (any-listed p at (suc a) n k (omega arith) (rw z e)) (or-true (p (at a)))
 
--- a run of what an accessor gives, taken from the front
-module _ {A : Type 0} (at : ℕ → A) (to i : ℕ) where
-  pub run-first : i < to → map at (range i (to - i)) ≡ at i ∷ map at (range (i + 1) (to - (i + 1)))
-  run-first l =
+-- a run of what an accessor gives
+module _ {A : Type 0} (at : ℕ → A) where
+  pub run-first : (to i : ℕ) → i < to → map at (range i (to - i)) ≡ at i ∷ map at (range (i + 1) (to - (i + 1)))
+  run-first to i l =
       let e : to - i ≡ suc (to - (i + 1)) = omega arith in
       rw (e, add-one i)
 
-  pub run-end : to ≤ i → map at (range i (to - i)) ≡ []
-  run-end l =
+  pub run-end : (to i : ℕ) → to ≤ i → map at (range i (to - i)) ≡ []
+  run-end to i l =
       let e : to - i ≡ 0 = omega arith in
       rw e
 
+  pub run-length : (a n : ℕ) → length (map at (range a n)) ≡ n
+  run-length a zero = refl
+  run-length a (suc n) = ap suc (run-length (suc a) n)
+
+  pub run-append : (a m n : ℕ) → map at (range a (m + n)) ≡ map at (range a m) ++ map at (range (a + m) n)
+  run-append a zero n = rw (zero-add, add-zero)
+  run-append a (suc m) n =
+      let e : suc m + n ≡ suc (m + n) = omega arith in
+      let f : suc a + m ≡ a + suc m = omega arith in
+      rw e (ap (λ us. at a ∷ us) (rw f at (run-append (suc a) m n)))
+
+  pub run-at : (d : A) (a n k : ℕ) → k < n → getD (map at (range a n)) k d ≡ at (a + k)
+  run-at d a zero k l = absurd (omega arith)
+  run-at d a (suc n) zero l = rw add-zero
+  run-at d a (suc n) (suc k) l =
+      let f : suc a + k ≡ a + suc k = omega arith in
+      rw f at (run-at d (suc a) n k (omega arith))
+
+  -- the first n items, at p
+  run-split : (n p : ℕ) → p ≤ n → map at (range 0 n) ≡ map at (range 0 p) ++ map at (range p (n - p))
+  run-split n p l =
+      let e : n ≡ p + (n - p) = omega arith in
+      let f : 0 + p ≡ p = omega arith in
+      ap (λ m. map at (range 0 m)) e ∙ rw f at (run-append 0 p (n - p))
+
+  pub run-take : (n p : ℕ) → p ≤ n → take p (map at (range 0 n)) ≡ map at (range 0 p)
+  run-take n p l = ap (take p) (run-split n p l) ∙ take-at (map at (range 0 p)) (map at (range p (n - p))) p (run-length 0 p)
+
+  pub run-drop : (n p : ℕ) → p ≤ n → drop p (map at (range 0 n)) ≡ map at (range p (n - p))
+  run-drop n p l = ap (drop p) (run-split n p l) ∙ drop-at (map at (range 0 p)) (map at (range p (n - p))) p (run-length 0 p)
+
+  run-last : (n : ℕ) → map at (range 0 (n + 1)) ≡ map at (range 0 n) ++ at n ∷ []
+  run-last n =
+      let e : n + 1 - n ≡ 1 = omega arith in
+      run-split (n + 1) n (omega arith) ∙ ap (λ m. map at (range 0 n) ++ map at (range n m)) e
+
+-- two runs with the same items
+pub run-same : {A : Type 0} (at bt : ℕ → A) (a n : ℕ) → ((k : ℕ) → a ≤ k → k < a + n → at k ≡ bt k) → map at (range a n) ≡ map bt (range a n)
+run-same at bt a zero h = refl
+run-same at bt a (suc n) h =
+    ap₂ (λ x y. x ∷ y) (h a (omega arith) (omega arith)) (run-same at bt (suc a) n (λ k l m. h k (omega arith) (omega arith)))
+
+-- an accessor with x in place of item k
+pub record Replaced {A : Type 0} (at at' : ℕ → A) (k : ℕ) (x : A) : Type 0 where
+  pub here : at' k ≡ x
+  pub others : (j : ℕ) → j ≢ k → at' j ≡ at j
+
+-- one pass of an item through the rest of a run leaves it in place p: the first items up to i, the item held and the rest stay as they are
+pub record Passing {A : Type 0} (at₀ : ℕ → A) (n p : ℕ) (x : A) (at : ℕ → A) (held : A) (i : ℕ) : Type 0 where
+  pub reached : i ≤ n
+  pub whole : map at (range 0 i) ++ held ∷ map at (range i (n - i)) ≡ map at₀ (range 0 p) ++ x ∷ map at₀ (range p (n - p))
+
+pub passing : {A : Type 0} (at : ℕ → A) (n p : ℕ) (x : A) → p ≤ n → Passing at n p x at x p
+passing at n p x l = record { reached = l; whole = refl }
+
+module _ {A : Type 0} {at at' : ℕ → A} {k : ℕ} {x : A} (r : Replaced at at' k x) where
+  -- an item put after the first k
+  put-last : map at' (range 0 (k + 1)) ≡ map at (range 0 k) ++ x ∷ []
+  put-last = run-last at' k ∙ ap₂ (λ us u. us ++ u ∷ []) (run-same at' at 0 k (λ j a b. r .others j (omega arith))) (r .here)
+
+  put-below : (a n : ℕ) → k < a → map at' (range a n) ≡ map at (range a n)
+  put-below a n l = run-same at' at a n (λ j p q. r .others j (omega arith))
+
+module _ {A : Type 0} {at₀ : ℕ → A} {n p : ℕ} {x : A} {at : ℕ → A} {held : A} {i : ℕ} (t : Passing at₀ n p x at held i) where
+  -- the held item is put at i, and the one that stood there is held
+  pub passed-on : i < n → {at' : ℕ → A} → Replaced at at' i held → {next : A} → next ≡ at i → Passing at₀ n p x at' next (i + 1)
+  passed-on l {at'} r {next} f =
+      let g : map at' (range 0 (i + 1)) ++ next ∷ map at' (range (i + 1) (n - (i + 1))) ≡ map at (range 0 i) ++ held ∷ map at (range i (n - i))
+      = rw (f, put-last r, put-below r (i + 1) (n - (i + 1)) (omega arith), run-first at n i l) (append-snoc (map at (range 0 i)) held _) in
+      record { reached = omega arith; whole = g ∙ t .whole }
+
+  pub passed-all : n ≤ i → {at' : ℕ → A} → Replaced at at' n held → map at' (range 0 (n + 1)) ≡ map at₀ (range 0 p) ++ x ∷ map at₀ (range p (n - p))
+  passed-all l r =
+      let b = t .reached in
+      let f : i ≡ n = omega arith in
+      let g : map at (range 0 n) ++ held ∷ map at (range n (n - n)) ≡ map at₀ (range 0 p) ++ x ∷ map at₀ (range p (n - p)) = rw f at (t .whole) in
+      put-last r ∙ ap (λ us. map at (range 0 n) ++ held ∷ us) (sym (run-end at n n (omega arith))) ∙ g
+
+-- rows in words
 module _ (ws : List ℕ) where
-  pub rows-first : (to i : ℕ) → i < to → rowsFrom ws i (to - i) ≡ rowAt ws i ∷ rowsFrom ws (i + 1) (to - (i + 1))
+  rows-first : (to i : ℕ) → i < to → rowsFrom ws i (to - i) ≡ rowAt ws i ∷ rowsFrom ws (i + 1) (to - (i + 1))
   unfolding rowsFrom
   rows-first to i l = run-first (rowAt ws) to i l
 
-  pub rows-end : (to i : ℕ) → to ≤ i → rowsFrom ws i (to - i) ≡ []
+  rows-end : (to i : ℕ) → to ≤ i → rowsFrom ws i (to - i) ≡ []
   unfolding rowsFrom
   rows-end to i l = run-end (rowAt ws) to i l
 
@@ -57,8 +137,7 @@ module _ (ws : List ℕ) where
 
   pub rows-length : (a n : ℕ) → length (rowsFrom ws a n) ≡ n
   unfolding rowsFrom
-  rows-length a zero = refl
-  rows-length a (suc n) = ap suc (rows-length (suc a) n)
+  rows-length a n = run-length (rowAt ws) a n
 
   pub rows-sized : (a n : ℕ) → sized 4 (rowsFrom ws a n) ≡ true
   unfolding rowsFrom
@@ -67,48 +146,15 @@ module _ (ws : List ℕ) where
 
   pub rows-append : (a m n : ℕ) → rowsFrom ws a (m + n) ≡ rowsFrom ws a m ++ rowsFrom ws (a + m) n
   unfolding rowsFrom
-  rows-append a zero n = rw (zero-add, add-zero)
-  rows-append a (suc m) n =
-      let e : suc m + n ≡ suc (m + n) = omega arith in
-      let f : suc a + m ≡ a + suc m = omega arith in
-      rw e (ap (λ us. rowAt ws a ∷ us) (rw f at (rows-append (suc a) m n)))
+  rows-append a m n = run-append (rowAt ws) a m n
 
   pub rows-at : (a n k : ℕ) → k < n → getD (rowsFrom ws a n) k [] ≡ rowAt ws (a + k)
   unfolding rowsFrom
-  rows-at a zero k l = absurd (omega arith)
-  rows-at a (suc n) zero l = rw add-zero
-  rows-at a (suc n) (suc k) l =
-      let f : suc a + k ≡ a + suc k = omega arith in
-      rw f at (rows-at (suc a) n k (omega arith))
+  rows-at a n k l = run-at (rowAt ws) [] a n k l
 
-  -- the first n rows, at p
-  pub rows-split : (n p : ℕ) → p ≤ n → rowsFrom ws 0 n ≡ rowsFrom ws 0 p ++ rowsFrom ws p (n - p)
-  rows-split n p l =
-      let e : n ≡ p + (n - p) = omega arith in
-      let f : 0 + p ≡ p = omega arith in
-      ap (rowsFrom ws 0) e ∙ rw f at (rows-append 0 p (n - p))
-
-  pub rows-take : (n p : ℕ) → p ≤ n → take p (rowsFrom ws 0 n) ≡ rowsFrom ws 0 p
-  rows-take n p l = ap (take p) (rows-split n p l) ∙ take-at (rowsFrom ws 0 p) (rowsFrom ws p (n - p)) p (rows-length 0 p)
-
-  pub rows-drop : (n p : ℕ) → p ≤ n → drop p (rowsFrom ws 0 n) ≡ rowsFrom ws p (n - p)
-  rows-drop n p l = ap (drop p) (rows-split n p l) ∙ drop-at (rowsFrom ws 0 p) (rowsFrom ws p (n - p)) p (rows-length 0 p)
-
-  rows-one : (n : ℕ) → rowsFrom ws n 1 ≡ rowAt ws n ∷ []
-  unfolding rowsFrom
-  rows-one n = refl
-
-  pub rows-last : (n : ℕ) → rowsFrom ws 0 (n + 1) ≡ rowsFrom ws 0 n ++ rowAt ws n ∷ []
-  rows-last n =
-      let e : n + 1 - n ≡ 1 = omega arith in
-      rows-split (n + 1) n (omega arith) ∙ ap (λ us. rowsFrom ws 0 n ++ us) (ap (rowsFrom ws n) e ∙ rows-one n)
-
--- two runs with the same rows
 pub rows-same : (ws us : List ℕ) (a n : ℕ) → ((k : ℕ) → a ≤ k → k < a + n → rowAt ws k ≡ rowAt us k) → rowsFrom ws a n ≡ rowsFrom us a n
 unfolding rowsFrom
-rows-same ws us a zero h = refl
-rows-same ws us a (suc n) h =
-    ap₂ (λ x y. x ∷ y) (h a (omega arith) (omega arith)) (rows-same ws us (suc a) n (λ k l m. h k (omega arith) (omega arith)))
+rows-same ws us a n h = run-same (rowAt ws) (rowAt us) a n h
 
 -- after a row was put in place of row k
 module _ (ws : List ℕ) (k : ℕ) (r : Row) where
@@ -153,42 +199,8 @@ module _ (ws : List ℕ) (k : ℕ) (r : Row) where
       let e3 = word-kept (j * 4 + 3) (omega arith) (omega arith) (omega arith) (omega arith) in
       λ t. e0 t ∷ e1 t ∷ e2 t ∷ e3 t ∷ []
 
-  pub put-above : (n : ℕ) → n ≤ k → rowsFrom (setRow ws k r) 0 n ≡ rowsFrom ws 0 n
-  put-above n l = rows-same (setRow ws k r) ws 0 n (λ j a b. put-other j (omega arith))
-
-  pub put-below : (a n : ℕ) → k < a → rowsFrom (setRow ws k r) a n ≡ rowsFrom ws a n
-  put-below a n l = rows-same (setRow ws k r) ws a n (λ j p q. put-other j (omega arith))
-
-  -- a row put after the first k
-  pub put-last : k * 4 + 4 ≤ length ws → rowsFrom (setRow ws k r) 0 (k + 1) ≡ rowsFrom ws 0 k ++ wordsOf r ∷ []
-  put-last l = rows-last (setRow ws k r) k ∙ ap₂ (λ us u. us ++ u ∷ []) (put-above k (omega arith)) (put-same l)
-
--- the first rows up to i, a row held, and the rest up to n, stay as they are where the held row is put in and the next one held
-pub pass-on : (ws : List ℕ) (n i : ℕ) (x : Row) → i < n → i * 4 + 4 ≤ length ws
-    → rowsFrom (setRow ws i x) 0 (i + 1) ++ rowAt ws i ∷ rowsFrom (setRow ws i x) (i + 1) (n - (i + 1)) ≡ rowsFrom ws 0 i ++ wordsOf x ∷ rowsFrom ws i (n - i)
-pass-on ws n i x l m =
-    rw (put-last ws i x m, put-below ws i x (i + 1) (n - (i + 1)) (omega arith), rows-first ws n i l) (append-snoc (rowsFrom ws 0 i) (wordsOf x) _)
-
--- one pass of a row through the rest of a set leaves it in place p
-pub record Passing (ws₀ : List ℕ) (n p : ℕ) (r : Row) (ws : List ℕ) (x : Row) (i : ℕ) : Type 0 where
-  pub reached : i ≤ n
-  pub long : length ws ≡ length ws₀
-  pub whole : rowsFrom ws 0 i ++ wordsOf x ∷ rowsFrom ws i (n - i) ≡ rowsFrom ws₀ 0 p ++ wordsOf r ∷ rowsFrom ws₀ p (n - p)
-
-module _ (ws₀ : List ℕ) (n p : ℕ) (r : Row) (ws : List ℕ) (x : Row) (i : ℕ) (t : Passing ws₀ n p r ws x i) (room : n * 4 + 4 ≤ length ws₀) where
-  pub passed-on : i < n → (ws' : List ℕ) (y : Row) → ws' ≡ setRow ws i x → wordsOf y ≡ rowAt ws i → Passing ws₀ n p r ws' y (i + 1)
-  passed-on l ws' y e f =
-      let m : length ws ≡ length ws₀ = t .long in
-      let g : rowsFrom (setRow ws i x) 0 (i + 1) ++ wordsOf y ∷ rowsFrom (setRow ws i x) (i + 1) (n - (i + 1)) ≡ rowsFrom ws₀ 0 p ++ wordsOf r ∷ rowsFrom ws₀ p (n - p)
-      = ap (λ u. rowsFrom (setRow ws i x) 0 (i + 1) ++ u ∷ rowsFrom (setRow ws i x) (i + 1) (n - (i + 1))) f ∙ pass-on ws n i x l (omega arith) ∙ t .whole in
-      rw e (record { reached = omega arith; long = put-long ws i x ∙ t .long; whole = g })
-
-  pub passed-all : n ≤ i → (ws' : List ℕ) → ws' ≡ setRow ws n x → rowsFrom ws' 0 (n + 1) ≡ rowsFrom ws₀ 0 p ++ wordsOf r ∷ rowsFrom ws₀ p (n - p)
-  passed-all l ws' e =
-      let m : length ws ≡ length ws₀ = t .long in
-      let f : i ≡ n = omega arith in
-      let g : rowsFrom ws 0 n ++ wordsOf x ∷ rowsFrom ws n (n - n) ≡ rowsFrom ws₀ 0 p ++ wordsOf r ∷ rowsFrom ws₀ p (n - p) = rw f at (t .whole) in
-      ap (λ us. rowsFrom us 0 (n + 1)) e ∙ put-last ws n x (omega arith) ∙ ap (λ us. rowsFrom ws 0 n ++ wordsOf x ∷ us) (sym (rows-end ws n n (omega arith))) ∙ g
+  pub row-replaced : k * 4 + 4 ≤ length ws → {ws' : List ℕ} → ws' ≡ setRow ws k r → Replaced (rowAt ws) (rowAt ws') k (wordsOf r)
+  row-replaced l e = rw e (record { here = put-same l; others = put-other })
 
 -- a row's place in a run, from row i on
 module _ (ws r : List ℕ) (to i : ℕ) where

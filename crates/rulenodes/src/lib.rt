@@ -8,9 +8,10 @@ use meaning::Term;
 use meaning::Terms;
 use meaning::Window;
 ghost use mathlib.Core.Path.{_≡_};
-ghost use Prim.Native.Nat.{_+_, _*_, _≤_, _<_};
+ghost use Prim.Native.Nat.{ℕ, _+_, _*_, _≤_, _<_};
 ghost use lib.ListN.{length};
 ghost use Rattle.meaning.specs.RuleFile.{wordAt, nodeCount, arity, headAt, bodyAt, bodies, bit, termOf, comparisonOf, termsOfBody, nodeOf, nodeAt, childrenOf};
+ghost use Rattle.meaning.specs.declared.Body.{Body};
 ghost use Rattle.rulenodes.specs.Children.{childrenIn};
 
 // A byte as a word.
@@ -185,4 +186,49 @@ pub fn children_of(node: Node) -> Children
         Node::Once(a, _) => Children::One(a),
         Node::Eventually(a, _) => Children::One(a),
     }
+}
+
+// The same by the head alone, whatever its relation's arity and the node's body.
+fn children_by(h: Head) -> Children
+    ensures { λ r. ⌜ ((arity : ℕ) (w : Body) → childrenIn r ≡ childrenOf (nodeOf arity h w)) ⌝ }
+{
+    let kind = h.kind;
+    match kind {
+        1 => Children::None,
+        2 => Children::Two(h.left, h.right),
+        3 => Children::Two(h.left, h.right),
+        5 => Children::Two(h.left, h.right),
+        9 => Children::Two(h.left, h.right),
+        10 => Children::Two(h.left, h.right),
+        11 => Children::Two(h.left, h.right),
+        12 => Children::Two(h.left, h.right),
+        _ => Children::One(h.left),
+    }
+}
+
+// The children of node x of a rule: of its bytes only the head is read.
+pub fn children_at(rule: &[u8], x: u8) -> Children
+    requires { ⌜ 12 + 4 * x + 4 ≤ length (now rule) ⌝ }
+    ensures { λ r. ⌜ childrenIn r ≡ childrenOf (nodeAt (now (rule .entry)) x) ⌝ }
+{
+    children_by(head_at(rule, x))
+}
+
+// The kind of node x of a rule, as its number.
+pub fn kind_at(rule: &[u8], x: u8) -> u8
+    requires { ⌜ 12 + 4 * x + 4 ≤ length (now rule) ⌝ }
+    ensures { λ r. ⌜ r ≡ headAt (now (rule .entry)) x .kind ⌝ }
+{
+    let at = 12 + 4 * (x as usize);
+    rule[at]
+}
+
+// The word of node x's body that is a window's end where its kind has a window.
+pub fn end_at(rule: &[u8], x: u8) -> u32
+    requires { ⌜ (length (now rule) ≡ 12 + 20 * nodeCount (now rule)) × (x < nodeCount (now rule)) ⌝ }
+    ensures { λ r. ⌜ r ≡ bodyAt (bodies (now (rule .entry))) x .word1 ⌝ }
+{
+    let b = 12 + 4 * (rule[2] as usize);
+    let at = 16 * (x as usize) + 4;
+    word_at(&rule[b..], at)
 }

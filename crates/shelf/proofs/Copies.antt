@@ -16,12 +16,12 @@ pub rows-more : (ws : List ℕ) (a m : ℕ) → rowsFrom ws a (m + 1) ≡ rowsFr
 unfolding rowsFrom
 rows-more ws a m = listed-more (rowAt ws) a m
 
-no-rows : (ws us : List ℕ) (a b : ℕ) → rowsFrom ws a 0 ≡ rowsFrom us b 0
+pub no-rows : (ws us : List ℕ) (a b : ℕ) → rowsFrom ws a 0 ≡ rowsFrom us b 0
 unfolding rowsFrom
 no-rows ws us a b = refl
 
 -- a row put in leaves the words before it
-word-before : (ws : List ℕ) (k : ℕ) (r : Row) (j : ℕ) → j < k * 4 → getD (setRow ws k r) j 0 ≡ getD ws j 0
+pub word-before : (ws : List ℕ) (k : ℕ) (r : Row) (j : ℕ) → j < k * 4 → getD (setRow ws k r) j 0 ≡ getD ws j 0
 unfolding setRow
 word-before ws k r j l =
     let n0 : j ≢ k * 4 = omega arith in

@@ -14,14 +14,18 @@ use Rattle.room.proofs.Laid.{mark-before}
 use Rattle.room.specs.Room.{setIn, Laid}
 use Rattle.shelf.specs.Appended.{Copied, Space, Extended, Pushed}
 
--- a row before the copied ones
-pub row-kept : {old : List ℕ} {end : ℕ} {new : List ℕ} {count : ℕ} {rows : List (List ℕ)} → Copied old end new count rows → (k : ℕ) → k < end → rowAt new k ≡ rowAt old k
-row-kept h k l =
-    let e0 = h .below (k * 4) (omega arith) in
-    let e1 = h .below (k * 4 + 1) (omega arith) in
-    let e2 = h .below (k * 4 + 2) (omega arith) in
-    let e3 = h .below (k * 4 + 3) (omega arith) in
+-- a row of words that haven't changed
+pub row-below : (old new : List ℕ) {end : ℕ} → ((j : ℕ) → j < end * 4 → getD new j 0 ≡ getD old j 0) → (k : ℕ) → k < end → rowAt new k ≡ rowAt old k
+row-below old new h k l =
+    let e0 = h (k * 4) (omega arith) in
+    let e1 = h (k * 4 + 1) (omega arith) in
+    let e2 = h (k * 4 + 2) (omega arith) in
+    let e3 = h (k * 4 + 3) (omega arith) in
     λ t. e0 t ∷ e1 t ∷ e2 t ∷ e3 t ∷ []
+
+-- a row before the copied ones
+row-kept : {old : List ℕ} {end : ℕ} {new : List ℕ} {count : ℕ} {rows : List (List ℕ)} → Copied old end new count rows → (k : ℕ) → k < end → rowAt new k ≡ rowAt old k
+row-kept {old} {new = new} h = row-below old new (h .below)
 
 -- rows copied behind n sets, and the mark set behind them
 module _ {rows at : List ℕ} {n count : ℕ} (s : Space rows at n count) {rows' : List ℕ} {new : List (List ℕ)} (h : Copied rows (getD at n 0) rows' count new)

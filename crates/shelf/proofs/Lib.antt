@@ -4,5 +4,5 @@ pub mod Listed
 pub mod Copies
 pub mod Growth
 pub mod Putting
-pub mod Packing
+pub mod Entries
 pub mod Walking

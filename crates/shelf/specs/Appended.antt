@@ -1,10 +1,14 @@
 -- Words put behind others, rows copied behind others, and sets appended to those of a call.
 use Prim.Native.Nat.{ℕ, _+_, _*_, _≤_, _<_}
 use mathlib.Core.Path.{_≡_}
-use mathlib.Core.List.{List}
-use lib.ListN.{length, getD}
+use mathlib.Core.List.{List, _++_}
+use lib.ListN.{length, getD, drop}
 use Rattle.rowset.specs.Rows.{rowsFrom}
 use Rattle.room.specs.Room.{setIn, Laid}
+
+-- words at the front of others, of which the rest stay behind them
+abbrev pub atFront : List ℕ → List ℕ → List ℕ
+atFront words old = words ++ drop (length words) old
 
 -- count words put at word end and on, of which f says each; no word before or behind them has changed
 pub record WordsPut (old : List ℕ) (end : ℕ) (new : List ℕ) (count : ℕ) (f : ℕ → ℕ) : Type 0 where

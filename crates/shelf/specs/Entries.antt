@@ -1,12 +1,10 @@
 -- Kept entries as they stand in three lists: the owner of each, a node twice and its mark; its number; and its row of four words.
 -- Entries of one owner and number stand together: a run.
 use Prim.Native.Nat.{ℕ, zero, suc, _-_, _*_, _/_, _%_, _≤_}
-use mathlib.Core.Path.{_≡_}
 use mathlib.Core.Bool.{Bool, false, cond, _&&_}
-use mathlib.Core.List.{List, [], _∷_, _++_, map}
+use mathlib.Core.List.{List, [], _∷_, map}
 use lib.ListN.{length, getD}
 use lib.Dec.{eqb}
-use Rattle.meaning.specs.Outcome.{mostKept}
 use Rattle.meaning.specs.Lists.{range}
 use Rattle.meaning.specs.Kept.{Entry, entryOf}
 use Rattle.rowset.specs.Rows.{rowAt}
@@ -21,10 +19,6 @@ entryAt owners numbers values k = ownedBy (getD owners k 0) (getD numbers k 0) (
 -- as many entries as count says, from entry from on
 unfoldable pub entriesFrom : List ℕ → List ℕ → List ℕ → ℕ → ℕ → List Entry
 entriesFrom owners numbers values from count = map (entryAt owners numbers values) (range from count)
-
--- the entries of one owner, each with its own number: its pairs, and their ages
-unfoldable pub pairEntries : ℕ → List ℕ → List ℕ → ℕ → ℕ → List Entry
-pairEntries owner ages rows from count = map (λ k. ownedBy owner (getD ages k 0) (rowAt rows k)) (range from count)
 
 -- how many numbers from i on pass a test, one after the other, of as many as left says
 abbrev pub streak : (ℕ → Bool) → ℕ → ℕ → ℕ
@@ -64,11 +58,3 @@ pub record Stands (owners numbers values : List ℕ) (count : ℕ) : Type 0 wher
   pub ownersThere : count ≤ length owners
   pub numbersThere : count ≤ length numbers
   pub valuesThere : count * 4 ≤ length values
-
--- kept entries and then more: kept' in all. Past the most that are kept only the count goes on.
-pub record Packed (owners numbers values : List ℕ) (kept : ℕ) (owners' numbers' values' : List ℕ) (kept' : ℕ) (more : List Entry) : Type 0 where
-  pub ownersLong : length owners' ≡ length owners
-  pub numbersLong : length numbers' ≡ length numbers
-  pub valuesLong : length values' ≡ length values
-  pub grown : kept ≤ kept'
-  pub whole : kept' ≤ mostKept → entriesFrom owners' numbers' values' 0 kept' ≡ entriesFrom owners numbers values 0 kept ++ more

@@ -1,14 +1,11 @@
-// Kept entries read into the sets of a call, and sets written back as entries.
+// Kept entries read into the sets of a call, and words and rows put behind others.
 use meaning::Point;
-use rowset::Row;
 ghost use mathlib.Core.Path.{_≡_};
-ghost use mathlib.Core.List.{[], _∷_, map};
 ghost use Prim.Native.Nat.{_+_, _-_, _*_, _≤_, _<_};
 ghost use lib.ListN.{length, getD};
-ghost use Rattle.rowset.specs.Rows.{wordsOf, rowsFrom};
+ghost use Rattle.rowset.specs.Rows.{rowsFrom};
 ghost use Rattle.rowset.specs.Sets.{Run};
-ghost use Rattle.shelf.specs.Entries.{ownedBy, pairEntries, isOf, runOf, pairRunOf, Stands, Packed};
-ghost use Rattle.meaning.specs.Outcome.{mostKept};
+ghost use Rattle.shelf.specs.Entries.{isOf, runOf, pairRunOf, Stands};
 ghost use Rattle.shelf.specs.Appended.{WordsPut, Copied, Space, Pushed};
 
 // Entry k has that owner, and that point's number.
@@ -106,55 +103,8 @@ pub fn load(
     next
 }
 
-// Writes entry k, where there is room for it.
-fn put_entry(
-    owners: &mut [u32],
-    numbers: &mut [u32],
-    values: &mut [u32],
-    k: usize,
-    owner: u32,
-    number: Point,
-    row: Row,
-)
-    requires { ⌜ Stands (now owners) (now numbers) (now values) mostKept ⌝ }
-    ensures { λ _. ⌜ Packed (now (owners .entry)) (now (numbers .entry)) (now (values .entry)) k (now (owners .exit)) (now (numbers .exit)) (now (values .exit)) (k + 1) (ownedBy owner (number .0) (wordsOf row) ∷ []) ⌝ }
-{
-    if k < 512 {
-        owners[k] = owner;
-        numbers[k] = number.0;
-        rowset::put_row(values, k, row);
-    }
-}
-
-// Appends an entry for each of rows from..to, while there is room, and counts on; the number of entries then.
-pub fn pack(
-    rows: &[u32],
-    from: usize,
-    to: usize,
-    owner: u32,
-    number: Point,
-    owners: &mut [u32],
-    numbers: &mut [u32],
-    values: &mut [u32],
-    kept: usize,
-) -> usize
-    requires { ⌜ Run (now rows) from to × Stands (now owners) (now numbers) (now values) mostKept × (kept < 4294967296) ⌝ }
-    ensures count { λ r. ⌜ r ≡ kept + (to - from) ⌝ }
-    ensures packed { λ r. ⌜ Packed (now (owners .entry)) (now (numbers .entry)) (now (values .entry)) kept (now (owners .exit)) (now (numbers .exit)) (now (values .exit)) r (map (ownedBy owner (number .0)) (rowsFrom (now (rows .entry)) from (to - from))) ⌝ }
-{
-    let mut k = kept;
-    let mut i = from;
-    while i < to {
-        let row = rowset::row_at(rows, i);
-        put_entry(owners, numbers, values, k, owner, number, row);
-        k += 1;
-        i += 1;
-    }
-    k
-}
-
 // Puts n times the word at word `end` and on.
-fn fill(word: u32, n: usize, words: &mut [u32], end: usize)
+pub fn fill(word: u32, n: usize, words: &mut [u32], end: usize)
     requires { ⌜ end + n ≤ length (now words) ⌝ }
     ensures { λ _. ⌜ WordsPut (now (words .entry)) end (now (words .exit)) n (λ _. word) ⌝ }
 {
@@ -175,28 +125,4 @@ pub fn copy_words(from: &[u32], n: usize, words: &mut [u32], end: usize)
         words[end + k] = from[k];
         k += 1;
     }
-}
-
-// Appends an entry for each of n pairs, with its age as its number, if there is room for all, and counts on; the number of entries then.
-pub fn pack_pairs(
-    ages: &[u32],
-    rows: &[u32],
-    n: usize,
-    owner: u32,
-    owners: &mut [u32],
-    numbers: &mut [u32],
-    values: &mut [u32],
-    kept: usize,
-) -> usize
-    requires { ⌜ (n ≤ length (now ages)) × (n * 4 ≤ length (now rows)) × Stands (now owners) (now numbers) (now values) mostKept × (kept < 4294967296) ⌝ }
-    ensures count { λ r. ⌜ r ≡ kept + n ⌝ }
-    ensures packed { λ r. ⌜ Packed (now (owners .entry)) (now (numbers .entry)) (now (values .entry)) kept (now (owners .exit)) (now (numbers .exit)) (now (values .exit)) r (pairEntries owner (now (ages .entry)) (now (rows .entry)) 0 n) ⌝ }
-{
-    if 512 < kept + n {
-        return kept + n;
-    }
-    fill(owner, n, owners, kept);
-    copy_words(ages, n, numbers, kept);
-    copy_rows(rows, 0, n, values, kept);
-    kept + n
 }

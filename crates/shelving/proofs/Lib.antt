@@ -2,4 +2,5 @@
 pub mod Gathered
 pub mod Loading
 pub mod Paired
-pub mod Packs
+pub mod Moving
+pub mod Keeping

@@ -16,7 +16,7 @@ use Rattle.room.specs.Room.{setIn, Laid}
 use Rattle.shelf.specs.Entries.{entriesFrom, runOf, begins, hasOwner}
 use Rattle.shelf.specs.Appended.{Space, Pushed}
 use Rattle.shelf.proofs.Growth.{pushed-set, extended-none, extended-as, extended-next}
-use Rattle.shelf.proofs.Packing.{run-within}
+use Rattle.shelf.proofs.Entries.{run-within}
 use Rattle.shelf.proofs.Walking.{RunAt, run-walked}
 use Rattle.shelving.specs.Shelved.{setEntries, Spaces, Taken, Loaded}
 use Rattle.shelving.proofs.Gathered.{sets-first, sets-later}
@@ -44,7 +44,7 @@ module _ {os ns vs : List ℕ} {cursor count x : ℕ} {low : Point} {n : ℕ} {r
   -- there is room for the next set
   pub loading-space : Spaces rows at sets n (count - cursor) → k < n → (owner number : ℕ) → Space rows' at' (sets + k) (runOf os ns next count owner number)
   loading-space s l owner number =
-      let w = run-within os ns vs next count owner number (t .taken .within) in
+      let w = run-within os ns next count owner number (t .taken .within) in
       let g = t .taken .more in
       record { laid = g .laid; mark = omega (arith, g .atLong); words = omega (arith, g .rowsLong, t .taken .end); small = omega (arith, t .taken .end) }
 
@@ -52,7 +52,7 @@ module _ {os ns vs : List ℕ} {cursor count x : ℕ} {low : Point} {n : ℕ} {r
       (p : Pushed rows' at' rows'' at'' (sets + k) (runOf os ns next count (x * 2) (low .0 + k)) (rowsFrom vs next (runOf os ns next count (x * 2) (low .0 + k)))) where
     taken-more : Taken cursor count rows at rows'' at'' sets (k + 1) next'
     taken-more =
-        let w = run-within os ns vs next count (x * 2) (low .0 + k) (t .taken .within) in
+        let w = run-within os ns next count (x * 2) (low .0 + k) (t .taken .within) in
         let f : sets + k + 1 ≡ sets + (k + 1) = omega arith in
         let u : getD at'' (sets + (k + 1)) 0 ≡ getD at' (sets + k) 0 + runOf os ns next count (x * 2) (low .0 + k) = rw f at (p .end) in
         let before = extended-as (t .taken .more) (λ q m. sym (p .more .earlier (sets + q) (omega arith))) in

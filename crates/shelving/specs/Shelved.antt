@@ -1,4 +1,4 @@
--- A node's kept sets and pairs as entries: read from the entries at a cursor, and written behind others.
+-- A node's kept sets and pairs as entries, and its sets read from the entries at a cursor.
 use Prim.Native.Nat.{ℕ, _+_, _-_, _*_, _≤_, _<_}
 use mathlib.Core.Path.{_≡_}
 use mathlib.Core.Bool.{false}
@@ -8,8 +8,6 @@ use Rattle.meaning.specs.Lists.{gather}
 use Rattle.meaning.specs.Log.{point, pointsFrom}
 use Rattle.meaning.specs.Kept.{Entry, entryOf}
 use Rattle.meaning.specs.declared.Point.{Point}
-use Rattle.meaning.specs.Order.{OfLength}
-use Rattle.kinds.specs.Kinds.{pairsFrom}
 use Rattle.room.specs.Room.{setIn, Laid}
 use Rattle.shelf.specs.Entries.{entriesFrom, begins, hasOwner}
 use Rattle.shelf.specs.Appended.{Extended}
@@ -41,21 +39,3 @@ pub record Loaded (os ns vs : List ℕ) (cursor count x : ℕ) (low : Point) (n 
   pub taken : Taken cursor count rows at rows' at' sets n cursor'
   pub read : (S : Point → List (List ℕ)) (rest : List Entry) → entriesFrom os ns vs cursor (count - cursor) ≡ setEntries x S low n ++ rest → begins (hasOwner x 0) rest ≡ false
       → Extended rows at rows' at' sets n (λ k. S (point (low .0 + k))) × (entriesFrom os ns vs cursor' (count - cursor') ≡ rest)
-
--- where the entries at cursor begin with those of node x's pairs, these stand from cursor to r, and r is at the rest; whatever numbers and values stand beside the owners
-pub record PairsEnd (os : List ℕ) (cursor count x r : ℕ) : Type 0 where
-  pub onward : cursor ≤ r
-  pub within : r ≤ count
-  pub read : (ns vs : List ℕ) (pairs : List (List ℕ)) (rest : List Entry) → OfLength 5 pairs → entriesFrom os ns vs cursor (count - cursor) ≡ agedEntries x pairs ++ rest → begins (hasOwner x 1) rest ≡ false
-      → (pairsFrom ns vs cursor (r - cursor) ≡ pairs) × (entriesFrom os ns vs r (count - r) ≡ rest)
-
--- a node's sets stand from point low on, set `first` and those behind it; how many rows those at n points from `from` on have
-abbrev pub rowsBetween : List ℕ → ℕ → Point → Point → ℕ → ℕ
-rowsBetween at first low from n = getD at (first + (from .0 + n - low .0)) 0 - getD at (first + (from .0 - low .0)) 0
-
--- those sets are there, and can be counted on from kept
-pub record Packable (rows at : List ℕ) (first : ℕ) (low from : Point) (n kept : ℕ) : Type 0 where
-  pub begun : low .0 ≤ from .0
-  pub laid : Laid rows at (first + (from .0 + n - low .0))
-  pub points : from .0 + n < 4294967296
-  pub small : kept + rowsBetween at first low from n < 4294967296

@@ -1,16 +1,14 @@
-// All kept sets and pairs of one node read from the entries, and written back as entries.
+// A node's kept sets read from the entries, sets put in the place of others, and a node's sets and pairs put behind what is kept.
 use meaning::Point;
-ghost use mathlib.Core.Path.{_≡_};
-ghost use mathlib.Core.List.{_++_, map};
-ghost use Prim.Native.Nat.{_+_, _-_, _*_, _≤_, _<_};
+ghost use Prim.Native.Nat.{ℕ, _+_, _-_, _*_, _≤_, _<_};
 ghost use lib.ListN.{length, getD};
-ghost use Rattle.meaning.specs.Kept.{entryOf};
-ghost use Rattle.meaning.specs.Outcome.{mostKept};
 ghost use Rattle.rowset.specs.Sets.{Run};
 ghost use Rattle.kinds.specs.Kinds.{pairsFrom};
-ghost use Rattle.room.specs.Room.{setIn, setAt};
-ghost use Rattle.shelf.specs.Entries.{Stands, Packed};
-ghost use Rattle.shelving.specs.Shelved.{setEntries, agedEntries, rowsBetween, Spaces, Loaded, PairsEnd, Packable};
+ghost use Rattle.room.specs.Room.{setAt, Laid};
+ghost use Rattle.shelf.specs.Entries.{Stands};
+ghost use Rattle.shelving.specs.Shelved.{setEntries, agedEntries, Spaces, Loaded};
+ghost use Rattle.shelving.specs.Blocks.{MovedDown, RoomToKeep, EntriesPut};
+ghost use Rattle.shelving.specs.Parts.{Moved, MarksLowered, PointsPut};
 
 // Appends the node's sets at n points, from low on, behind `sets` others; the entry behind those of the sets.
 pub fn load_sets(
@@ -50,97 +48,112 @@ pub fn load_sets(
     next
 }
 
-// The entry behind the node's pairs, which begin at the cursor.
-pub fn pairs_end(owners: &[u32], cursor: usize, count: usize, x: u32) -> usize
-    requires { ⌜ (cursor ≤ count) × (count ≤ length (now owners)) × (x < 2147483648) ⌝ }
-    ensures { λ r. ⌜ PairsEnd (now (owners .entry)) cursor count x r ⌝ }
+// Copies rows from..to to row end and on, which isn't behind them.
+fn copy_down(rows: &mut [u32], from: usize, to: usize, end: usize)
+    requires { ⌜ Run (now rows) from to × (end ≤ from) ⌝ }
+    ensures { λ _. ⌜ Moved (now (rows .entry)) end (now (rows .exit)) from (to - from) ⌝ }
 {
-    shelf::pair_run_end(owners, cursor, count, x * 2 + 1)
-}
-
-// Appends an entry of the node at point i for each row of set q; the number of entries then.
-fn pack_set(
-    rows: &[u32],
-    at: &[u32],
-    q: usize,
-    x: u32,
-    i: Point,
-    owners: &mut [u32],
-    numbers: &mut [u32],
-    values: &mut [u32],
-    kept: usize,
-) -> usize
-    requires { ⌜ (q + 1 < length (now at)) × Run (now rows) (getD (now at) q 0) (getD (now at) (q + 1) 0) × Stands (now owners) (now numbers) (now values) mostKept × (kept < 4294967296) × (x < 2147483648) ⌝ }
-    ensures count { λ r. ⌜ r ≡ kept + (getD (now (at .entry)) (q + 1) 0 - getD (now (at .entry)) q 0) ⌝ }
-    ensures packed { λ r. ⌜ Packed (now (owners .entry)) (now (numbers .entry)) (now (values .entry)) kept (now (owners .exit)) (now (numbers .exit)) (now (values .exit)) r (map (entryOf x 0 (i .0)) (setIn (now (rows .entry)) (now (at .entry)) q)) ⌝ }
-{
-    let from = at[q] as usize;
-    let to = at[q + 1] as usize;
-    shelf::pack(rows, from, to, x * 2, i, owners, numbers, values, kept)
-}
-
-// The same for the node's sets at n points from `from` on, where set `first` is the one at point low.
-pub fn pack_sets(
-    rows: &[u32],
-    at: &[u32],
-    first: usize,
-    low: Point,
-    from: Point,
-    n: usize,
-    x: u32,
-    owners: &mut [u32],
-    numbers: &mut [u32],
-    values: &mut [u32],
-    kept: usize,
-) -> usize
-    requires { ⌜ Packable (now rows) (now at) first low from n kept × Stands (now owners) (now numbers) (now values) mostKept × (x < 2147483648) ⌝ }
-    ensures count { λ r. ⌜ r ≡ kept + rowsBetween (now (at .entry)) first low from n ⌝ }
-    ensures packed { λ r. ⌜ Packed (now (owners .entry)) (now (numbers .entry)) (now (values .entry)) kept (now (owners .exit)) (now (numbers .exit)) (now (values .exit)) r (setEntries x (setAt (now (rows .entry)) (now (at .entry)) first low) from n) ⌝ }
-{
-    let mut k = kept;
-    let mut i = 0;
-    while i < n {
-        let j = Point(from.0 + i as u32);
-        let q = first + (j.0 - low.0) as usize;
-        k = pack_set(rows, at, q, x, j, owners, numbers, values, k);
+    if end == from {
+        return;
+    }
+    let mut k = end;
+    let mut i = from;
+    while i < to {
+        let row = rowset::row_at(rows, i);
+        rowset::put_row(rows, k, row);
+        k += 1;
         i += 1;
     }
-    k
 }
 
-// The same for the node's sets and then its pairs, of which each has an age and a row in `paired`.
-pub fn pack_node(
+// Lowers the marks of m sets from set n + d on to set n.
+fn lower_marks(at: &mut [u32], n: usize, d: usize, m: usize)
+    requires { ⌜ (n + d + m < length (now at)) × (getD (now at) n 0 ≤ getD (now at) (n + d) 0) × ((k : ℕ) → k ≤ m → getD (now at) (n + d) 0 ≤ getD (now at) (n + d + k) 0) ⌝ }
+    ensures { λ _. ⌜ MarksLowered (now (at .entry)) (now (at .exit)) n d m ⌝ }
+{
+    let by = at[n + d] - at[n];
+    let mut k = 0;
+    while k < m {
+        k += 1;
+        at[n + k] = at[n + d + k] - by;
+    }
+}
+
+// Puts the m sets from set n + d on in the place of set n and those behind it.
+pub fn move_down(rows: &mut [u32], at: &mut [u32], n: usize, d: usize, m: usize)
+    requires { ⌜ Laid (now rows) (now at) (n + d + m) ⌝ }
+    ensures { λ _. ⌜ MovedDown (now (rows .entry)) (now (at .entry)) (now (rows .exit)) (now (at .exit)) n d m ⌝ }
+{
+    let end = at[n] as usize;
+    let from = at[n + d] as usize;
+    let to = at[n + d + m] as usize;
+    copy_down(rows, from, to, end);
+    lower_marks(at, n, d, m);
+}
+
+// Puts a number for each row of n sets from set q on at word `end` and on: for those of the first set the point `from`, for those of the next the point behind it, and so on.
+fn put_points(at: &[u32], q: usize, n: usize, from: Point, numbers: &mut [u32], end: usize)
+    requires { ⌜ (q + n < length (now at)) × ((s : ℕ) → s < q + n → getD (now at) s 0 ≤ getD (now at) (s + 1) 0) × (end + (getD (now at) (q + n) 0 - getD (now at) q 0) ≤ length (now numbers)) × (from .0 + n < 4294967296) ⌝ }
+    ensures { λ _. ⌜ PointsPut (now (at .entry)) q n (from .0) (now (numbers .entry)) end (now (numbers .exit)) ⌝ }
+{
+    if at[q] == at[q + n] {
+        return;
+    }
+    let mut next = end;
+    let mut k = 0;
+    while k < n {
+        let count = (at[q + k + 1] - at[q + k]) as usize;
+        shelf::fill(from.0 + k as u32, count, numbers, next);
+        next += count;
+        k += 1;
+    }
+}
+
+// Puts the rows of a node's sets at n points from `from` on behind the kept entries, with their points as numbers, where there is room for all; how many entries are then kept, or one more than there is room for. Set `first` is the one at point low.
+pub fn keep_sets(
     rows: &[u32],
     at: &[u32],
     first: usize,
     low: Point,
     from: Point,
     n: usize,
-    ages: &[u32],
-    paired: &[u32],
-    pairs: usize,
-    x: u32,
-    owners: &mut [u32],
-    numbers: &mut [u32],
-    values: &mut [u32],
+    out_numbers: &mut [u32],
+    out_values: &mut [u32],
     kept: usize,
 ) -> usize
-    requires { ⌜ Packable (now rows) (now at) first low from n kept × (pairs ≤ length (now ages)) × (pairs * 4 ≤ length (now paired)) × Stands (now owners) (now numbers) (now values) mostKept × (x < 2147483648) ⌝ }
-    ensures count { λ r. ⌜ r ≡ kept + rowsBetween (now (at .entry)) first low from n + pairs ⌝ }
-    ensures packed { λ r. ⌜ Packed (now (owners .entry)) (now (numbers .entry)) (now (values .entry)) kept (now (owners .exit)) (now (numbers .exit)) (now (values .exit)) r (setEntries x (setAt (now (rows .entry)) (now (at .entry)) first low) from n ++ agedEntries x (pairsFrom (now (ages .entry)) (now (paired .entry)) 0 pairs)) ⌝ }
+    requires { ⌜ (low .0 ≤ from .0) × Laid (now rows) (now at) (first + (from .0 + n - low .0)) × (from .0 + n < 4294967296) × RoomToKeep (now «out_numbers») (now «out_values») kept ⌝ }
+    ensures { λ r. ⌜ ((x : ℕ) → EntriesPut x 0 (now («out_numbers» .entry)) (now («out_values» .entry)) (now («out_numbers» .exit)) (now («out_values» .exit)) kept r (setEntries x (setAt (now (rows .entry)) (now (at .entry)) first low) from n)) ⌝ }
 {
-    let k = pack_sets(
-        rows,
-        at,
-        first,
-        low,
-        from,
-        n,
-        x,
-        owners,
-        numbers,
-        values,
-        kept,
-    );
-    shelf::pack_pairs(ages, paired, pairs, x * 2 + 1, owners, numbers, values, k)
+    let q = first + (from.0 - low.0) as usize;
+    let start = at[q] as usize;
+    let end = at[q + n] as usize;
+    let count = end - start;
+    let most = out_numbers.len();
+    if most < kept + count {
+        return most + 1;
+    }
+    shelf::copy_rows(rows, start, end, out_values, kept);
+    put_points(at, q, n, from, out_numbers, kept);
+    kept + count
+}
+
+// The same for pairs, each an age and a row, with their ages as numbers.
+pub fn keep_pairs(
+    ages: &[u32],
+    values: &[u32],
+    out_numbers: &mut [u32],
+    out_values: &mut [u32],
+    kept: usize,
+) -> usize
+    requires { ⌜ (length (now ages) * 4 ≤ length (now values)) × RoomToKeep (now «out_numbers») (now «out_values») kept ⌝ }
+    ensures { λ r. ⌜ ((x : ℕ) → EntriesPut x 1 (now («out_numbers» .entry)) (now («out_values» .entry)) (now («out_numbers» .exit)) (now («out_values» .exit)) kept r (agedEntries x (pairsFrom (now (ages .entry)) (now (values .entry)) 0 (length (now (ages .entry)))))) ⌝ }
+{
+    let n = ages.len();
+    let most = out_numbers.len();
+    if most < kept + n {
+        return most + 1;
+    }
+    shelf::copy_words(ages, n, out_numbers, kept);
+    shelf::copy_rows(values, 0, n, out_values, kept);
+    kept + n
 }

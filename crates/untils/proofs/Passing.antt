@@ -47,7 +47,7 @@ pub nothing-asked : {left : Left} (sets : Point → List (List ℕ)) (r : List �
 nothing-asked sets r ps e = rw e (sym (all-true ps))
 
 -- what one element gives where some are chosen
-gather-one : {A B : Type 0} (p : A → Bool) (f : A → List B) (x : A) (xs : List A) → gather f (select p (x ∷ xs)) ≡ cond (p x) (f x) [] ++ gather f (select p xs)
+pub gather-one : {A B : Type 0} (p : A → Bool) (f : A → List B) (x : A) (xs : List A) → gather f (select p (x ∷ xs)) ≡ cond (p x) (f x) [] ++ gather f (select p xs)
 gather-one p f x xs = go (p x)
   where
     go : (t : Bool) → gather f (cond t (x ∷ select p xs) (select p xs)) ≡ cond t (f x) [] ++ gather f (select p xs)

@@ -13,7 +13,6 @@ ghost use Rattle.meaning.specs.Lists.{all, select};
 ghost use Rattle.meaning.specs.Log.{elapsed, pointsFrom};
 ghost use Rattle.meaning.specs.Formula.{inWindow};
 ghost use Rattle.meaning.specs.Evaluator.{leading, untilRows};
-ghost use Rattle.method.specs.Settle.{grownBy};
 ghost use Rattle.method.specs.Stored.{stampIn};
 ghost use Rattle.rowset.specs.Rows.{wordsOf, rowsFrom, lookUp};
 ghost use Rattle.rowset.specs.Sets.{Run, Room, Added};
@@ -47,20 +46,8 @@ pub fn elapsed(s: Stamp, t: Stamp) -> u32
     if s.0 < t.0 { t.0 - s.0 } else { 0 }
 }
 
-// How much older pairs grow up to point i: nothing at the first point.
-pub fn grown_by(times: &[u32], base: Point, i: Point) -> u32
-    ensures { λ r. ⌜ r ≡ grownBy (stampIn base (now (times .entry))) i ⌝ }
-{
-    if i.0 == 0 {
-        return 0;
-    }
-    let before = progress::time_in(times, base, Point(i.0 - 1));
-    let here = progress::time_in(times, base, i);
-    elapsed(before, here)
-}
-
 // The window holds what has elapsed from a stamp to point j's.
-fn due(times: &[u32], base: Point, w: Window, start: Stamp, j: Point) -> bool
+pub fn due(times: &[u32], base: Point, w: Window, start: Stamp, j: Point) -> bool
     ensures { λ r. ⌜ r ≡ inWindow w (elapsed start (stampIn base (now (times .entry)) j)) ⌝ }
 {
     in_window(w, elapsed(start, progress::time_in(times, base, j)))
@@ -79,7 +66,7 @@ pub fn set_part(at: &[u32], first: usize, low: Point, j: Point) -> Part
 }
 
 // Left passes, where a row was found in its set or not.
-fn passes(left: Left, found: bool) -> bool
+pub fn passes(left: Left, found: bool) -> bool
     ensures { λ r. ⌜ r ≡ passes left found ⌝ }
 {
     match left {
@@ -90,7 +77,7 @@ fn passes(left: Left, found: bool) -> bool
 }
 
 // The row is in a node's set at point k.
-fn found_at(rows: &[u32], at: &[u32], first: usize, low: Point, k: Point, r: Row) -> bool
+pub fn found_at(rows: &[u32], at: &[u32], first: usize, low: Point, k: Point, r: Row) -> bool
     requires { ⌜ Stand (now rows) (now at) first low k (k .0 + 1) ⌝ }
     ensures { λ t. ⌜ t ≡ lookUp (wordsOf r) (setAt (now (rows .entry)) (now (at .entry)) first low k) ⌝ }
 {
@@ -99,7 +86,7 @@ fn found_at(rows: &[u32], at: &[u32], first: usize, low: Point, k: Point, r: Row
 }
 
 // Left passes for a row that is cut down already at every point from i on before j.
-fn passes_from(
+pub fn passes_from(
     left: Left,
     r: Row,
     rows: &[u32],
@@ -125,7 +112,7 @@ fn passes_from(
 }
 
 // Left passes for row u at every point from i on before j; nothing is looked up where nothing is asked.
-fn leads(
+pub fn leads(
     left: Left,
     mask: u8,
     u: Row,
@@ -146,7 +133,7 @@ fn leads(
 }
 
 // Puts in the rows from..to for which left passes at every point from i on before j.
-fn put_leading(
+pub fn put_leading(
     left: Left,
     mask: u8,
     rows: &[u32],

@@ -1,2 +1,3 @@
 -- Facts about the words that nodes hand down.
 pub mod Handed
+pub mod Firsts

@@ -1,38 +1,27 @@
 // The point from which on each node's rows are kept for its parent.
-use meaning::Node;
 use meaning::Point;
 use rulenodes::Children;
 ghost use mathlib.Core.Path.{_≡_};
 ghost use mathlib.Core.List.{[], _∷_, List·Memᴰ};
-ghost use Prim.Native.Nat.{ℕ, _≤_, _<_};
+ghost use Prim.Native.Nat.{ℕ, _+_, _*_, _≤_, _<_};
 ghost use lib.ListN.{length, getD};
 ghost use Rattle.meaning.specs.Outcome.{given};
-ghost use Rattle.meaning.specs.RuleFile.{Accepted, checking, nodeCount};
+ghost use Rattle.meaning.specs.RuleFile.{Accepted, checking, nodeCount, nodeAt};
 ghost use Rattle.method.specs.Step.{firstWanted, wantedFrom};
 ghost use Rattle.rulenodes.specs.Children.{childrenIn};
 ghost use Rattle.progress.specs.Bounds.{Within};
 ghost use Rattle.wanted.specs.Wants.{Wants};
 
-// The first point of a child that an unsettled point of its parent consults, with p points of the parent settled.
-fn first_wanted(node: Node, p: u32) -> Point
-    requires { ⌜ p < 4294967295 ⌝ }
-    ensures { λ r. ⌜ r ≡ firstWanted node p ⌝ }
+// The first point of a child that an unsettled point of its parent, node x, consults, with p points of the parent settled. Only the node's kind is read.
+fn first_wanted(rule: &[u8], x: u8, p: u32) -> Point
+    requires { ⌜ (12 + 4 * x + 4 ≤ length (now rule)) × (p < 4294967295) ⌝ }
+    ensures { λ r. ⌜ r ≡ firstWanted (nodeAt (now (rule .entry)) x) p ⌝ }
 {
-    match node {
-        Node::Atom(_, _) => Point(p),
-        Node::And(_, _) => Point(p),
-        Node::AndNot(_, _) => Point(p),
-        Node::Keep(_, _, _) => Point(p),
-        Node::Or(_, _) => Point(p),
-        Node::Exists(_, _) => Point(p),
-        Node::Previous(_, _) => Point(progress::less(p, 1)),
-        Node::Next(_, _) => Point(p + 1),
-        Node::Since(_, _, _) => Point(p),
-        Node::NotSince(_, _, _) => Point(p),
-        Node::Until(_, _, _) => Point(p),
-        Node::NotUntil(_, _, _) => Point(p),
-        Node::Once(_, _) => Point(p),
-        Node::Eventually(_, _) => Point(p),
+    let kind = rulenodes::kind_at(rule, x);
+    match kind {
+        7 => Point(progress::less(p, 1)),
+        8 => Point(p + 1),
+        _ => Point(p),
     }
 }
 
@@ -69,9 +58,8 @@ pub fn wanted(rule: &[u8], counts: &[u32], out: &mut [u32])
     let n = rule[2];
     let mut x: u8 = 0;
     while x < n {
-        let node = rulenodes::node_at(rule, x);
-        let first = first_wanted(node, counts[x as usize]);
-        let children = rulenodes::children_of(node);
+        let first = first_wanted(rule, x, counts[x as usize]);
+        let children = rulenodes::children_at(rule, x);
         want_children(counts, first, children, out);
         x += 1;
     }

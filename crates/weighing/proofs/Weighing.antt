@@ -1,4 +1,4 @@
--- Refusals 14 to 16 weighed: the last node's report has few words, and what each branch of the weighing gives.
+-- Refusals 14 to 16 weighed: a report on few points has few words, and what each branch of the weighing gives.
 use Prim.Native.Nat.{ℕ, zero, suc, _+_, _-_, _*_, _^_, _≤_, _<_}
 use native.Mathlib.Nat.{mul-le-mul-right}
 use native.Mathlib.Omega.{arith}
@@ -12,18 +12,17 @@ use Rattle.meaning.specs.Lists.{select}
 use Rattle.meaning.specs.Outcome.{mostRows, mostOpen, mostKept}
 use Rattle.meaning.specs.Formula.{variables}
 use Rattle.kinds.specs.Kinds.{inMask}
-use Rattle.meaning.specs.declared.Point.{Point}
 use Rattle.writer.specs.declared.Wrote.{Wrote}
 use Rattle.writer.specs.declared.Wrote.the-variants.{Words, Short}
-use Rattle.writer.specs.Words.{freeCount, firstSet, firstRow, endRow}
+use Rattle.writer.specs.declared.Points.{Points}
+use Rattle.writer.specs.Words.{freeCount, firstSet, endSet, firstRow, endRow, words, Reportable}
 use Rattle.writer.specs.Puts.{wrote, writtenTo}
 use Rattle.writer.proofs.Reports.{words-length, marked}
-use Rattle.meaning.specs.RuleFile.{lastNode}
 use Rattle.weighing.specs.declared.Refusal.{Refusal}
 use Rattle.weighing.specs.declared.Refusal.the-variants.{Backlog, KeptOver, BufferShort}
 use Rattle.weighing.specs.declared.Weighed.the-variants.{Refused, Written}
 use Rattle.weighing.specs.declared.Weighed.{Weighed}
-use Rattle.weighing.specs.Weighs.{Weighs, Last, lastPoints, lastWords}
+use Rattle.weighing.specs.Weighs.{Weighs}
 
 -- at most four variables are free
 selected-most : (p : ℕ → Bool) (xs : List ℕ) → length (select p xs) ≤ length xs
@@ -40,13 +39,12 @@ run-few at a zero h = let e : a + 0 ≡ a = omega arith in rw e (omega arith)
 run-few at a (suc n) h = let e : a + suc n ≡ a + n + 1 = omega arith in rw e (omega (arith, run-few at a n (λ q u o. h q u (omega arith)), h (a + n) (omega arith) (omega arith)))
 
 -- the report on 65 points of 32 rows of 4 values has few words
-pub words-few : {b rows at firsts lows masks before after : List ℕ} {base : Point} {points : ℕ} → Last b rows at firsts lows masks before after base points → (times : List ℕ) → length (lastWords b rows at firsts lows masks before after base times) < 2 ^ 32
-words-few {b} {rows} {at} {firsts} {lows} {masks} {before} {after} {base} h times =
-    let p = lastPoints b firsts lows masks before after base in
+pub words-few : {rows at : List ℕ} {p : Points} → Reportable rows at p → ((q : ℕ) → firstSet p ≤ q → q < endSet p → getD at (q + 1) 0 - getD at q 0 ≤ mostRows) → p .count ≤ 65 → (times : List ℕ) → length (words rows at times p) < 2 ^ 32
+words-few {rows} {at} {p} h few-rows few-points times =
     let total = endRow at p - firstRow at p in
-    let few : total ≤ 32 * p .count = run-few at (firstSet p) (p .count) (h .few) in
+    let few : total ≤ 32 * p .count = run-few at (firstSet p) (p .count) few-rows in
     let four : freeCount (p .mask) ≤ 4 = selected-most (inMask (p .mask)) variables in
-    omega (arith, words-length rows at times p (marked (h .sets)), mul-le-mul-right total four, h .few-points)
+    omega (arith, words-length rows at times p (marked h), mul-le-mul-right total four)
 
 -- a refusal isn't a report
 pub not-written : {A : Type 0} {r : Refusal} {words kept : ℕ} → Refused r ≡ Written words kept → A

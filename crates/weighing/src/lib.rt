@@ -1,17 +1,12 @@
-// Refusals 14 to 16, and the report where none applies: what the turns of a call leave weighed, and the report written.
-use meaning::Point;
+// Refusals 14 to 16, and the report where none applies: what a call leaves weighed, and the report written.
+use meaning::MOST_KEPT;
+use meaning::MOST_OPEN;
 use writer::Points;
 use writer::Wrote;
-ghost use Prim.Native.Nat.{_-_, _<_, _^_};
-ghost use lib.ListN.{length, getD};
-ghost use Rattle.meaning.specs.RuleFile.{lastNode};
+ghost use Prim.Native.Nat.{_<_, _^_};
+ghost use lib.ListN.{length};
 ghost use Rattle.writer.specs.Words.{words, Reportable};
-ghost use Rattle.weighing.specs.Weighs.{Weighs, Last, lastWords};
-
-// The most points that may be unsettled for the last node, and the most entries that may be kept.
-pub const MOST_OPEN: u32 = 32;
-
-pub const MOST_KEPT: usize = 512;
+ghost use Rattle.weighing.specs.Weighs.{Weighs};
 
 // A refusal of a taking, with its place where it has one.
 pub enum Refusal {
@@ -33,7 +28,7 @@ pub enum Weighed {
 }
 
 // Refusals 14 to 16, and the report where none applies: on points that the last node has newly settled. `unsettled` points are left for it, and `kept` entries would be kept.
-fn weigh(
+pub fn weigh(
     report: &mut [u32],
     rows: &[u32],
     marks: &[u32],
@@ -57,37 +52,4 @@ fn weigh(
         Wrote::Short(needed) => Weighed::Refused(Refusal::BufferShort(needed as u32)),
         Wrote::Words(words) => Weighed::Written(words as u32, kept as u32),
     }
-}
-
-// The same from the figures of all nodes, after their turns.
-pub fn weigh_last(
-    rule: &[u8],
-    rows: &[u32],
-    marks: &[u32],
-    firsts: &[u32],
-    lows: &[u32],
-    masks: &[u8],
-    before: &[u32],
-    after: &[u32],
-    times: &[u32],
-    base: Point,
-    points: u32,
-    kept: usize,
-    report: &mut [u32],
-) -> Weighed
-    requires { ⌜ Last (now rule) (now rows) (now marks) (now firsts) (now lows) (now masks) (now before) (now after) base points ⌝ }
-    ensures { λ r. ⌜ Weighs (points - getD (now (after .entry)) (lastNode (now (rule .entry))) 0) kept (lastWords (now (rule .entry)) (now (rows .entry)) (now (marks .entry)) (now (firsts .entry)) (now (lows .entry)) (now (masks .entry)) (now (before .entry)) (now (after .entry)) base (now (times .entry))) (now (report .entry)) (now (report .exit)) r ⌝ }
-{
-    let x = (rule[2] - 1) as usize;
-    let settled = after[x];
-    let i = before[x];
-    let p = Points {
-        from: Point(i),
-        count: settled - i,
-        first: firsts[x] as usize,
-        low: Point(lows[x]),
-        base: base,
-        mask: masks[x],
-    };
-    weigh(report, rows, marks, times, p, points - settled, kept)
 }

@@ -1,7 +1,7 @@
 -- `yokemango_open_points` meets its contract by that of `open_points`, answer by answer.
 use mathlib.Core.Path.{sym, ap, _∙_}
 use borrow.Author.Needs.{needs}
-use Rattle.figuring.specs.Fronts.{openOf}
+use Rattle.figures.specs.Fronts.{openOf}
 use Rattle.boundary.specs.Numbers.{openParts}
 use Rattle.boundary.proofs.yokemango_open_points.Statement.{statement}
 use Rattle.boundary.proofs.yokemango_open_points.Tie as tie

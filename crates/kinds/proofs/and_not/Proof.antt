@@ -35,4 +35,4 @@ returns : tie.Need-returns Inv-loop μ-loop
 returns c = ended (c .before .loop .inv) refl (c .loop-test .left)
 
 pub and-not-spec : {M : Type 1} → statement M
-and-not-spec = tie.close (tie.spec Inv-loop μ-loop loop-holds (λ c κs. omega arith) (λ c κs. search needs) (λ c κs. omega arith) (λ c κs. omega arith) (λ c. omega arith) (λ c. omega arith) loop-again (λ c. c .before .loop .inv .long) returns)
+and-not-spec = tie.close (tie.spec Inv-loop μ-loop loop-holds (λ c κs. omega arith) (λ c κs. search needs) (λ c κs. omega arith) (λ c κs. omega arith) (λ c. omega arith) (λ c. omega arith) loop-again (λ c. c .before .loop .inv .put .long) returns)

@@ -35,4 +35,4 @@ returns : tie.Need-returns Inv-loop μ-loop
 returns c = ended (c .before .loop .inv) refl (c .loop-test .left)
 
 pub atom-spec : {M : Type 1} → statement M
-atom-spec = tie.close (tie.spec Inv-loop μ-loop (λ c. omega arith) (λ c. omega (arith, c .before .before .shared-slice-known .given 1)) loop-holds (λ c κs. omega arith) (λ c. omega arith) (λ c. omega arith) (λ c. omega arith) (λ c κs. omega arith) (λ c. omega arith) (λ c. omega arith) loop-again (λ c. c .before .loop .inv .long) returns)
+atom-spec = tie.close (tie.spec Inv-loop μ-loop (λ c. omega arith) (λ c. omega (arith, c .before .before .shared-slice-known .given 1)) loop-holds (λ c κs. omega arith) (λ c. omega arith) (λ c. omega arith) (λ c. omega arith) (λ c κs. omega arith) (λ c. omega arith) (λ c. omega arith) loop-again (λ c. c .before .loop .inv .put .long) returns)

@@ -1,5 +1,5 @@
 -- `kept` meets its contract.
-use Rattle.figuring.proofs.Slices.{entries-many}
+use Rattle.figures.proofs.Slices.{entries-many}
 use Rattle.monitor.proofs.kept.Statement.{statement}
 use Rattle.monitor.proofs.kept.Tie as tie
 

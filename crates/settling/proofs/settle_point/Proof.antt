@@ -5,198 +5,158 @@ use mathlib.Core.List.{List}
 use borrow.Author.Needs.{needs}
 use Rattle.meaning.specs.Formula.{termsOf}
 use Rattle.meaning.specs.declared.Node.{Node}
-use Rattle.method.specs.Settle.{Sight}
+use Rattle.rowset.specs.Sets.{Added}
 use Rattle.rowset.proofs.Growing.{added-as}
-use Rattle.kinds.specs.Kinds.{pairsFrom}
 use Rattle.kinds.proofs.Atoms.{atom-reads}
-use Rattle.settling.specs.Sights.{sightIn, asked}
-use Rattle.settling.proofs.Gives.{given-by}
+use Rattle.settling.specs.Sights.{asked, PointSettled}
+use Rattle.settling.proofs.Gives.{given, point-settled}
 use Rattle.settling.proofs.settle_point.Statement.{statement}
 use Rattle.settling.proofs.settle_point.Tie as tie
 
-sight : tie.Start → Sight
-sight s =
-    let a = s .args in
-    sightIn (a .rule .now) (a .event .now) (a .rows .now) (a .at .now) (a .firsts .now) (a .lows .now) (a .masks .now) (a .counts .now) (a .times .now) (a .base)
-
-own : tie.Start → List (List ℕ)
-own s = pairsFrom (s .args .ages .now) (s .args .values .now) 0 (s .args .pairs)
-
 -- what is asked, for the kind that the node is
-told : (s : tie.Start) {kind : Node} → s .args .node ≡ kind → asked (s .args .rule .now) (s .args .event .now) (s .args .rows .now) (s .args .at .now) (s .args .firsts .now) (s .args .lows .now) (s .args .masks .now) (s .args .counts .now) (s .args .ages .now) (s .args .values .now) (s .args .pairs) (s .args .i) kind
+told : (s : tie.Start) {kind : Node} → s .args .node ≡ kind
+    → asked (s .args .rule .now) (s .args .event .now) (s .args .rows .now) (s .args .at .now) (s .args .old-ages .now) (s .args .old-values .now) (s .args .left) (s .args .right) (s .args .start) (s .args .i) kind
 told s e =
     let a = s .args in
-    subst (asked (a .rule .now) (a .event .now) (a .rows .now) (a .at .now) (a .firsts .now) (a .lows .now) (a .masks .now) (a .counts .now) (a .ages .now) (a .values .now) (a .pairs) (a .i)) e (s .pre .0)
+    subst (asked (a .rule .now) (a .event .now) (a .rows .now) (a .at .now) (a .old-ages .now) (a .old-values .now) (a .left) (a .right) (a .start) (a .i)) e (s .pre .0)
+
+-- what the kind gives, the node gives
+gives : (s : tie.Start) {kind : Node} {out : List ℕ} {k : ℕ} → s .args .node ≡ kind
+    → Added (s .args .out .now) 0 out k (given (s .args .rule .now) (s .args .event .now) (s .args .rows .now) (s .args .at .now) (s .args .times .now) (s .args .base) (s .args .old-ages .now) (s .args .old-values .now) (s .args .left) (s .args .right) (s .args .start) (s .args .i) kind)
+    → PointSettled (s .args .rule .now) (s .args .event .now) (s .args .rows .now) (s .args .at .now) (s .args .times .now) (s .args .base) (s .args .old-ages .now) (s .args .old-values .now) (s .args .left) (s .args .right) (s .args .start) (s .args .i) (s .args .node) out k
+gives s e h =
+    let a = s .args in
+    point-settled (a .rule .now) (a .event .now) (a .rows .now) (a .at .now) (a .times .now) (a .base) (a .old-ages .now) (a .old-values .now) (a .left) (a .right) (a .start) (a .i) e (told s e) h
 
 atom-requires : tie.Need-atom-requires
 atom-requires c κs =
-    let s = c .before .before .before .before .before .before .before .before .before .before .before .before .before .before .before .before in
+    let s = c .before .before .before .before .before .before .before .before .before .before .before .before in
     let t = told s (c .before .before .node .given .1) in
     (t .0, s .pre .1)
 
 and-at-requires : tie.Need-and-at-requires
 and-at-requires c κs =
-    let s = c .before .before .before .before .before .before .before .before .before .before .before .before .before .before .before .before in
-    let t = told s (c .before .before .node2 .given .1) in
-    (t .0, (t .1, ((t .2, t .3), s .pre .1)))
+    let s = c .before .before .before .before .before .before .before .before .before .before .before in
+    let t = told s (c .before .enum-told .given .1) in
+    (t .0, (t .1, s .pre .1))
 
 and-not-at-requires : tie.Need-and-not-at-requires
 and-not-at-requires c κs =
-    let s = c .before .before .before .before .before .before .before .before .before .before .before .before .before .before .before .before in
-    let t = told s (c .before .before .node3 .given .1) in
-    (t .0, (t .1, (t .2, s .pre .1)))
+    let s = c .before .before .before .before .before .before .before .before .before .before .before in
+    let t = told s (c .before .enum-told2 .given .1) in
+    (t .0, (t .1, s .pre .1))
 
 keep-at-requires : tie.Need-keep-at-requires
 keep-at-requires c κs =
-    let s = c .before .before .before .before .before .before .before .before .before .before .before .before .before .before .before .before in
-    let t = told s (c .before .before .node4 .given .1) in
-    (t, s .pre .1)
+    let s = c .before .before .before .before .before .before .before .before .before .before .before .before in
+    let t = told s (c .before .before .node2 .given .1) in
+    (t .0, s .pre .1)
 
 or-at-requires : tie.Need-or-at-requires
 or-at-requires c κs =
-    let s = c .before .before .before .before .before .before .before .before .before .before .before .before .before .before .before .before in
-    let t = told s (c .before .before .node5 .given .1) in
+    let s = c .before .before .before .before .before .before .before .before .before .before .before in
+    let t = told s (c .before .enum-told3 .given .1) in
     (t .0, (t .1, s .pre .1))
 
 exists-at-requires : tie.Need-exists-at-requires
 exists-at-requires c κs =
-    let s = c .before .before .before .before .before .before .before .before .before .before .before .before .before .before .before .before in
-    let t = told s (c .before .before .node6 .given .1) in
-    (t, s .pre .1)
+    let s = c .before .before .before .before .before .before .before .before .before .before .before .before in
+    let t = told s (c .before .before .node3 .given .1) in
+    (t .0, s .pre .1)
 
 previous-at-requires : tie.Need-previous-at-requires
 previous-at-requires c κs =
-    let s = c .before .before .before .before .before .before .before .before .before .before .before .before .before .before .before .before in
-    let t = told s (c .before .before .node7 .given .1) in
-    (t, s .pre .1)
+    let s = c .before .before .before .before .before .before .before .before .before .before .before .before in
+    let t = told s (c .before .before .node4 .given .1) in
+    (λ l. t l .0, s .pre .1)
 
 next-at-requires : tie.Need-next-at-requires
 next-at-requires c κs =
-    let s = c .before .before .before .before .before .before .before .before .before .before .before .before .before .before .before .before in
-    let t = told s (c .before .before .node8 .given .1) in
+    let s = c .before .before .before .before .before .before .before .before .before .before .before .before in
+    let t = told s (c .before .before .node5 .given .1) in
     (t, s .pre .1)
 
-since-at-requires : tie.Need-since-at-requires
-since-at-requires c κs =
-    let s = c .before .before .before .before .before .before .before .before .before .before .before .before .before .before .before .before in
-    let t = told s (c .before .before .node9 .given .1) in
-    (t, s .pre .1)
+rows-at-requires : tie.Need-rows-at-requires
+rows-at-requires c κs =
+    let s = c .before .before .before .before .before .before .before .before .before .before .before .before in
+    let t = told s (c .before .before .node6 .given .1) in
+    (t .0, (t .1, (t .4, s .pre .1)))
 
-since-at-requires-2 : tie.Need-since-at-requires-2
-since-at-requires-2 c κs =
-    let s = c .before .before .before .before .before .before .before .before .before .before .before .before .before .before .before .before in
-    let t = told s (c .before .before .node10 .given .1) in
-    (t, s .pre .1)
+rows-at-requires-2 : tie.Need-rows-at-requires-2
+rows-at-requires-2 c κs =
+    let s = c .before .before .before .before .before .before .before .before .before .before .before .before in
+    let t = told s (c .before .before .node7 .given .1) in
+    (t .0, (t .1, (t .4, s .pre .1)))
 
 until-at-requires : tie.Need-until-at-requires
 until-at-requires c κs =
-    let s = c .before .before .before .before .before .before .before .before .before .before .before .before .before .before .before .before in
-    let t = told s (c .before .before .node11 .given .1) in
-    (t .0, (t .1, ((t .2, t .3, t .4), s .pre .1)))
+    let s = c .before .before .before .before .before .before .before .before .before .before .before .before in
+    let t = told s (c .before .before .node8 .given .1) in
+    (t .0, (t .1, s .pre .1))
 
 until-at-requires-2 : tie.Need-until-at-requires-2
 until-at-requires-2 c κs =
-    let s = c .before .before .before .before .before .before .before .before .before .before .before .before .before .before .before .before in
-    let t = told s (c .before .before .node12 .given .1) in
-    (t .0, (t .1, ((t .2, t .3, t .4), s .pre .1)))
+    let s = c .before .before .before .before .before .before .before .before .before .before .before .before in
+    let t = told s (c .before .before .node9 .given .1) in
+    (t .0, (t .1, s .pre .1))
 
-since-at-requires-3 : tie.Need-since-at-requires-3
-since-at-requires-3 c κs =
-    let s = c .before .before .before .before .before .before .before .before .before .before .before .before .before .before .before .before in
-    let t = told s (c .before .before .node13 .given .1) in
-    (t, s .pre .1)
+rows-at-requires-3 : tie.Need-rows-at-requires-3
+rows-at-requires-3 c κs =
+    let s = c .before .before .before .before .before .before .before .before .before .before .before .before in
+    let t = told s (c .before .before .node10 .given .1) in
+    (t .0, (t .1, (t .4, s .pre .1)))
 
-eventually-at-requires : tie.Need-eventually-at-requires
-eventually-at-requires c κs =
-    let s = c .before .before .before .before .before .before .before .before .before .before .before .before .before .before .before .before in
-    let t = told s (c .before .before .node14 .given .1) in
-    (t .0, ((t .1, t .2), s .pre .1))
+until-at-requires-3 : tie.Need-until-at-requires-3
+until-at-requires-3 c κs =
+    let s = c .before .before .before .before .before .before .before .before .before .before .before .before in
+    let t = told s (c .before .before .node11 .given .1) in
+    (t .0, (t .1, s .pre .1))
 
 returns : tie.Need-returns
-unfolding sight own
 returns c =
-    let s = c .before .before .before .before .before .before .before .before .before .before .before .before .before .before .before .before .before .before .before in
+    let s = c .before .before .before .before .before .before .before .before .before .before .before .before .before .before .before in
     let n = c .before .before .before .before .before .node .given in
-    given-by (sight s) (own s) (s .args .i) (n .1)
+    gives s (n .1)
     (added-as (c .before .before .atom .ensures) (atom-reads (s .args .rule .now) (s .args .event .now) (n .0 .0) (n .0 .1 .0 .count) (termsOf (n .0 .1 .0)) (told s (n .1) .1)))
 
 returns-2 : tie.Need-returns-2
-unfolding sight own
-returns-2 c =
-    let s = c .before .before .before .before .before .before .before .before .before .before .before .before .before .before .before .before .before .before .before in
-    given-by (sight s) (own s) (s .args .i) (c .before .before .before .before .before .node2 .given .1) (c .before .before .and-at .ensures)
+returns-2 c = gives (c .before .before .before .before .before .before .before .before .before .before .before .before .before .before) (c .before .before .before .before .enum-told .given .1) (c .before .before .and-at .ensures)
 
 returns-3 : tie.Need-returns-3
-unfolding sight own
-returns-3 c =
-    let s = c .before .before .before .before .before .before .before .before .before .before .before .before .before .before .before .before .before .before .before in
-    given-by (sight s) (own s) (s .args .i) (c .before .before .before .before .before .node3 .given .1) (c .before .before .and-not-at .ensures)
+returns-3 c = gives (c .before .before .before .before .before .before .before .before .before .before .before .before .before .before) (c .before .before .before .before .enum-told2 .given .1) (c .before .before .and-not-at .ensures)
 
 returns-4 : tie.Need-returns-4
-unfolding sight own
-returns-4 c =
-    let s = c .before .before .before .before .before .before .before .before .before .before .before .before .before .before .before .before .before .before .before in
-    given-by (sight s) (own s) (s .args .i) (c .before .before .before .before .before .node4 .given .1) (c .before .before .keep-at .ensures)
+returns-4 c = gives (c .before .before .before .before .before .before .before .before .before .before .before .before .before .before .before) (c .before .before .before .before .before .node2 .given .1) (c .before .before .keep-at .ensures)
 
 returns-5 : tie.Need-returns-5
-unfolding sight own
-returns-5 c =
-    let s = c .before .before .before .before .before .before .before .before .before .before .before .before .before .before .before .before .before .before .before in
-    given-by (sight s) (own s) (s .args .i) (c .before .before .before .before .before .node5 .given .1) (c .before .before .or-at .ensures)
+returns-5 c = gives (c .before .before .before .before .before .before .before .before .before .before .before .before .before .before) (c .before .before .before .before .enum-told3 .given .1) (c .before .before .or-at .ensures)
 
 returns-6 : tie.Need-returns-6
-unfolding sight own
-returns-6 c =
-    let s = c .before .before .before .before .before .before .before .before .before .before .before .before .before .before .before .before .before .before .before in
-    given-by (sight s) (own s) (s .args .i) (c .before .before .before .before .before .node6 .given .1) (c .before .before .exists-at .ensures)
+returns-6 c = gives (c .before .before .before .before .before .before .before .before .before .before .before .before .before .before .before) (c .before .before .before .before .before .node3 .given .1) (c .before .before .exists-at .ensures)
 
 returns-7 : tie.Need-returns-7
-unfolding sight own
-returns-7 c =
-    let s = c .before .before .before .before .before .before .before .before .before .before .before .before .before .before .before .before .before .before .before in
-    given-by (sight s) (own s) (s .args .i) (c .before .before .before .before .before .node7 .given .1) (c .before .before .previous-at .ensures)
+returns-7 c = gives (c .before .before .before .before .before .before .before .before .before .before .before .before .before .before .before) (c .before .before .before .before .before .node4 .given .1) (c .before .before .previous-at .ensures)
 
 returns-8 : tie.Need-returns-8
-unfolding sight own
-returns-8 c =
-    let s = c .before .before .before .before .before .before .before .before .before .before .before .before .before .before .before .before .before .before .before in
-    given-by (sight s) (own s) (s .args .i) (c .before .before .before .before .before .node8 .given .1) (c .before .before .next-at .ensures)
+returns-8 c = gives (c .before .before .before .before .before .before .before .before .before .before .before .before .before .before .before) (c .before .before .before .before .before .node5 .given .1) (c .before .before .next-at .ensures)
 
 returns-9 : tie.Need-returns-9
-unfolding sight own
-returns-9 c =
-    let s = c .before .before .before .before .before .before .before .before .before .before .before .before .before .before .before .before .before .before .before in
-    given-by (sight s) (own s) (s .args .i) (c .before .before .before .before .before .node9 .given .1) (c .before .before .since-at .ensures)
+returns-9 c = gives (c .before .before .before .before .before .before .before .before .before .before .before .before .before .before .before) (c .before .before .before .before .before .node6 .given .1) (c .before .before .rows-at .ensures)
 
 returns-10 : tie.Need-returns-10
-unfolding sight own
-returns-10 c =
-    let s = c .before .before .before .before .before .before .before .before .before .before .before .before .before .before .before .before .before .before .before in
-    given-by (sight s) (own s) (s .args .i) (c .before .before .before .before .before .node10 .given .1) (c .before .before .since-at2 .ensures)
+returns-10 c = gives (c .before .before .before .before .before .before .before .before .before .before .before .before .before .before .before) (c .before .before .before .before .before .node7 .given .1) (c .before .before .rows-at2 .ensures)
 
 returns-11 : tie.Need-returns-11
-unfolding sight own
-returns-11 c =
-    let s = c .before .before .before .before .before .before .before .before .before .before .before .before .before .before .before .before .before .before .before in
-    given-by (sight s) (own s) (s .args .i) (c .before .before .before .before .before .node11 .given .1) (c .before .before .until-at .ensures)
+returns-11 c = gives (c .before .before .before .before .before .before .before .before .before .before .before .before .before .before .before) (c .before .before .before .before .before .node8 .given .1) (c .before .before .until-at .ensures)
 
 returns-12 : tie.Need-returns-12
-unfolding sight own
-returns-12 c =
-    let s = c .before .before .before .before .before .before .before .before .before .before .before .before .before .before .before .before .before .before .before in
-    given-by (sight s) (own s) (s .args .i) (c .before .before .before .before .before .node12 .given .1) (c .before .before .until-at2 .ensures)
+returns-12 c = gives (c .before .before .before .before .before .before .before .before .before .before .before .before .before .before .before) (c .before .before .before .before .before .node9 .given .1) (c .before .before .until-at2 .ensures)
 
 returns-13 : tie.Need-returns-13
-unfolding sight own
-returns-13 c =
-    let s = c .before .before .before .before .before .before .before .before .before .before .before .before .before .before .before .before .before .before .before in
-    given-by (sight s) (own s) (s .args .i) (c .before .before .before .before .before .node13 .given .1) (c .before .before .since-at3 .ensures)
+returns-13 c = gives (c .before .before .before .before .before .before .before .before .before .before .before .before .before .before .before) (c .before .before .before .before .before .node10 .given .1) (c .before .before .rows-at3 .ensures)
 
 returns-14 : tie.Need-returns-14
-unfolding sight own
-returns-14 c =
-    let s = c .before .before .before .before .before .before .before .before .before .before .before .before .before .before .before .before .before .before .before in
-    given-by (sight s) (own s) (s .args .i) (c .before .before .before .before .before .node14 .given .1) (c .before .before .eventually-at .ensures)
+returns-14 c = gives (c .before .before .before .before .before .before .before .before .before .before .before .before .before .before .before) (c .before .before .before .before .before .node11 .given .1) (c .before .before .until-at3 .ensures)
 
 pub settle-point-spec : {M : Type 1} → statement M
 settle-point-spec =
@@ -220,17 +180,17 @@ settle-point-spec =
     (λ c. search needs)
     next-at-requires
     (λ c. search needs)
-    since-at-requires
+    rows-at-requires
     (λ c. search needs)
-    since-at-requires-2
+    rows-at-requires-2
     (λ c. search needs)
     until-at-requires
     (λ c. search needs)
     until-at-requires-2
     (λ c. search needs)
-    since-at-requires-3
+    rows-at-requires-3
     (λ c. search needs)
-    eventually-at-requires
+    until-at-requires-3
     (λ c. c .before .before .atom .ensures .long)
     returns
     (λ c. c .before .before .and-at .ensures .long)
@@ -247,15 +207,15 @@ settle-point-spec =
     returns-7
     (λ c. c .before .before .next-at .ensures .long)
     returns-8
-    (λ c. c .before .before .since-at .ensures .long)
+    (λ c. c .before .before .rows-at .ensures .long)
     returns-9
-    (λ c. c .before .before .since-at2 .ensures .long)
+    (λ c. c .before .before .rows-at2 .ensures .long)
     returns-10
     (λ c. c .before .before .until-at .ensures .long)
     returns-11
     (λ c. c .before .before .until-at2 .ensures .long)
     returns-12
-    (λ c. c .before .before .since-at3 .ensures .long)
+    (λ c. c .before .before .rows-at3 .ensures .long)
     returns-13
-    (λ c. c .before .before .eventually-at .ensures .long)
+    (λ c. c .before .before .until-at3 .ensures .long)
     returns-14)

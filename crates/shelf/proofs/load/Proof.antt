@@ -4,7 +4,7 @@ use native.Mathlib.Omega.{arith}
 use borrow.Author.Needs.{needs}
 use mathlib.Core.Path.{_≡_}
 use Rattle.shelf.specs.Entries.{runOf}
-use Rattle.shelf.proofs.Packing.{run-within}
+use Rattle.shelf.proofs.Entries.{run-within}
 use Rattle.shelf.proofs.load.Statement.{statement}
 use Rattle.shelf.proofs.load.Tie as tie
 
@@ -17,7 +17,7 @@ push-requires : tie.Need-push-requires
 push-requires c κs =
     let s = c .before .before .before .before .before .before .before .before in
     let a = s .args in
-    let w = run-within (a .owners .now) (a .numbers .now) (a .values .now) (a .cursor) (a .count) (a .owner) (a .number .0) (s .pre .0) in
+    let w = run-within (a .owners .now) (a .numbers .now) (a .cursor) (a .count) (a .owner) (a .number .0) (s .pre .0) in
     (record { ordered = omega (arith, c .before .before .run-end .ensures); there = omega (arith, c .before .before .run-end .ensures, s .pre .1) }, rw (counted (c .before .before)) (s .pre .2))
 
 returns : tie.Need-returns

@@ -52,4 +52,4 @@ returns : tie.Need-returns Inv-loop μ-loop
 returns c = ended (c .before .loop .inv .1) refl (c .loop-test .left)
 
 pub until-spec : {M : Type 1} → statement M
-until-spec = tie.close (tie.spec Inv-loop μ-loop (λ c κs. search needs) loop-holds (λ c κs. search needs) put-point-if-requires (λ c. omega arith) (λ c. omega arith) loop-again (λ c. c .before .loop .inv .1 .long) returns)
+until-spec = tie.close (tie.spec Inv-loop μ-loop (λ c κs. search needs) loop-holds (λ c κs. search needs) put-point-if-requires (λ c. omega arith) (λ c. omega arith) loop-again (λ c. c .before .loop .inv .1 .put .long) returns)

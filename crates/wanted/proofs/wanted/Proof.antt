@@ -1,13 +1,11 @@
 -- `wanted` meets its contract. The loop keeps `Handed`: the children of the nodes passed so far have their words.
 use Prim.Native.Nat.{_≤_, _<_, _-_}
 use native.Mathlib.Omega.{arith}
-use mathlib.Core.Path.{_≡_, ap, _∙_}
-use lib.ListN.{length, getD}
+use mathlib.Core.Path.{_≡_}
+use lib.ListN.{length}
 use borrow.Author.Needs.{needs}
-use Rattle.meaning.specs.RuleFile.{nodeCount, nodeAt, childrenOf}
+use Rattle.meaning.specs.RuleFile.{nodeCount}
 use Rattle.meaning.proofs.Accepted.{accepted, lower, nodes-most, last-is-node}
-use Rattle.method.specs.Step.{firstWanted}
-use Rattle.rulenodes.specs.Children.{childrenIn}
 use Rattle.wanted.proofs.Handed.{Handed, handed-none, handed-more, handed-all}
 use Rattle.wanted.proofs.wanted.Statement.{statement}
 use Rattle.wanted.proofs.wanted.Tie as tie
@@ -27,46 +25,70 @@ loop-holds c =
     let rule = c .before .before .before .before .pre .0 in
     (search needs, search needs, search needs, handed-none (args .rule .now) (rule .0) (rule .1) (args .counts .now) (args .out .now))
 
-node-at-requires : tie.Need-node-at-requires Inv-loop μ-loop
-node-at-requires c κs = let r = c .before .before .before .before .before .before .pre .0 in (accepted _ (r .0) (r .1) .long, omega (arith, c .before .loop .inv .0))
-
 first-wanted-requires : tie.Need-first-wanted-requires Inv-loop μ-loop
-first-wanted-requires c κs = omega (arith, c .before .before .before .before .before .before .before .before .pre .1 .2 (c .before .before .before .loop .x))
+first-wanted-requires c κs =
+    let s = c .before .before .before .before .before .before .before in
+    let r = s .pre .0 in
+    let loop = c .before .before .loop in
+    (omega (arith, accepted _ (r .0) (r .1) .long, loop .inv .0), omega (arith, s .pre .1 .2 (loop .x)))
+
+children-at-requires : tie.Need-children-at-requires Inv-loop μ-loop
+children-at-requires c κs =
+    let s = c .before .before .before .before .before .before .before .before in
+    let r = s .pre .0 in
+    let loop = c .before .before .before .loop in
+    omega (arith, accepted _ (r .0) (r .1) .long, loop .inv .0)
 
 want-children-requires : tie.Need-want-children-requires Inv-loop μ-loop
 want-children-requires c κs d m =
-    let loop = c .before .before .before .before .before .before .loop in
-    let r = c .before .before .before .before .before .before .before .before .before .before .before .pre .0 in
-    let rule = c .before .before .before .before .before .before .before .before .before .before .before .args .rule .now in
-    let e : childrenIn (c .before .children-of .result) ≡ childrenOf (nodeAt rule (loop .x)) = c .before .children-of .ensures ∙ ap childrenOf (c .before .before .before .before .node-at .ensures) in
-    let under : d < loop .x = lower rule (nodeCount rule) (accepted rule (r .0) (r .1) .each) (loop .x) (omega arith) (loop .x) (omega arith) d (rw e at m) in
+    let s = c .before .before .before .before .before .before .before .before .before .before in
+    let r = s .pre .0 in
+    let loop = c .before .before .before .before .before .loop in
+    let rule = s .args .rule .now in
+    let under : d < loop .x = lower rule (nodeCount rule) (accepted rule (r .0) (r .1) .each) (loop .x) (omega arith) (loop .x) (omega arith) d (rw (c .before .children-at .ensures) at m) in
     (omega arith, omega arith)
 
 add-x : tie.Need-add-x Inv-loop μ-loop
-add-x c = let r = c .before .before .before .before .before .before .before .before .before .before .before .before .before .before .pre .0 in omega (arith, c .before .before .before .before .before .before .before .before .before .loop .inv .0, nodes-most _ (r .0) (r .1))
+add-x c =
+    let s = c .before .before .before .before .before .before .before .before .before .before .before .before .before in
+    let r = s .pre .0 in
+    let loop = c .before .before .before .before .before .before .before .before .loop in
+    omega (arith, loop .inv .0, nodes-most _ (r .0) (r .1))
 
 loop-again : tie.Need-loop-again Inv-loop μ-loop
 loop-again c =
-    let loop = c .before .before .before .before .before .before .before .before .before .loop in
-    let args = c .before .before .before .before .before .before .before .before .before .before .before .before .before .before .args in
-    let r = c .before .before .before .before .before .before .before .before .before .before .before .before .before .before .pre .0 in
-    (loop .inv .0, search needs, search needs, handed-more (args .rule .now) (r .0) (r .1) (args .counts .now) (loop .inv .3) (omega arith) (c .before .before .before .before .before .first-wanted .ensures ∙ ap (λ n. firstWanted n (getD (args .counts .now) (loop .x) 0)) (c .before .before .before .before .before .before .before .node-at .ensures)) (c .before .before .before .before .children-of .ensures ∙ ap childrenOf (c .before .before .before .before .before .before .before .node-at .ensures)) (c .before .before .want-children .ensures))
+    let s = c .before .before .before .before .before .before .before .before .before .before .before .before .before in
+    let r = s .pre .0 in
+    let loop = c .before .before .before .before .before .before .before .before .loop in
+    (loop .inv .0, search needs, search needs, handed-more (s .args .rule .now) (r .0) (r .1) (s .args .counts .now) (loop .inv .3) (omega arith) (c .before .before .before .before .before .first-wanted .ensures) (c .before .before .before .before .children-at .ensures) (c .before .before .want-children .ensures))
 
 sub-last : tie.Need-sub-last Inv-loop μ-loop
-sub-last c = let r = c .before .before .before .before .before .before .pre .0 in omega (arith, c .before .loop .inv .0, last-is-node _ (r .0) (r .1))
+sub-last c =
+    let s = c .before .before .before .before .before .before in
+    let r = s .pre .0 in
+    let loop = c .before .loop in
+    omega (arith, loop .inv .0, last-is-node _ (r .0) (r .1))
 
 shared-slice-read-out : tie.Need-shared-slice-read-out Inv-loop μ-loop
-shared-slice-read-out c = let r = c .before .before .before .before .before .before .before .pre .0 in omega (arith, c .before .before .loop .inv .0, last-is-node _ (r .0) (r .1))
+shared-slice-read-out c =
+    let s = c .before .before .before .before .before .before .before in
+    let r = s .pre .0 in
+    let loop = c .before .before .loop in
+    omega (arith, loop .inv .0, last-is-node _ (r .0) (r .1))
 
 slice-write-out : tie.Need-slice-write-out Inv-loop μ-loop
-slice-write-out c = let r = c .before .before .before .before .before .before .before .pre .0 in omega (arith, c .before .before .loop .inv .0, last-is-node _ (r .0) (r .1))
+slice-write-out c =
+    let s = c .before .before .before .before .before .before .before in
+    let r = s .pre .0 in
+    let loop = c .before .before .loop in
+    omega (arith, loop .inv .0, last-is-node _ (r .0) (r .1))
 
 returns : tie.Need-returns Inv-loop μ-loop
 returns c =
+    let s = c .before .before .before .before .before .before .before in
+    let r = s .pre .0 in
     let loop = c .before .before .loop in
-    let args = c .before .before .before .before .before .before .before .args in
-    let r = c .before .before .before .before .before .before .before .pre .0 in
-    handed-all (args .rule .now) (r .0) (r .1) (args .counts .now) (omega (arith, loop .inv .0)) (omega (arith, loop .inv .0)) (omega (arith, loop .inv .0, last-is-node (args .rule .now) (r .0) (r .1))) (loop .inv .3)
+    handed-all (s .args .rule .now) (r .0) (r .1) (s .args .counts .now) (omega (arith, loop .inv .0)) (omega (arith, loop .inv .0)) (omega (arith, loop .inv .0, last-is-node (s .args .rule .now) (r .0) (r .1))) (loop .inv .3)
 
 pub wanted-spec : {M : Type 1} → statement M
 wanted-spec =
@@ -76,12 +98,11 @@ wanted-spec =
     μ-loop
     shared-slice-read-n
     loop-holds
-    node-at-requires
     (λ c. search needs)
     (λ c. search needs)
     (λ c. search needs)
     first-wanted-requires
-    (λ c κs. search needs)
+    children-at-requires
     want-children-requires
     add-x
     (λ c. search needs)

@@ -1,3 +1,0 @@
--- What the contracts of this crate cite beside the definitions of `meaning`, `method` and `formed`.
-pub mod Figures
-pub mod Fronts

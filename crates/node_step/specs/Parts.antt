@@ -1,0 +1,117 @@
+-- The parts of a node's step: its figures and its children's sets, its newly settled points, and what is kept of it.
+use Prim.Native.Nat.{ℕ, _+_, _-_, _*_, _≤_, _<_, min}
+use mathlib.Core.Path.{_≡_}
+use mathlib.Core.Bool.{Bool, true, false}
+use mathlib.Core.List.{List, [], _∷_, _++_}
+use lib.ListN.{length, getD}
+use Rattle.meaning.specs.Log.{point}
+use Rattle.meaning.specs.Outcome.{mostRows}
+use Rattle.meaning.specs.Kept.{Entry}
+use Rattle.meaning.specs.declared.Point.{Point}
+use Rattle.meaning.specs.declared.Node.{Node}
+use Rattle.method.specs.Settle.{Sight, settle}
+use Rattle.method.specs.Step.{newPairs}
+use Rattle.room.specs.Room.{setIn, setAt, Laid, Sets}
+use Rattle.room.specs.declared.Child.{Child}
+use Rattle.shelf.specs.Appended.{Extended}
+use Rattle.shelving.specs.Shelved.{setEntries, agedEntries, Spaces}
+use Rattle.shelving.specs.Blocks.{RoomToKeep, EntriesPut}
+use Rattle.since.specs.Since.{heldIn}
+use Rattle.settling.specs.Sights.{asked, Sees}
+use Rattle.node_step.specs.declared.Own.{Own}
+use Rattle.node_step.specs.Figures.{maskIn, lowIn, beforeIn, afterIn, wantIn, beginIn, pairsIn, endIn}
+use Rattle.node_step.specs.Walks.{blockWord, blockIn}
+
+-- ---- what is read off the figures
+
+-- the sets of node y, which begin at set first
+abbrev pub childIn : List ℕ → ℕ → ℕ → Child
+childIn f y first = record { first = first; low = point (lowIn f y); count = afterIn f y; mask = maskIn f y }
+
+-- node y's figures are there, and its mask fits a byte
+pub record ChildFigures (f : List ℕ) (y : ℕ) : Type 0 where
+  pub there : y * 9 + 9 ≤ length f
+  pub mask : maskIn f y < 256
+
+-- the sets of a node's children, of which there are none, one or two
+abbrev pub ChildSetsAre : List ℕ → List ℕ → ℕ → ℕ → Child → Child → Type 0
+ChildSetsAre f [] first second left right = Unit
+ChildSetsAre f (y ∷ []) first second left right = left ≡ childIn f y first
+ChildSetsAre f (y ∷ z ∷ zs) first second left right = (left ≡ childIn f y first) × (right ≡ childIn f z second)
+
+-- a node's own figures
+pub record OwnFigures (f : List ℕ) (x : ℕ) (o : Own) : Type 0 where
+  pub low : o .low ≡ lowIn f x
+  pub before : o .before ≡ beforeIn f x
+  pub after : o .after ≡ afterIn f x
+  pub want : o .want ≡ wantIn f x
+  pub begin : o .begin ≡ beginIn f x
+  pub pairs : o .pairs ≡ pairsIn f x
+  pub end : o .end ≡ endIn f x
+
+-- ---- the newly settled points
+
+module _ (b w rows at times : List ℕ) (base : Point) (oldAges oldValues : List ℕ) (left right : Child) (n : ℕ) (start end : Point) (node : Node) where
+  -- a Sight that says of the node's children what stands in any words whose first n sets are these
+  abbrev pub SeesFirst : Sight → Type 0
+  SeesFirst v = (rows' at' : List ℕ) → ((q : ℕ) → q < n → setIn rows' at' q ≡ setIn rows at q) → Sees v b w rows' at' times base left right node
+
+  -- what must stand for the points from start on before end: n sets, in which each point finds what its kind asks for, and room for the points' sets
+  pub record PointsReady : Type 0 where
+    pub sets : Sets rows at n
+    pub ordered : start .0 ≤ end .0
+    pub small : n + (end .0 - start .0) < 4294967296
+    pub asks : (i : Point) → start .0 ≤ i .0 → i .0 < end .0 → (rows' at' : List ℕ) → Laid rows' at' n → asked b w rows' at' oldAges oldValues left right start i node
+    pub space : Spaces rows at n (end .0 - start .0) (32 * (end .0 - start .0))
+
+  -- the points' sets stand behind the others, or one of the points has too many rows
+  pub record PointsSettled (rows' at' : List ℕ) (done : Bool) : Type 0 where
+    pub stay : Extended rows at rows' at' n 0 (λ q. [])
+    pub more : done ≡ true → Extended rows at rows' at' n (end .0 - start .0) (λ q. setIn rows' at' (n + q))
+    pub sets : done ≡ true → Sets rows' at' (n + (end .0 - start .0))
+    pub there : done ≡ true → (v : Sight) → SeesFirst v → (q : ℕ) → q < end .0 - start .0 → setIn rows' at' (n + q) ≡ settle v (heldIn oldAges oldValues) start (point (start .0 + q)) node
+    pub crowded : done ≡ false → (v : Sight) → SeesFirst v → (i : Point) × (start .0 ≤ i .0) × (i .0 < end .0) × (mostRows < length (settle v (heldIn oldAges oldValues) start i node))
+
+-- ---- what is kept
+
+module _ (b w rows at times : List ℕ) (base : Point) (oldAges oldValues : List ℕ) (left right : Child) (start end : Point) (node : Node) (on ov : List ℕ) (kept : ℕ) where
+  -- what must stand for the pairs at the last of the points from start on before end, or where there is none for the old pairs; by a Sight that says what stands, they can be counted
+  pub record PairsReady : Type 0 where
+    pub ordered : start .0 ≤ end .0
+    pub asks : start .0 < end .0 → asked b w rows at oldAges oldValues left right start (point (end .0 - 1)) node
+    pub sight : Sight
+    pub sees : Sees sight b w rows at times base left right node
+    pub held : length oldAges * 4 ≤ length oldValues
+    pub room : RoomToKeep on ov kept
+
+  -- the pairs are put behind what is kept
+  pub record PairsKept (on' ov' : List ℕ) (kept' : ℕ) : Type 0 where
+    pub gives : (v : Sight) → Sees v b w rows at times base left right node → (x : ℕ) → EntriesPut x 1 on ov on' ov' kept kept' (agedEntries x (newPairs v node start (end .0 - start .0) (heldIn oldAges oldValues)))
+
+-- node x's entries es are put behind kept others, where there is room, and its words in the table say where
+pub record BlockPut (x : ℕ) (on ov bl on' ov' bl' : List ℕ) (kept kept' : ℕ) (es : List Entry) : Type 0 where
+  pub onLong : length on' ≡ length on
+  pub ovLong : length ov' ≡ length ov
+  pub blLong : length bl' ≡ length bl
+  pub counted : kept' ≡ min (length on + 1) (kept + length es)
+  pub numbers-below : (j : ℕ) → j < kept → getD on' j 0 ≡ getD on j 0
+  pub rows-below : (j : ℕ) → j < kept * 4 → getD ov' j 0 ≡ getD ov j 0
+  pub others : (y : ℕ) → (y ≡ x → ⊥) → (k : ℕ) → k < 3 → blockWord bl' y k ≡ blockWord bl y k
+  pub rows-first : blockWord bl' x 0 ≤ blockWord bl' x 1
+  pub pairs-last : blockWord bl' x 1 ≤ blockWord bl' x 2
+  pub within : blockWord bl' x 2 ≤ kept'
+  pub there : kept' ≤ length on → blockIn on' ov' bl' x ≡ es
+
+-- what must stand for a node's block: its sets from set first on, and what its pairs ask for
+pub record BlockReady (b w rows at times : List ℕ) (base : Point) (oldAges oldValues : List ℕ) (left right : Child) (first : ℕ) (o : Own) (node : Node) (on ov bl : List ℕ) (x kept : ℕ) : Type 0 where
+  pub low-want : o .low ≤ o .want
+  pub want-after : o .want ≤ o .after
+  pub small : o .after < 4294967296
+  pub laid : Laid rows at (first + (o .after - o .low))
+  pub pairs : PairsReady b w rows at times base oldAges oldValues left right (point (o .before)) (point (o .after)) node on ov kept
+  pub table : x * 3 + 3 ≤ length bl
+
+-- its rows at the points that are wanted, and then its pairs, are its block
+pub record BlockKept (b w rows at times : List ℕ) (base : Point) (oldAges oldValues : List ℕ) (left right : Child) (first : ℕ) (o : Own) (node : Node) (on ov bl : List ℕ) (x kept : ℕ) (on' ov' bl' : List ℕ) (kept' : ℕ) : Type 0 where
+  pub gives : (v : Sight) → Sees v b w rows at times base left right node
+      → BlockPut x on ov bl on' ov' bl' kept kept' (setEntries x (setAt rows at first (point (o .low))) (point (o .want)) (o .after - o .want) ++ agedEntries x (newPairs v node (point (o .before)) (o .after - o .before) (heldIn oldAges oldValues)))

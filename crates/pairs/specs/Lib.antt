@@ -1,2 +1,0 @@
--- What functions over pairs read, ask and ensure.
-pub mod Pairs

@@ -1,0 +1,94 @@
+-- What held pairs give: a turn of the loop over them, with the window's bounds as numbers, and that the whole is what the definitions say.
+use Prim.Native.Nat.{ℕ, zero, suc, _+_, _-_, _<_, min}
+use mathlib.Core.Path.{_≡_, refl, sym, ap, ap₂, fun-ext, _∙_}
+use mathlib.Core.Bool.{Bool, true, cond, _&&_, and-true}
+use mathlib.Core.List.{List, [], _∷_, _++_, map}
+use native.Mathlib.Omega.{arith}
+use lib.ListN.{getD, drop}
+use lib.Dec.{ltb, leb}
+use Rattle.meaning.specs.Lists.{range, select}
+use Rattle.meaning.specs.Log.{point, pointsFrom}
+use Rattle.meaning.specs.Formula.{inWindow}
+use Rattle.meaning.specs.Evaluator.{cutTo, valuationOf}
+use Rattle.meaning.specs.Kept.{belowEnd, countedAge}
+use Rattle.meaning.specs.declared.Point.{Point}
+use Rattle.meaning.specs.declared.Window.{Window}
+use Rattle.rowset.specs.Rows.{rowAt}
+use Rattle.rowset.specs.Sets.{Added}
+use Rattle.rowset.proofs.Growing.{Turns, goes-on, Through, turned, map-select-one}
+use Rattle.kinds.specs.Kinds.{inMask, pairAt, pairsFrom}
+use Rattle.kinds.specs.declared.Left.{Left}
+use Rattle.kinds.specs.declared.Left.the-variants.{Always}
+use Rattle.untils.proofs.Passing.{nothing-asked}
+use Rattle.since.specs.Pairs.{PairsAdded, passesOver, olderRows, olderPairs, belowOf, mostOf}
+use Rattle.since.proofs.Ages.{in-window, counted-as}
+use Rattle.since.proofs.Growing.{pairs-then}
+
+-- chosen items, each made into another, over two tests and two ways that agree on each item
+map-select-same : {A B : Type 0} (at : ℕ → A) (p q : A → Bool) (f g : A → B) → ((k : ℕ) → cond (p (at k)) (f (at k) ∷ []) [] ≡ cond (q (at k)) (g (at k) ∷ []) [])
+    → (a n : ℕ) → map f (select p (map at (range a n))) ≡ map g (select q (map at (range a n)))
+map-select-same at p q f g h a zero = refl
+map-select-same at p q f g h a (suc n) =
+    map-select-one p f (at a) (map at (range (suc a) n))
+    ∙ ap₂ (λ us vs. us ++ vs) (h a) (map-select-same at p q f g h (suc a) n)
+    ∙ sym (map-select-one q g (at a) (map at (range (suc a) n)))
+
+module _ (by : ℕ) (passed : List ℕ → Bool) where
+  -- by a window's bounds
+  abbrev rowStays : ℕ → ℕ → List ℕ → Bool
+  rowStays from below p = (leb from (getD p 0 0 + by) && ltb (getD p 0 0 + by) below) && passed (drop 1 p)
+
+  abbrev pub boundRows : ℕ → ℕ → List (List ℕ) → List (List ℕ)
+  boundRows from below held = map (drop 1) (select (rowStays from below) held)
+
+  abbrev pairStays : ℕ → List ℕ → Bool
+  pairStays below p = ltb (getD p 0 0 + by) below && passed (drop 1 p)
+
+  abbrev pub boundPairs : ℕ → ℕ → List (List ℕ) → List (List ℕ)
+  boundPairs below most held = map (λ p. min (getD p 0 0 + by) most ∷ drop 1 p) (select (pairStays below) held)
+
+  module _ (ages values : List ℕ) {old : ℕ} {all : List (List ℕ)} {x : ℕ} where
+    pub row-turned : (from below : ℕ) {out₀ : List ℕ} {n : ℕ} {out : List ℕ} {k : ℕ} → Through (pairAt ages values) (boundRows from below) old out₀ n all out k x → x < old
+        → {out' : List ℕ} {k' : ℕ} {t : Bool} {u : List ℕ} → Added out k out' k' (cond t (u ∷ []) []) → t ≡ ((leb from (getD ages x 0 + by) && ltb (getD ages x 0 + by) below) && passed u) → u ≡ rowAt values x
+        → Through (pairAt ages values) (boundRows from below) old out₀ n all out' k' (x + 1)
+    row-turned from below t l {u = u} h e is =
+        turned t (λ p. cond (rowStays from below p) (drop 1 p ∷ []) []) (map-select-one (rowStays from below) (drop 1)) l h
+        (ap (λ b. cond b (u ∷ []) []) e ∙ ap (λ v. cond (rowStays from below (getD ages x 0 ∷ v)) (v ∷ []) []) is)
+
+    pub pair-turned : (below most : ℕ) {ages₀ values₀ : List ℕ} {n : ℕ} {ages' values' : List ℕ} {k : ℕ} → Turns (pairAt ages values) (boundPairs below most) old all (PairsAdded ages₀ values₀ n ages' values' k) x → x < old
+        → {ages'' values'' : List ℕ} {k' : ℕ} {t : Bool} {u : List ℕ} → PairsAdded ages' values' k ages'' values'' k' (cond t ((min (getD ages x 0 + by) most ∷ u) ∷ []) []) → t ≡ (ltb (getD ages x 0 + by) below && passed u) → u ≡ rowAt values x
+        → Turns (pairAt ages values) (boundPairs below most) old all (PairsAdded ages₀ values₀ n ages'' values'' k') (x + 1)
+    pair-turned below most t l {u = u} h e is =
+        let grown : List ℕ → List ℕ = λ p. min (getD p 0 0 + by) most ∷ drop 1 p in
+        goes-on t (λ p. cond (pairStays below p) (grown p ∷ []) []) (map-select-one (pairStays below) grown) l (pairs-then h)
+        (ap (λ b. cond b ((min (getD ages x 0 + by) most ∷ u) ∷ []) []) e ∙ ap (λ v. cond (pairStays below (getD ages x 0 ∷ v)) ((min (getD ages x 0 + by) most ∷ v) ∷ []) []) is)
+
+  -- by the window, where ages and what they grow by are words
+  module _ (w : Window) (ages values : List ℕ) (small : by < 4294967296) (words : (k : ℕ) → getD ages k 0 < 4294967296) where
+    pub rows-bound : {from below : ℕ} → from ≡ w .start → below ≡ belowOf w → (a n : ℕ) → boundRows from below (pairsFrom ages values a n) ≡ olderRows w by passed (pairsFrom ages values a n)
+    unfolding pairsFrom
+    rows-bound {from} {below} e f a n =
+        map-select-same (pairAt ages values) (rowStays from below) (λ p. inWindow w (getD p 0 0 + by) && passed (drop 1 p)) (drop 1) (drop 1)
+        (λ k. ap (λ t. cond (t && passed (rowAt values k)) (rowAt values k ∷ []) []) (in-window w (getD ages k 0 + by) (omega (arith, words k)) e f)) a n
+
+    pub pairs-bound : {below most : ℕ} → below ≡ belowOf w → most ≡ mostOf w → (a n : ℕ) → boundPairs below most (pairsFrom ages values a n) ≡ olderPairs w by passed (pairsFrom ages values a n)
+    unfolding pairsFrom
+    pairs-bound {below} {most} e f a n =
+        map-select-same (pairAt ages values) (pairStays below) (λ p. belowEnd w (getD p 0 0 + by) && passed (drop 1 p))
+        (λ p. min (getD p 0 0 + by) most ∷ drop 1 p) (λ p. countedAge w (getD p 0 0 + by) ∷ drop 1 p)
+        (λ k. counted-as w (getD ages k 0 + by) (omega (arith, words k)) (λ age. (age ∷ rowAt values k) ∷ []) (passed (rowAt values k)) e f) a n
+
+-- where nothing is asked of left, every row passes
+pub all-pass : {left : Left} → left ≡ Always → (mask : ℕ) (sets : Point → List (List ℕ)) (from end : ℕ) → (λ (u : List ℕ). true) ≡ passesOver left mask sets from end
+all-pass e mask sets from end = fun-ext (λ u. nothing-asked sets (cutTo (inMask mask) (valuationOf u)) (pointsFrom (point from) (end - from)) e)
+
+-- a test that is made alone
+pub alone : {t : Bool} (b : Bool) → t ≡ b → t ≡ (b && true)
+alone b e = e ∙ sym (and-true b)
+
+select-all : (us : List (List ℕ)) → us ≡ select (λ _. true) us
+select-all [] = refl
+select-all (u ∷ us) = ap (λ vs. u ∷ vs) (select-all us)
+
+pub every-row : {left : Left} → left ≡ Always → (mask : ℕ) (sets : Point → List (List ℕ)) (from end : ℕ) (us : List (List ℕ)) → us ≡ select (passesOver left mask sets from end) us
+every-row e mask sets from end us = select-all us ∙ ap (λ p. select p us) (all-pass e mask sets from end)

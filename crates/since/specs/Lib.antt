@@ -1,0 +1,3 @@
+-- What the contracts of this crate cite beside the definitions of `meaning`, `method`, `room`, `kinds` and `untils`.
+pub mod Since
+pub mod Pairs

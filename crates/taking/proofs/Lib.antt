@@ -1,4 +1,0 @@
--- Facts about a taking over slices.
-pub mod Figuring
-pub mod Ending
-pub mod Stored

@@ -1,3 +1,0 @@
--- What the contracts of this crate cite beside the definitions of `meaning`, `method`, `room`, `kinds`, `shelf`, `shelving` and `turn`.
-pub mod Turns
-pub mod Nodes

@@ -1,0 +1,20 @@
+-- The sizes of the rooms, in rows, and the entries that the small one has room for.
+use Prim.Native.Nat.{ℕ, _+_, _*_}
+use Rattle.meaning.specs.Outcome.{mostRows, mostKept}
+use Rattle.method.specs.Room.{mostSets}
+
+abbrev pub smallRows : ℕ
+smallRows = 192
+
+abbrev pub usualRows : ℕ
+usualRows = 704
+
+abbrev pub largeRows : ℕ
+largeRows = 2688
+
+-- all kept rows and the most new sets of 32 rows each, 8,512: enough for every well-formed state
+abbrev pub largestRows : ℕ
+largestRows = mostKept + mostRows * mostSets
+
+abbrev pub smallKept : ℕ
+smallKept = 128
