@@ -1,4 +1,4 @@
-// What one taking costs: time after 1,000 and after 1,000,000 points, side by side, and stack.
+// What one taking costs: time after 1,000 and after 1,000,000 points, side by side.
 //
 //   rt staticlib boundary
 //   rustc -O --edition 2021 -L target/staticlib -o target/speed tests/speed.rs
@@ -7,9 +7,9 @@ mod input;
 mod library;
 
 use input::*;
-use library::{State, Told};
+use library::State;
 use std::hint::black_box;
-use std::mem::{size_of, MaybeUninit};
+use std::mem::size_of;
 use std::time::Instant;
 
 // ---- the rules, and the events of each by the point's number
@@ -168,116 +168,9 @@ fn time(case: &Case) {
     println!("{name}: {few:.0} ns an event after {FEW} points, {many:.0} ns after {MANY}, ratio {:.2}; kept {kept}, open {open}", many / few);
 }
 
-// ---- stack
-
-const PAINTED: usize = 8 << 20;
-const PAINT: u64 = 0x5afe_5afe_5afe_5afe;
-
-// Fills the stack below the caller with one word, and answers where that begins.
-#[inline(never)]
-fn paint() -> usize {
-    let mut room = [MaybeUninit::<u64>::uninit(); PAINTED / 8];
-    for word in room.iter_mut() {
-        unsafe { word.as_mut_ptr().write_volatile(PAINT) };
-    }
-    black_box(&mut room).as_ptr() as usize
-}
-
-// The first address from `low` on that isn't painted any more.
-#[inline(never)]
-fn overwritten_from(low: usize) -> usize {
-    let painted = |at: usize| unsafe { (at as *const u64).read_volatile() == PAINT };
-    (low..).step_by(8).find(|at| !painted(*at)).unwrap()
-}
-
-#[inline(never)]
-fn call(state: &mut State, event: &[u32], buffer: &mut [u32]) -> Told {
-    library::take_in(state, event, buffer)
-}
-
-// Bytes of stack below the caller of one taking: what its frames overwrote.
-fn stack_of(state: &mut State, event: &[u32]) -> usize {
-    let (mut own, event) = (Box::new(*state), event.to_vec());
-    let measure = move || {
-        let mut buffer = vec![0; LONGEST_REPORT];
-        let here = 0u64;
-        let low = paint();
-        let told = call(&mut own, &event, &mut buffer);
-        let used = black_box(&here) as *const u64 as usize - overwritten_from(low);
-        assert_eq!(told.number, 0);
-        (used, own)
-    };
-    let (used, after) = std::thread::Builder::new().stack_size(4 * PAINTED).spawn(measure).unwrap().join().unwrap();
-    *state = *after;
-    used
-}
-
-fn stack_of_usual(case: &Case) {
-    let mut state = started(&case.rule);
-    let mut buffer = vec![0; LONGEST_REPORT];
-    let events: Vec<Vec<u32>> = (0..FEW).map(|i| case.event(i)).collect();
-    run(&mut state, &events, &mut buffer);
-    let mut most = 0;
-    for point in FEW..FEW + 24 {
-        most = most.max(stack_of(&mut state, &case.event(point)));
-    }
-    println!("stack of a usual event, {}: {most} bytes", case.name);
-}
-
-// Points that wait, with rows of 4 values until 512 entries are kept; then one event that settles them all for every node.
-fn stack_of_burst(name: &str, nodes: Vec<Node>, waiting: usize, late: u32) {
-    let atoms = nodes.iter().filter(|n| n.kind == ATOM).count();
-    let rule = Rule { arities: vec![4], nodes };
-    let mut state = started(&rule);
-    let mut buffer = vec![0; LONGEST_REPORT];
-    // each point has `each` rows; the earlier half have 32 between them, the later half `late`
-    let each = 512 / (waiting * atoms) as u32;
-    for i in 0..waiting as u32 {
-        let between = if (i as usize) < waiting / 2 { 32 } else { late };
-        let rows: Vec<Row> = (0..each).map(|k| (0, vec![1, 2, i % (between / each), k])).collect();
-        run(&mut state, &[event(i, &rows)], &mut buffer);
-    }
-    let (kept, open) = (library::kept(&state), library::open(&state).points);
-    let last = event(LONGEST_WINDOW + waiting as u32, &[]);
-    let used = stack_of(&mut state.clone(), &last);
-    let times = (0..41).map(|_| {
-        let mut state = state;
-        let began = Instant::now();
-        black_box(library::take_in(black_box(&mut state), &last, &mut buffer));
-        began.elapsed().as_nanos() as f64
-    });
-    let micros = median(times.collect()) / 1_000.0;
-    println!("burst of {name}: {used} bytes of stack, {micros:.0} us; before it {open} open, {kept} kept; {} points, {} rows", buffer[0], buffer[2]);
-}
-
-// An atom and 31 nodes above it: `bottom` of them eventually, the others previous.
-fn chain(bottom: u8) -> Vec<Node> {
-    let mut nodes = vec![atom(0, &[0, 1, 2, 3])];
-    for x in 0..31 {
-        nodes.push(if x < bottom { node(EVENTUALLY, x, 0, 0, LONGEST_WINDOW) } else { node(PREVIOUS, x, 0, 0, 0) });
-    }
-    nodes
-}
-
-// 15 times until, each the right of the next, over 16 atoms.
-fn untils() -> Vec<Node> {
-    let mut nodes = vec![atom(0, &[0, 1, 2, 3])];
-    for x in (0..30).step_by(2) {
-        nodes.extend([atom(0, &[0, 1, 2, 3]), node(UNTIL, x + 1, x, 0, LONGEST_WINDOW)]);
-    }
-    nodes
-}
-
 fn main() {
     println!("a state is {} bytes", size_of::<State>());
     for case in cases() {
         time(&case);
     }
-    for case in cases() {
-        stack_of_usual(&case);
-    }
-    stack_of_burst("31 eventually", chain(31), 32, 32);
-    stack_of_burst("15 until", untils(), 32, 32);
-    // a child of "previous" may have one open point more than its parent, and keeps the rows of its last point
-    stack_of_burst("30 previous over eventually", chain(1), 62, 16);
 }
