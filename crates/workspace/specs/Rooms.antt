@@ -1,10 +1,13 @@
--- The sizes of the rooms, in rows, and the entries that the small one has room for.
+-- The sizes of the rooms, in rows, and the entries that the two smallest have room for.
 use Prim.Native.Nat.{ℕ, _+_, _*_}
 use Rattle.meaning.specs.Outcome.{mostRows, mostKept}
 use Rattle.method.specs.Room.{mostSets}
 
 abbrev pub smallRows : ℕ
-smallRows = 192
+smallRows = 128
+
+abbrev pub mediumRows : ℕ
+mediumRows = 256
 
 abbrev pub usualRows : ℕ
 usualRows = 704
@@ -18,3 +21,6 @@ largestRows = mostKept + mostRows * mostSets
 
 abbrev pub smallKept : ℕ
 smallKept = 128
+
+abbrev pub mediumKept : ℕ
+mediumKept = 256

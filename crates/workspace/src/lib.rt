@@ -17,11 +17,13 @@ ghost use Rattle.weighing.specs.Weighs.{Weighs};
 ghost use Rattle.workspace.specs.Stores.{EntriesStored, Storable};
 ghost use Rattle.workspace.specs.Blocks.{EntriesPut, BlockStorable, lastPoints, LastReady};
 ghost use Rattle.workspace.specs.Settles.{callIn, ReadyIn, SettledCall, Tried};
-ghost use Rattle.workspace.specs.Rooms.{smallRows, usualRows, largeRows, largestRows, smallKept};
+ghost use Rattle.workspace.specs.Rooms.{smallRows, mediumRows, usualRows, largeRows, largestRows, smallKept, mediumKept};
 ghost use Rattle.workspace.specs.declared.Settled.the-variants.{Done, Full};
 
 // How many rows each room has. The largest is enough for every well-formed state: all kept rows, and 250 new sets of 32 rows each.
-const SMALL_ROWS: usize = 192;
+const SMALL_ROWS: usize = 128;
+
+const MEDIUM_ROWS: usize = 256;
 
 const USUAL_ROWS: usize = 704;
 
@@ -29,10 +31,14 @@ const LARGE_ROWS: usize = 2688;
 
 const LARGEST_ROWS: usize = 8512;
 
-// How many entries the small room has space for, and with how many a call is tried there: a few may come in the call.
+// How many entries the small and the medium room have space for, and with how many a call is tried there: a few may come in the call.
 const SMALL_KEPT: usize = 128;
 
+const MEDIUM_KEPT: usize = 256;
+
 const FEW_ENTRIES: usize = 96;
+
+const SOME_ENTRIES: usize = 224;
 
 // The marks in each room, one more than the most sets that stand at once, and the words of its table of blocks, three to a node.
 const MARKS: usize = 391;
@@ -273,6 +279,64 @@ fn settle_small(
     )
 }
 
+// A call tried in the medium room.
+fn settle_medium(
+    again: u32,
+    rule: &[u8],
+    figures: &[u32],
+    stamps: &[u32],
+    points: u32,
+    event: &[u32],
+    owners: &mut [u32],
+    numbers: &mut [u32],
+    values: &mut [u32],
+    count: usize,
+    report: &mut [u32],
+) -> Settled
+    requires { ⌜ again ≡ 0 ⌝ }
+    requires { ⌜ ReadyIn (now rule) points (now stamps) (now owners) (now numbers) (now values) count (now event) (now figures) ⌝ }
+    requires { ⌜ rowsNeeded (callIn (now rule) points (now stamps) (now owners) (now numbers) (now values) count) (now event) ≤ mediumRows ⌝ }
+    ensures { λ r. ⌜ Tried (callIn (now (rule .entry)) points (now (stamps .entry)) (now (owners .entry)) (now (numbers .entry)) (now (values .entry)) count) (now (event .entry)) mediumKept (now (report .entry)) (now (report .exit)) (now (owners .entry)) (now (numbers .entry)) (now (values .entry)) (now (owners .exit)) (now (numbers .exit)) (now (values .exit)) r ⌝ }
+{
+    if 0 < again {
+        return settle_medium(
+            again - 1,
+            rule,
+            figures,
+            stamps,
+            points,
+            event,
+            owners,
+            numbers,
+            values,
+            count,
+            report,
+        );
+    }
+    let mut rows = [0u32; MEDIUM_ROWS * 4];
+    let mut at = [0u32; MARKS];
+    let mut out_numbers = [0u32; MEDIUM_KEPT];
+    let mut out_values = [0u32; MEDIUM_KEPT * 4];
+    let mut blocks = [0u32; TABLE];
+    settle(
+        rule,
+        figures,
+        stamps,
+        points,
+        event,
+        owners,
+        numbers,
+        values,
+        count,
+        report,
+        &mut rows,
+        &mut at,
+        &mut out_numbers,
+        &mut out_values,
+        &mut blocks,
+    )
+}
+
 // A call in the usual room, which has space for all entries that may be kept; and so have the larger ones.
 fn settle_usual(
     again: u32,
@@ -450,8 +514,9 @@ fn settle_largest(
     done(settled)
 }
 
-// A call in the room that it needs: so many rows.
-pub fn settle_in_room(
+// A call in the smallest of the rooms that have space for all entries, where it needs so many rows.
+fn settle_whole(
+    again: u32,
     rule: &[u8],
     figures: &[u32],
     stamps: &[u32],
@@ -462,48 +527,13 @@ pub fn settle_in_room(
     values: &mut [u32],
     count: usize,
     report: &mut [u32],
-    needed: u32,
+    rows: usize,
 ) -> Weighed
+    requires { ⌜ again ≡ 0 ⌝ }
     requires { ⌜ ReadyIn (now rule) points (now stamps) (now owners) (now numbers) (now values) count (now event) (now figures) ⌝ }
-    requires { ⌜ rowsNeeded (callIn (now rule) points (now stamps) (now owners) (now numbers) (now values) count) (now event) ≤ needed ⌝ }
+    requires { ⌜ rowsNeeded (callIn (now rule) points (now stamps) (now owners) (now numbers) (now values) count) (now event) ≤ rows ⌝ }
     ensures { λ r. ⌜ SettledCall (callIn (now (rule .entry)) points (now (stamps .entry)) (now (owners .entry)) (now (numbers .entry)) (now (values .entry)) count) (now (event .entry)) (now (report .entry)) (now (report .exit)) (now (owners .entry)) (now (numbers .entry)) (now (values .entry)) (now (owners .exit)) (now (numbers .exit)) (now (values .exit)) r ⌝ }
 {
-    // The compiler merges a function that is called in one place into its caller, and then every event would take the frame of the largest room. A function that calls itself stays apart. So each room's function does, `again` times, where the compiler can't tell that this is 0: a log has at most 10,000,000 points.
-    let again = points / 4_000_000_000;
-    let rows = needed as usize;
-    if rows <= SMALL_ROWS {
-        if count <= FEW_ENTRIES {
-            let settled = settle_small(
-                again,
-                rule,
-                figures,
-                stamps,
-                points,
-                event,
-                owners,
-                numbers,
-                values,
-                count,
-                report,
-            );
-            return match settled {
-                Settled::Done(weighed) => weighed,
-                Settled::Full => settle_usual(
-                    again,
-                    rule,
-                    figures,
-                    stamps,
-                    points,
-                    event,
-                    owners,
-                    numbers,
-                    values,
-                    count,
-                    report,
-                ),
-            };
-        }
-    }
     if rows <= USUAL_ROWS {
         return settle_usual(
             again,
@@ -546,5 +576,146 @@ pub fn settle_in_room(
         values,
         count,
         report,
+    )
+}
+
+// A call for which the small room is too small: in the medium one, or where that is too small in one that has space for all entries.
+fn settle_more(
+    again: u32,
+    rule: &[u8],
+    figures: &[u32],
+    stamps: &[u32],
+    points: u32,
+    event: &[u32],
+    owners: &mut [u32],
+    numbers: &mut [u32],
+    values: &mut [u32],
+    count: usize,
+    report: &mut [u32],
+    rows: usize,
+) -> Weighed
+    requires { ⌜ again ≡ 0 ⌝ }
+    requires { ⌜ ReadyIn (now rule) points (now stamps) (now owners) (now numbers) (now values) count (now event) (now figures) ⌝ }
+    requires { ⌜ rowsNeeded (callIn (now rule) points (now stamps) (now owners) (now numbers) (now values) count) (now event) ≤ rows ⌝ }
+    ensures { λ r. ⌜ SettledCall (callIn (now (rule .entry)) points (now (stamps .entry)) (now (owners .entry)) (now (numbers .entry)) (now (values .entry)) count) (now (event .entry)) (now (report .entry)) (now (report .exit)) (now (owners .entry)) (now (numbers .entry)) (now (values .entry)) (now (owners .exit)) (now (numbers .exit)) (now (values .exit)) r ⌝ }
+{
+    if rows <= MEDIUM_ROWS {
+        if count <= SOME_ENTRIES {
+            let settled = settle_medium(
+                again,
+                rule,
+                figures,
+                stamps,
+                points,
+                event,
+                owners,
+                numbers,
+                values,
+                count,
+                report,
+            );
+            return match settled {
+                Settled::Done(weighed) => weighed,
+                Settled::Full => settle_whole(
+                    again,
+                    rule,
+                    figures,
+                    stamps,
+                    points,
+                    event,
+                    owners,
+                    numbers,
+                    values,
+                    count,
+                    report,
+                    rows,
+                ),
+            };
+        }
+    }
+    settle_whole(
+        again,
+        rule,
+        figures,
+        stamps,
+        points,
+        event,
+        owners,
+        numbers,
+        values,
+        count,
+        report,
+        rows,
+    )
+}
+
+// A call in the room that it needs: so many rows.
+pub fn settle_in_room(
+    rule: &[u8],
+    figures: &[u32],
+    stamps: &[u32],
+    points: u32,
+    event: &[u32],
+    owners: &mut [u32],
+    numbers: &mut [u32],
+    values: &mut [u32],
+    count: usize,
+    report: &mut [u32],
+    needed: u32,
+) -> Weighed
+    requires { ⌜ ReadyIn (now rule) points (now stamps) (now owners) (now numbers) (now values) count (now event) (now figures) ⌝ }
+    requires { ⌜ rowsNeeded (callIn (now rule) points (now stamps) (now owners) (now numbers) (now values) count) (now event) ≤ needed ⌝ }
+    ensures { λ r. ⌜ SettledCall (callIn (now (rule .entry)) points (now (stamps .entry)) (now (owners .entry)) (now (numbers .entry)) (now (values .entry)) count) (now (event .entry)) (now (report .entry)) (now (report .exit)) (now (owners .entry)) (now (numbers .entry)) (now (values .entry)) (now (owners .exit)) (now (numbers .exit)) (now (values .exit)) r ⌝ }
+{
+    // The compiler merges a function that is called in one place into its caller, and then every event would take the frame of the largest room. A function that calls itself stays apart. So each room's function does, `again` times, where the compiler can't tell that this is 0: a log has at most 10,000,000 points.
+    let again = points / 4_000_000_000;
+    let rows = needed as usize;
+    if rows <= SMALL_ROWS {
+        if count <= FEW_ENTRIES {
+            let settled = settle_small(
+                again,
+                rule,
+                figures,
+                stamps,
+                points,
+                event,
+                owners,
+                numbers,
+                values,
+                count,
+                report,
+            );
+            return match settled {
+                Settled::Done(weighed) => weighed,
+                Settled::Full => settle_more(
+                    again,
+                    rule,
+                    figures,
+                    stamps,
+                    points,
+                    event,
+                    owners,
+                    numbers,
+                    values,
+                    count,
+                    report,
+                    rows,
+                ),
+            };
+        }
+    }
+    settle_more(
+        again,
+        rule,
+        figures,
+        stamps,
+        points,
+        event,
+        owners,
+        numbers,
+        values,
+        count,
+        report,
+        rows,
     )
 }
