@@ -165,8 +165,8 @@ static inline uint32_t yokemango_start_in(struct yokemango_state *state, const u
 /* Takes an event into `state`: time, row count m, m relation numbers, m rows of 4 words with unused columns 0. The report
    goes to the front of `report`, words past it stay. An event that settles nothing still writes 3 words. The answer is 0, or
    the first of the refusals 8 to 16 that applies; then no word of `state` or `report` is changed. The refusal's place goes to
-   `place`. Stack of a call, measured (docs/TESTING.md): a usual event 14 to 16 KB; one that settles 32 points at once 62 KB for
-   rules of up to 4 nodes, such as rule L, and 157 KB for any rule. `start` takes 14 KB and `open` 28 KB. */
+   `place`. Stack of a call, measured (docs/TESTING.md): a usual event 13 to 20 KB; one that settles 32 points at once 63 KB for
+   rules of up to 4 nodes, such as rule L, and 158 KB for any rule. `start` takes 14 KB and `open` 28 KB. */
 static inline uint32_t yokemango_take_in(struct yokemango_state *state, const uint32_t *event, size_t event_len, uint32_t *report, size_t report_len, uint32_t *place)
 {
     const struct yokemango_taken taken = yokemango_take(
