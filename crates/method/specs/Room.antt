@@ -5,7 +5,7 @@ use mathlib.Core.List.{List, [], _∷_, map}
 use lib.ListN.{length}
 use lib.Dec.{ltb}
 use Rattle.meaning.specs.Lists.{gather, total}
-use Rattle.meaning.specs.Log.{point, pointsFrom}
+use Rattle.meaning.specs.Log.{pointsFrom}
 use Rattle.meaning.specs.Outcome.{mostRows, mostOpen, mostKept}
 use Rattle.meaning.specs.RuleFile.{nodeCount, nodeAt, childrenOf, lastNode, oneIf}
 use Rattle.meaning.specs.declared.Node.{Node}

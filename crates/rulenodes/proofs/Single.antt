@@ -10,7 +10,6 @@ use Rattle.meaning.specs.declared.Sides.{Sides}
 use Rattle.meaning.specs.declared.Window.{Window}
 use Rattle.meaning.specs.declared.Head.{Head}
 use Rattle.meaning.specs.declared.Body.{Body}
-use Rattle.meaning.specs.declared.Node.{Node}
 use Rattle.meaning.specs.declared.Node.the-variants.{Keep, Exists, Previous, Next, Once, Eventually}
 
 singles : (l : ℕ) (c : Comparison) (s : Sides) (v : ℕ) (w : Window) (k4 k6 k7 k8 k13 : Bool)

@@ -1,11 +1,11 @@
 -- An age against a window's bounds: below the one that stands for no end, an age is in the window, before its end and counted as the definitions say.
-use Prim.Native.Nat.{ℕ, min, _≤_, _<_}
-use mathlib.Core.Path.{_≡_, refl, sym, ap, _∙_}
+use Prim.Native.Nat.{ℕ, min, _<_}
+use mathlib.Core.Path.{_≡_, refl, ap}
 use mathlib.Core.Bool.{Bool, true, false, cond, _&&_, _||_}
-use mathlib.Core.List.{List, [], _∷_, map}
+use mathlib.Core.List.{List, []}
 use native.Mathlib.Omega.{arith}
 use lib.Dec.{ltb, leb, eqb}
-use borrow.Author.Tests.{ltb-true, eqb-true, lt-ltb}
+use borrow.Author.Tests.{ltb-true, lt-ltb}
 use Rattle.meaning.specs.Formula.{inWindow}
 use Rattle.meaning.specs.Kept.{belowEnd, countedAge}
 use Rattle.meaning.specs.declared.Window.{Window}
