@@ -1,7 +1,7 @@
 -- What the trees of a rule's nodes need, from the sizes of the nodes: it is small where they are, and sizes that agree on the rule's nodes need the same.
 use Prim.Native.Nat.{ℕ, _+_, _*_, _≤_, _<_, max}
 use native.Mathlib.Omega.{arith}
-use mathlib.Core.Path.{_≡_, refl, sym, _∙_, ap}
+use mathlib.Core.Path.{_≡_, refl, sym, _∙_}
 use mathlib.Core.Bool.{true, false, cond}
 use mathlib.Core.List.{List, [], _∷_, List·Memᴰ}
 use lib.ListN.{length, getD}
@@ -10,7 +10,7 @@ use borrow.Author.Tests.{lt-ltb, le-ltb}
 use Rattle.meaning.specs.Outcome.{given}
 use Rattle.meaning.specs.RuleFile.{Accepted, checking, nodeCount, nodeAt, childrenOf}
 use Rattle.meaning.proofs.Accepted.{nodes-most}
-use Rattle.method.specs.Room.{othersIn, leftLighter, heavier, lighter, needOfTwo, needOf, need}
+use Rattle.method.specs.Room.{othersIn, heavier, lighter, needOfTwo, needOf, need}
 use Rattle.method.proofs.Bounds.{below, by-children}
 use Rattle.method.proofs.Seen.{one, two}
 use Rattle.method.proofs.Weights.{both-sides, need-step}

@@ -6,7 +6,6 @@ use lib.ListN.{length, getD, take}
 use Rattle.meaning.specs.Outcome.{mostPoints}
 use Rattle.meaning.specs.Formula.{free}
 use Rattle.meaning.specs.RuleFile.{nodeCount, formulaAt}
-use Rattle.meaning.specs.declared.Point.{Point}
 use Rattle.method.specs.Stored.{Stored, held, heldPairs}
 use Rattle.method.specs.Step.{wantedFrom, countBefore, countAfter}
 use Rattle.method.specs.WellFormed.{Formed}

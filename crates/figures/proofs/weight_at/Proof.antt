@@ -1,6 +1,5 @@
 -- `weight_at` meets its contract: the children's words, and one more where the node isn't "previous".
 use native.Mathlib.Omega.{arith}
-use borrow.Author.Needs.{needs}
 use Rattle.meaning.proofs.Accepted.{accepted}
 use Rattle.figures.proofs.Weighed.{others-few, children-few, children-there, weight-previous, weight-other}
 use Rattle.figures.proofs.weight_at.Statement.{statement}
