@@ -1,7 +1,6 @@
 -- `settle_whole` meets its contract: each room is chosen where it is enough, and the largest always is.
 use native.Mathlib.Omega.{arith}
 use Rattle.workspace.proofs.Calls.{rows-enough}
-use borrow.Author.Needs.{needs}
 use Rattle.workspace.proofs.settle_whole.Statement.{statement}
 use Rattle.workspace.proofs.settle_whole.Tie as tie
 
