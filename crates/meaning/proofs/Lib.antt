@@ -2,6 +2,8 @@
 pub mod Lists
 pub mod Rows
 pub mod Points
+pub mod Order
+pub mod LookUp
 pub mod Fine
 pub mod Tree
 pub mod Shapes

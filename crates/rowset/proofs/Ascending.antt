@@ -4,16 +4,11 @@ use mathlib.Core.Path.{_≡_}
 use mathlib.Core.Bool.{Bool, true, false, cond}
 use mathlib.Core.List.{List, [], _∷_}
 use lib.ListN.{length}
-use lib.Dec.{ltb, eqb}
-use Rattle.meaning.specs.Lists.{all}
+use lib.Dec.{ltb}
 use Rattle.meaning.specs.Order.{ascending}
 use Rattle.meaning.specs.Evaluator.{insert}
 use Rattle.meaning.proofs.Rows.{insert-ascends}
 use Rattle.rowset.specs.Rows.{mostHeld, addCapped, addAllCapped}
-
--- rows of length n
-abbrev pub sized : ℕ → List (List ℕ) → Bool
-sized n rows = all (λ s. eqb (length s) n) rows
 
 -- a set that takes rows up to a limit
 add-ascends : (set : List (List ℕ)) (r : List ℕ) → ascending set ≡ true → ascending (addCapped set r) ≡ true

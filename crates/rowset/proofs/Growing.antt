@@ -10,14 +10,15 @@ use lib.Dec.{ltb, leb}
 use borrow.Author.Tests.{ltb-true, leb-true, leb-false}
 use Rattle.meaning.specs.Lists.{range, select, sameRow}
 use Rattle.meaning.specs.Order.{ascending}
-use Rattle.meaning.specs.Evaluator.{insert, setOf, member}
+use Rattle.meaning.specs.Evaluator.{insert, setOf, member, lookUp}
 use Rattle.meaning.proofs.Points.{Tested, passed, failed, tested, first, second}
+use Rattle.meaning.proofs.LookUp.{look-member}
 use Rattle.rowset.specs.declared.Row.{Row}
-use Rattle.rowset.specs.Rows.{wordsOf, rowAt, rowsFrom, lookUp, mostHeld, addCapped, addAllCapped}
+use Rattle.rowset.specs.Rows.{wordsOf, rowAt, rowsFrom, mostHeld, addCapped, addAllCapped}
 use Rattle.rowset.specs.Sets.{Room, Added}
 use Rattle.rowset.proofs.Saturation.{addAll-append, whole, crowded}
 use Rattle.rowset.proofs.Ascending.{addAll-ascends}
-use Rattle.rowset.proofs.Places.{insert-found, look-member}
+use Rattle.rowset.proofs.Places.{insert-found}
 use Rattle.rowset.proofs.Runs.{any-listed, run-first, run-end, rows-none, rows-length, rows-sized}
 
 -- a loop at item i of those up to to: some rows are put in, and with those that the items still to come give they are all.

@@ -12,10 +12,11 @@ use lib.ListN.{length, getD, set, take, drop, length-set}
 use lib.Seq.{getD-set-same, getD-set-other, take-at, drop-at, append-snoc}
 use Rattle.meaning.specs.Lists.{any, range, sameRow}
 use Rattle.meaning.specs.Order.{before}
+use Rattle.meaning.specs.Evaluator.{lookUp}
+use Rattle.meaning.proofs.LookUp.{sized}
+use Rattle.meaning.proofs.Order.{same-not-after}
 use Rattle.rowset.specs.declared.Row.{Row}
-use Rattle.rowset.specs.Rows.{wordsOf, rowAt, setRow, rowsFrom, lookUp, placeOf}
-use Rattle.rowset.proofs.Ascending.{sized}
-use Rattle.rowset.proofs.Order.{same-not-after}
+use Rattle.rowset.specs.Rows.{wordsOf, rowAt, setRow, rowsFrom, placeOf}
 
 -- a test that item k of a run passes
 or-true : (b : Bool) → (b || true) ≡ true

@@ -1,10 +1,10 @@
--- Sets of valuations as they stand in words: rows of four words, looked up and put in up to a limit.
+-- Sets of valuations as they stand in words: rows of four words, put in up to a limit.
 use Prim.Native.Nat.{ℕ, suc, _+_, _*_}
-use mathlib.Core.Bool.{Bool, false, cond}
+use mathlib.Core.Bool.{cond}
 use mathlib.Core.List.{List, [], _∷_, map}
 use lib.ListN.{length, getD, set}
 use lib.Dec.{ltb}
-use Rattle.meaning.specs.Lists.{range, sameRow}
+use Rattle.meaning.specs.Lists.{range}
 use Rattle.meaning.specs.Order.{before}
 use Rattle.meaning.specs.Evaluator.{insert}
 use Rattle.rowset.specs.declared.Row.{Row}
@@ -23,11 +23,6 @@ setRow ws k r = set (set (set (set ws (k * 4) (r .v0)) (k * 4 + 1) (r .v1)) (k *
 -- as many rows as count says, from row from on
 unfoldable pub rowsFrom : List ℕ → ℕ → ℕ → List (List ℕ)
 rowsFrom ws from count = map (rowAt ws) (range from count)
-
--- looking for a row stops at the first that isn't before it
-abbrev pub lookUp : List ℕ → List (List ℕ) → Bool
-lookUp r [] = false
-lookUp r (s ∷ rows) = cond (before s r) (lookUp r rows) (sameRow r s)
 
 -- how many rows at the front stand before a row
 abbrev pub placeOf : List ℕ → List (List ℕ) → ℕ

@@ -6,7 +6,8 @@ use mathlib.Core.List.{List}
 use lib.ListN.{length}
 use lib.Dec.{ltb}
 use Rattle.meaning.specs.Lists.{sameRow}
-use Rattle.rowset.specs.Rows.{rowAt, rowsFrom, lookUp, mostHeld, addAllCapped}
+use Rattle.meaning.specs.Evaluator.{lookUp}
+use Rattle.rowset.specs.Rows.{rowAt, rowsFrom, mostHeld, addAllCapped}
 
 -- rows from..to, without the last, stand in the words
 pub record Run (ws : List ℕ) (from to : ℕ) : Type 0 where

@@ -7,7 +7,8 @@ ghost use lib.ListN.{length};
 ghost use lib.Dec.{ltb};
 ghost use Rattle.meaning.specs.Lists.{sameRow};
 ghost use Rattle.meaning.specs.Order.{before, ascending};
-ghost use Rattle.rowset.specs.Rows.{wordsOf, rowAt, setRow, rowsFrom, lookUp, placeOf};
+ghost use Rattle.meaning.specs.Evaluator.{lookUp};
+ghost use Rattle.rowset.specs.Rows.{wordsOf, rowAt, setRow, rowsFrom, placeOf};
 ghost use Rattle.rowset.specs.Sets.{Run, Room, Found, Added};
 
 // A valuation: the values of variables 0 to 3, 0 where one isn't free.

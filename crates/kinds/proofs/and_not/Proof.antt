@@ -6,9 +6,9 @@ use mathlib.Core.Bool.{Bool, not, cond}
 use mathlib.Core.List.{List, [], _∷_}
 use borrow.Author.Needs.{needs}
 use Rattle.meaning.specs.Lists.{select}
-use Rattle.meaning.specs.Evaluator.{cutTo, valuationOf}
+use Rattle.meaning.specs.Evaluator.{cutTo, valuationOf, lookUp}
 use Rattle.kinds.specs.Kinds.{inMask}
-use Rattle.rowset.specs.Rows.{rowAt, rowsFrom, lookUp}
+use Rattle.rowset.specs.Rows.{rowAt, rowsFrom}
 use Rattle.rowset.proofs.Growing.{Through, begun, turned, ended, select-one, chosen}
 use Rattle.kinds.proofs.and_not.Statement.{statement}
 use Rattle.kinds.proofs.and_not.Tie as tie

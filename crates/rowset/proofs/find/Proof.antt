@@ -8,7 +8,8 @@ use mathlib.Core.Bool.{true, false}
 use mathlib.Core.List.{List}
 use Rattle.meaning.specs.Lists.{sameRow}
 use Rattle.meaning.specs.Order.{before}
-use Rattle.rowset.specs.Rows.{wordsOf, rowAt, rowsFrom, lookUp}
+use Rattle.meaning.specs.Evaluator.{lookUp}
+use Rattle.rowset.specs.Rows.{wordsOf, rowAt, rowsFrom}
 use Rattle.rowset.specs.Sets.{Found}
 use Rattle.rowset.proofs.Runs.{look-here, look-stops, look-more, look-end}
 use Rattle.rowset.proofs.find.Statement.{statement}

@@ -3,8 +3,7 @@ use mathlib.Core.Path.{ap₂}
 use mathlib.Core.Bool.{not}
 use borrow.Author.Needs.{needs}
 use Rattle.meaning.specs.Lists.{select}
-use Rattle.meaning.specs.Evaluator.{cutTo, valuationOf}
-use Rattle.rowset.specs.Rows.{lookUp}
+use Rattle.meaning.specs.Evaluator.{cutTo, valuationOf, lookUp}
 use Rattle.kinds.specs.Kinds.{inMask}
 use Rattle.rowset.proofs.Growing.{added-as}
 use Rattle.untils.proofs.Spans.{set-run, set-read}

@@ -1,7 +1,8 @@
 -- `found_at` meets its contract: the part that is looked through is the set.
 use mathlib.Core.Path.{ap, _∙_}
 use borrow.Author.Needs.{needs}
-use Rattle.rowset.specs.Rows.{wordsOf, lookUp}
+use Rattle.meaning.specs.Evaluator.{lookUp}
+use Rattle.rowset.specs.Rows.{wordsOf}
 use Rattle.untils.proofs.Spans.{set-run, set-read}
 use Rattle.untils.proofs.found_at.Statement.{statement}
 use Rattle.untils.proofs.found_at.Tie as tie
