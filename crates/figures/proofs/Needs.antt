@@ -9,14 +9,14 @@ use lib.Dec.{ltb}
 use borrow.Author.Tests.{lt-ltb, le-ltb}
 use Rattle.meaning.specs.Outcome.{given}
 use Rattle.meaning.specs.RuleFile.{Accepted, checking, nodeCount, nodeAt, childrenOf}
+use Rattle.meaning.specs.declared.Children.{Children}
+use Rattle.meaning.specs.declared.Children.the-variants.{None, One, Two}
+use Rattle.meaning.specs.View.{childrenIn}
 use Rattle.meaning.proofs.Accepted.{nodes-most}
 use Rattle.method.specs.Room.{othersIn, heavier, lighter, needOfTwo, needOf, need}
 use Rattle.method.proofs.Bounds.{below, by-children}
 use Rattle.method.proofs.Seen.{one, two}
 use Rattle.method.proofs.Weights.{both-sides, need-step}
-use Rattle.rulenodes.specs.declared.Children.{Children}
-use Rattle.rulenodes.specs.declared.Children.the-variants.{None, One, Two}
-use Rattle.rulenodes.specs.Children.{childrenIn}
 use Rattle.node_step.specs.Figures.{weightIn}
 use Rattle.figures.specs.Tables.{TableOf, rowsIn, Weighty}
 use Rattle.figures.specs.Sizes.{Sized}

@@ -2,62 +2,25 @@
 use Prim.Native.Nat.{ℕ, zero, suc, _+_, _-_, _≤_, _<_}
 use native.Mathlib.Nat.{eq-or-lt-of-le}
 use native.Mathlib.Omega.{arith}
-use mathlib.Core.Path.{_≡_, refl, sym, _∙_, ap}
-use mathlib.Core.Bool.{Bool, true, false, cond}
+use mathlib.Core.Path.{_≡_, sym, _∙_, ap}
+use mathlib.Core.Bool.{Bool, true, false}
 use mathlib.Core.Logic.{_⊎_, inl, inr}
 use mathlib.Core.List.{List, [], _∷_, map, List·Memᴰ, List·Memᴰ·cases-cons, List·Memᴰ·not-nil}
 use lib.ListN.{length, getD, set}
 use lib.Seq.{getD-set-same, getD-set-other}
-use lib.Dec.{eqb}
-use borrow.Author.Tests.{ne-eqb}
 use Rattle.meaning.specs.Lists.{total}
 use Rattle.meaning.specs.Outcome.{given}
-use Rattle.meaning.specs.RuleFile.{Accepted, checking, nodeCount, headAt, bodyAt, bodies, arity, nodeOf, nodeAt, childrenOf, lastNode}
-use Rattle.meaning.specs.declared.Head.{Head}
-use Rattle.meaning.specs.declared.Body.{Body}
-use Rattle.meaning.specs.declared.Node.{Node}
+use Rattle.meaning.specs.View.{viewOf, childrenIn}
+use Rattle.meaning.specs.RuleFile.{Accepted, checking, nodeCount, nodeAt, childrenOf, lastNode}
+use Rattle.meaning.specs.declared.Children.{Children}
+use Rattle.meaning.specs.declared.Children.the-variants.{One, Two}
+use Rattle.meaning.specs.declared.Times.{Times}
 use Rattle.meaning.proofs.Accepted.{nodes-most}
-use Rattle.meaning.proofs.Shapes.{node-7}
 use Rattle.method.specs.Room.{weight, isPrevious, otherAt, othersIn}
 use Rattle.method.proofs.Bounds.{below}
 use Rattle.method.proofs.Parents.{has-parent}
 use Rattle.method.proofs.Sums.{sum-same}
 use Rattle.method.proofs.Weights.{weight-step, nodes-split}
-use Rattle.rulenodes.specs.declared.Children.{Children}
-use Rattle.rulenodes.specs.declared.Children.the-variants.{One, Two}
-use Rattle.rulenodes.specs.Children.{childrenIn}
-
--- ---- "previous" by its number
-
-choice : (t : Bool) (m n : Node) → isPrevious m ≡ false → isPrevious n ≡ false → isPrevious (cond t m n) ≡ false
-choice true m n p q = p
-choice false m n p q = q
-
-other-kind : (a : ℕ) (h : Head) (w : Body) → eqb (h .kind) 7 ≡ false → isPrevious (nodeOf a h w) ≡ false
-unfolding nodeOf
-other-kind a h w e =
-    choice (eqb (h .kind) 1) _ _ refl
-    (choice (eqb (h .kind) 2) _ _ refl
-    (choice (eqb (h .kind) 3) _ _ refl
-    (choice (eqb (h .kind) 4) _ _ refl
-    (choice (eqb (h .kind) 5) _ _ refl
-    (choice (eqb (h .kind) 6) _ _ refl
-    (rw e
-    (choice (eqb (h .kind) 8) _ _ refl
-    (choice (eqb (h .kind) 9) _ _ refl
-    (choice (eqb (h .kind) 10) _ _ refl
-    (choice (eqb (h .kind) 11) _ _ refl
-    (choice (eqb (h .kind) 12) _ _ refl
-    (choice (eqb (h .kind) 13) _ _ refl refl))))))))))))
-
-module _ (b : List ℕ) (x : ℕ) where
-  is-7 : headAt b x .kind ≡ 7 → isPrevious (nodeAt b x) ≡ true
-  unfolding nodeAt
-  is-7 e = ap isPrevious (node-7 (arity b (headAt b x .left)) (headAt b x) (bodyAt (bodies b) x) e)
-
-  isn't-7 : (headAt b x .kind ≡ 7 → ⊥) → isPrevious (nodeAt b x) ≡ false
-  unfolding nodeAt
-  isn't-7 e = other-kind (arity b (headAt b x .left)) (headAt b x) (bodyAt (bodies b) x) (ne-eqb (headAt b x .kind) 7 e)
 
 -- ---- small sums
 
@@ -104,16 +67,18 @@ module _ (b : List ℕ) (a : Accepted) (ok : checking b ≡ given a) where
     pub children-there : {cs : List ℕ} → cs ≡ childrenOf (nodeAt b x) → nodeCount b ≤ length ws → (c : ℕ) → List·Memᴰ c cs → c < length ws
     children-there e l c m = omega (arith, below b a ok x o c (rw e at m))
 
-    pub weight-previous : {cs : List ℕ} {k v : ℕ} → cs ≡ childrenOf (nodeAt b x) → v ≡ total (map (λ y. getD ws y 0) cs) → k ≡ headAt b x .kind → k ≡ 7 → v ≡ othersIn b x
-    weight-previous {cs} {k} {v} e f h s =
-        let t : v ≡ total (map (λ y. getD ws y 0) (childrenOf (nodeAt b x))) = rw e at f in
-        let u : otherAt b x ≡ 0 = rw (is-7 b x (sym h ∙ s)) in
+    pub weight-previous : {cs : List ℕ} {v : ℕ} {t : Times} {p : Bool} → cs ≡ childrenOf (nodeAt b x) → v ≡ total (map (λ y. getD ws y 0) cs) → t ≡ viewOf (nodeAt b x) .times → p ≡ isPrevious t → p ≡ true → v ≡ othersIn b x
+    weight-previous {cs} {v} {t} {p} e f h q s =
+        let r : v ≡ total (map (λ y. getD ws y 0) (childrenOf (nodeAt b x))) = rw e at f in
+        let d : isPrevious (viewOf (nodeAt b x) .times) ≡ true = ap isPrevious (sym h) ∙ sym q ∙ s in
+        let u : otherAt b x ≡ 0 = rw d in
         omega (arith, step)
 
-    pub weight-other : {cs : List ℕ} {k v : ℕ} → cs ≡ childrenOf (nodeAt b x) → v ≡ total (map (λ y. getD ws y 0) cs) → k ≡ headAt b x .kind → (k ≡ 7 → ⊥) → v + 1 ≡ othersIn b x
-    weight-other {cs} {k} {v} e f h s =
-        let t : v ≡ total (map (λ y. getD ws y 0) (childrenOf (nodeAt b x))) = rw e at f in
-        let u : otherAt b x ≡ 1 = rw (isn't-7 b x (λ q. s (h ∙ q))) in
+    pub weight-other : {cs : List ℕ} {v : ℕ} {t : Times} {p : Bool} → cs ≡ childrenOf (nodeAt b x) → v ≡ total (map (λ y. getD ws y 0) cs) → t ≡ viewOf (nodeAt b x) .times → p ≡ isPrevious t → p ≡ false → v + 1 ≡ othersIn b x
+    weight-other {cs} {v} {t} {p} e f h q s =
+        let r : v ≡ total (map (λ y. getD ws y 0) (childrenOf (nodeAt b x))) = rw e at f in
+        let d : isPrevious (viewOf (nodeAt b x) .times) ≡ false = ap isPrevious (sym h) ∙ sym q ∙ s in
+        let u : otherAt b x ≡ 1 = rw d in
         omega (arith, step)
 
 -- ---- words put in one after another

@@ -1,7 +1,8 @@
 // The figures of a call and of a state: how many points each node has settled and from which on its rows are kept, where its entries stand, as a table; the rows that the call needs; what is retained; and how many points are open.
+use meaning::Children;
 use meaning::Point;
 use meaning::Stamp;
-use rulenodes::Children;
+use meaning::Times;
 ghost use mathlib.Core.Path.{_≡_};
 ghost use mathlib.Core.List.{[], _∷_, _++_, map, List·Memᴰ};
 ghost use Prim.Native.Nat.{ℕ, _+_, _-_, _*_, _≤_, _<_, max};
@@ -9,8 +10,10 @@ ghost use lib.ListN.{length, getD, take, drop};
 ghost use Rattle.meaning.specs.Log.{stamp};
 ghost use Rattle.meaning.specs.Outcome.{given, mostKept};
 ghost use Rattle.meaning.specs.RuleFile.{Accepted, checking, nodeCount, lastNode};
+ghost use Rattle.meaning.specs.Lists.{total};
+ghost use Rattle.meaning.specs.View.{childrenIn};
 ghost use Rattle.method.specs.Stored.{firstRetained};
-ghost use Rattle.method.specs.Room.{othersIn, need, needOfTwo};
+ghost use Rattle.method.specs.Room.{isPrevious, othersIn, need, needOfTwo};
 ghost use Rattle.shelf.specs.Entries.{Stands};
 ghost use Rattle.shelf.specs.Appended.{atFront};
 ghost use Rattle.formed.specs.Known.{storedIn};
@@ -19,8 +22,6 @@ ghost use Rattle.figures.specs.Counts.{bare, Counting, Figured};
 ghost use Rattle.figures.specs.Fronts.{storedFront, openOf, openAnswer};
 ghost use mathlib.Core.Bool.{cond};
 ghost use lib.Dec.{ltb};
-ghost use Rattle.meaning.specs.Lists.{total};
-ghost use Rattle.rulenodes.specs.Children.{childrenIn};
 ghost use Rattle.node_step.specs.Figures.{weightIn};
 ghost use Rattle.figures.specs.Words.{putFrom};
 ghost use Rattle.figures.specs.Sizes.{Sized};
@@ -187,13 +188,26 @@ fn children_weight(children: Children, words: &[u32]) -> u32
     }
 }
 
+// Whether a node of these times is "previous".
+fn is_previous(look: Times) -> bool
+    ensures { λ r. ⌜ r ≡ isPrevious look ⌝ }
+{
+    match look {
+        Times::Here => false,
+        Times::Before => true,
+        Times::After => false,
+        Times::Past => false,
+        Times::Future => false,
+    }
+}
+
 // How many nodes of node x's tree aren't "previous", from those of the lower nodes. Of the rule only the node's head is read.
 fn weight_at(rule: &[u8], weights: &[u32], x: u8) -> u32
     requires { ⌜ ((a : Accepted) × (checking (now rule) ≡ given a)) × (x < nodeCount (now rule)) × (nodeCount (now rule) ≤ length (now weights)) × ((y : ℕ) → y < x → getD (now weights) y 0 ≡ othersIn (now rule) y) ⌝ }
     ensures { λ r. ⌜ r ≡ othersIn (now (rule .entry)) x ⌝ }
 {
     let below = children_weight(rulenodes::children_at(rule, x), weights);
-    if rulenodes::kind_at(rule, x) == 7 {
+    if is_previous(rulenodes::times_at(rule, x)) {
         below
     } else {
         below + 1

@@ -11,6 +11,7 @@ use borrow.Author.Count.{below-more}
 use borrow.Author.Tests.{eqb-true, eqb-false}
 use Rattle.meaning.specs.Log.{pointsFrom}
 use Rattle.meaning.specs.Lists.{all, range}
+use Rattle.meaning.specs.View.{viewOf}
 use Rattle.meaning.specs.RuleFile.{nodeAt}
 use Rattle.meaning.specs.declared.Point.{Point}
 use Rattle.meaning.proofs.Lists.{range-length}
@@ -37,19 +38,19 @@ module _ (os : List ℕ) {ns vs : List ℕ} {count cursor x : ℕ} {low : Point}
       let rows : Point → List (List ℕ) = rowsFound x low (restAt os ns vs count cursor) in
       wrong
       (sets-ordered os ns vs count cursor x to low mask l run n
-      (λ j u v. rows-same m (rows j) ∙ all-points (λ j. setFits b x (rows j)) (low .0) n .0 (first (all (λ j. setFits b x (rows j)) (pointsFrom low n)) (pairsFit b x (nodeAt b x) (pairsFound x (setsRest x low n (restAt os ns vs count cursor)))) (o .fit)) j u v) end e (o .ends))
+      (λ j u v. rows-same m (rows j) ∙ all-points (λ j. setFits b x (rows j)) (low .0) n .0 (first (all (λ j. setFits b x (rows j)) (pointsFrom low n)) (pairsFit b x (viewOf (nodeAt b x)) (pairsFound x (setsRest x low n (restAt os ns vs count cursor)))) (o .fit)) j u v) end e (o .ends))
 
 module _ {os ns vs : List ℕ} {count cursor x : ℕ} {low : Point} {n mask : ℕ} {b : List ℕ} (m : MaskOf b x mask) where
   module _ {next r : ℕ} (s : SetsTo os ns vs count cursor x low n mask next) (f : PairsFound os ns vs count next x r) where
-    runs-are : runsFit b x low n (restAt os ns vs count cursor) ≡ pairsFit b x (nodeAt b x) (pairsFrom ns vs next (r - next))
+    runs-are : runsFit b x low n (restAt os ns vs count cursor) ≡ pairsFit b x (viewOf (nodeAt b x)) (pairsFrom ns vs next (r - next))
     unfolding runsFit
     runs-are =
         let rows : Point → List (List ℕ) = rowsFound x low (restAt os ns vs count cursor) in
-        ap₂ (λ t ps. t && pairsFit b x (nodeAt b x) ps)
+        ap₂ (λ t ps. t && pairsFit b x (viewOf (nodeAt b x)) ps)
         (all-points (λ j. setFits b x (rows j)) (low .0) n .1 (λ j u o. sym (rows-same m (rows j)) ∙ s .fit j u o))
         (ap (pairsFound x) (sym (s .rest)) ∙ f .pairs)
 
-    pub node-to : pairsFit b x (nodeAt b x) (pairsFrom ns vs next (r - next)) ≡ true → NodeTo os ns vs count cursor b x low n next r
+    pub node-to : pairsFit b x (viewOf (nodeAt b x)) (pairsFrom ns vs next (r - next)) ≡ true → NodeTo os ns vs count cursor b x low n next r
     node-to t =
         record {
           rows-first = s .onward;
@@ -60,7 +61,7 @@ module _ {os ns vs : List ℕ} {count cursor x : ℕ} {low : Point} {n mask : �
           fit = runs-are ∙ t;
         }
 
-    pub pairs-stuck : pairsFit b x (nodeAt b x) (pairsFrom ns vs next (r - next)) ≡ false → OwnFirst b x low n (restAt os ns vs count cursor) → ⊥
+    pub pairs-stuck : pairsFit b x (viewOf (nodeAt b x)) (pairsFrom ns vs next (r - next)) ≡ false → OwnFirst b x low n (restAt os ns vs count cursor) → ⊥
     pairs-stuck t o = true≢false (sym (o .fit) ∙ runs-are ∙ t)
 
 -- ---- the nodes below x

@@ -8,6 +8,7 @@ use lib.ListN.{length, getD, drop, replicate, length-drop, getD-replicate}
 use lib.Seq.{drop-length, drop-cons}
 use borrow.Author.Tests.{le-leb, lt-leb}
 use Rattle.meaning.specs.Log.{point}
+use Rattle.meaning.specs.View.{viewOf}
 use Rattle.meaning.specs.RuleFile.{nodeCount, nodeAt}
 use Rattle.meaning.specs.declared.Point.{Point}
 use Rattle.meaning.specs.declared.Stamp.{Stamp}
@@ -73,7 +74,7 @@ module _ {times : List ℕ} {i : ℕ} (h : Rising times i) where
 counts-same : (b : List ℕ) (τ : Point → Stamp) (n : ℕ) (f g : ℕ → ℕ) (k : ℕ) → ((x : ℕ) → x < k → f x ≡ g x) → countsTo b τ n f k ≡ countsTo b τ n g k
 counts-same b τ n f g zero h = refl
 counts-same b τ n f g (suc k) h =
-    ap₂ (λ cs v. cs ++ advance τ n (λ y. getD cs y 0) v (nodeAt b k) ∷ []) (counts-same b τ n f g k (λ x l. h x (omega arith))) (h k (omega arith))
+    ap₂ (λ cs v. cs ++ advance τ n (λ y. getD cs y 0) v (viewOf (nodeAt b k)) ∷ []) (counts-same b τ n f g k (λ x l. h x (omega arith))) (h k (omega arith))
 
 all-most : (n v y : ℕ) → getD (replicate n v) y 0 ≤ v
 all-most zero v y = omega arith

@@ -11,6 +11,7 @@ use lib.Dec.{eqb}
 use borrow.Author.Tests.{eqb-true, eq-eqb, ne-eqb}
 use Rattle.meaning.specs.Lists.{range, gather}
 use Rattle.meaning.specs.Log.{point}
+use Rattle.meaning.specs.View.{viewOf}
 use Rattle.meaning.specs.RuleFile.{nodeAt}
 use Rattle.meaning.specs.Kept.{Entry, entryOf}
 use Rattle.meaning.specs.declared.Point.{Point}
@@ -200,7 +201,7 @@ module _ (b : List ℕ) (low : ℕ → Point) (end : ℕ → ℕ) (es : List Ent
       fit-same =
           ap₂ (λ s t. s && t)
           (all-same (λ j. setFits b x (setsIn x j)) (λ j. setFits b x (held es x j)) (low x .0) (many x) (λ j u l. ap (setFits b x) (sets-held j u l)))
-          (ap (pairsFit b x (nodeAt b x)) pairs-held)
+          (ap (pairsFit b x (viewOf (nodeAt b x))) pairs-held)
 
     own-whole : es ≡ gather (ownRuns b low end es) (range 0 nodes)
     own-whole = all-found ∙ gather-each found (ownRuns b low end es) 0 nodes (λ x u o. found-own x (omega arith))

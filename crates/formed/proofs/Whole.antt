@@ -12,6 +12,7 @@ use Rattle.meaning.specs.Lists.{all, range, gather}
 use Rattle.meaning.specs.Outcome.{mostPoints, mostOpen, mostKept}
 use Rattle.meaning.specs.Log.{pointsFrom, point}
 use Rattle.meaning.specs.Formula.{free}
+use Rattle.meaning.specs.View.{viewOf}
 use Rattle.meaning.specs.RuleFile.{checking, nodeCount, nodeAt, formulaAt, lastNode, isAccepted}
 use Rattle.meaning.specs.Kept.{Entry}
 use Rattle.meaning.specs.declared.Point.{Point}
@@ -89,7 +90,7 @@ module _ (b : List ℕ) (low low' : ℕ → Point) (end : ℕ → ℕ) (es : Lis
   entries-same =
       ap₂ (λ ys t. sameEntries es ys && t)
       (gather-each (ownRuns b low end es) (ownRuns b low' end es) 0 nodes (λ x u o. ap (λ (k : Point). setEntries x (held es x) k (end x - k .0) ++ agedEntries x (heldPairs es x)) (same x (omega arith))))
-      (all-each (ownFit b low end es) (ownFit b low' end es) 0 nodes (λ x u o. ap (λ (k : Point). all (λ j. setFits b x (held es x j)) (pointsFrom k (end x - k .0)) && pairsFit b x (nodeAt b x) (heldPairs es x)) (same x (omega arith))))
+      (all-each (ownFit b low end es) (ownFit b low' end es) 0 nodes (λ x u o. ap (λ (k : Point). all (λ j. setFits b x (held es x j)) (pointsFrom k (end x - k .0)) && pairsFit b x (viewOf (nodeAt b x)) (heldPairs es x)) (same x (omega arith))))
 
 module _ (b counts : List ℕ) (es : List Entry) (count : ℕ) where
   pub kept-many : mostKept < count → false ≡ keptFit b counts es count

@@ -4,6 +4,7 @@ use mathlib.Core.Bool.{Bool, cond, _&&_}
 use mathlib.Core.List.{List, [], _∷_, _++_, map}
 use Rattle.meaning.specs.Lists.{all, range, gather}
 use Rattle.meaning.specs.Log.{pointsFrom}
+use Rattle.meaning.specs.View.{viewOf}
 use Rattle.meaning.specs.RuleFile.{nodeAt}
 use Rattle.meaning.specs.Kept.{Entry}
 use Rattle.meaning.specs.declared.Point.{Point}
@@ -37,7 +38,7 @@ pairsFound x es = map (λ e. e .number ∷ e .values) (front (hasOwner x 1) es)
 
 -- the runs of node x at n points from low on, and that of its pairs, fit it
 unfoldable pub runsFit : List ℕ → ℕ → Point → ℕ → List Entry → Bool
-runsFit b x low n es = all (λ j. setFits b x (rowsFound x low es j)) (pointsFrom low n) && pairsFit b x (nodeAt b x) (pairsFound x (setsRest x low n es))
+runsFit b x low n es = all (λ j. setFits b x (rowsFound x low es j)) (pointsFrom low n) && pairsFit b x (viewOf (nodeAt b x)) (pairsFound x (setsRest x low n es))
 
 -- what is behind the entries of the nodes below x, where node y's rows are kept from point low y on and up to point end y
 abbrev pub nodesRest : (ℕ → Point) → (ℕ → ℕ) → List Entry → ℕ → List Entry
@@ -50,7 +51,7 @@ module _ (b : List ℕ) (low : ℕ → Point) (end : ℕ → ℕ) (es : List Ent
   ownRuns x = setEntries x (held es x) (low x) (end x - low x .0) ++ agedEntries x (heldPairs es x)
 
   unfoldable pub ownFit : ℕ → Bool
-  ownFit x = all (λ j. setFits b x (held es x j)) (pointsFrom (low x) (end x - low x .0)) && pairsFit b x (nodeAt b x) (heldPairs es x)
+  ownFit x = all (λ j. setFits b x (held es x j)) (pointsFrom (low x) (end x - low x .0)) && pairsFit b x (viewOf (nodeAt b x)) (heldPairs es x)
 
   unfoldable pub entriesFit : ℕ → Bool
   unfolding ownRuns ownFit

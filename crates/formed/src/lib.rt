@@ -4,8 +4,8 @@ use meaning::MOST_OPEN;
 use meaning::MOST_POINTS;
 use meaning::MOST_ROWS;
 use meaning::MOST_TIMES;
-use meaning::Node;
 use meaning::Point;
+use meaning::Times;
 use meaning::Window;
 use rowset::Row;
 ghost use mathlib.Core.Path.{_≡_};
@@ -14,6 +14,7 @@ ghost use Prim.Native.Nat.{ℕ, _+_, _-_, _*_, _≤_, _<_};
 ghost use lib.ListN.{length, getD, drop};
 ghost use lib.Dec.{leb, eqb};
 ghost use Rattle.meaning.specs.Outcome.{given, mostPoints, mostKept};
+ghost use Rattle.meaning.specs.View.{viewOf};
 ghost use Rattle.meaning.specs.RuleFile.{Accepted, checking, isAccepted, nodeCount, nodeAt};
 ghost use Rattle.meaning.specs.Log.{point};
 ghost use Rattle.meaning.specs.Order.{before};
@@ -221,14 +222,22 @@ fn kind_fits(
 ) -> bool
     requires { ⌜ (length (now rule) ≡ 12 + 20 * nodeCount (now rule)) × (x < nodeCount (now rule)) × MaskOf (now rule) x mask ⌝ }
     requires { ⌜ (from < to) × (to ≤ length (now numbers)) × (to * 4 ≤ length (now values)) ⌝ }
-    ensures { λ t. ⌜ t ≡ pairsFit (now (rule .entry)) x (nodeAt (now (rule .entry)) x) (pairsFrom (now (numbers .entry)) (now (values .entry)) from (to - from)) ⌝ }
+    ensures { λ t. ⌜ t ≡ pairsFit (now (rule .entry)) x (viewOf (nodeAt (now (rule .entry)) x)) (pairsFrom (now (numbers .entry)) (now (values .entry)) from (to - from)) ⌝ }
 {
-    let node = rulenodes::node_at(rule, x);
-    match node {
-        Node::Since(_, _, w) => aged_fit(numbers, values, from, to, mask, w),
-        Node::NotSince(_, _, w) => aged_fit(numbers, values, from, to, mask, w),
-        Node::Once(_, w) => aged_fit(numbers, values, from, to, mask, w),
-        _ => false,
+    let look = rulenodes::times_at(rule, x);
+    match look {
+        Times::Here => false,
+        Times::Before => false,
+        Times::After => false,
+        Times::Past => {
+            let body = rulenodes::body_of(rule, x);
+            let w = Window {
+                start: body.word0,
+                end: body.word1,
+            };
+            aged_fit(numbers, values, from, to, mask, w)
+        }
+        Times::Future => false,
     }
 }
 
@@ -244,7 +253,7 @@ fn pairs_fit(
 ) -> bool
     requires { ⌜ (length (now rule) ≡ 12 + 20 * nodeCount (now rule)) × (x < nodeCount (now rule)) × MaskOf (now rule) x mask ⌝ }
     requires { ⌜ (from ≤ to) × (to ≤ length (now numbers)) × (to * 4 ≤ length (now values)) ⌝ }
-    ensures { λ t. ⌜ t ≡ pairsFit (now (rule .entry)) x (nodeAt (now (rule .entry)) x) (pairsFrom (now (numbers .entry)) (now (values .entry)) from (to - from)) ⌝ }
+    ensures { λ t. ⌜ t ≡ pairsFit (now (rule .entry)) x (viewOf (nodeAt (now (rule .entry)) x)) (pairsFrom (now (numbers .entry)) (now (values .entry)) from (to - from)) ⌝ }
 {
     if from == to {
         return true;

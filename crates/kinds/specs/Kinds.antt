@@ -1,6 +1,6 @@
 -- What the kinds read beside sets of rows: variables by a mask, an event's rows as an atom reads them, and pairs of an age and a row.
 use Prim.Native.Nat.{ℕ, _+_, _*_, _/_, _%_, _^_, _≤_}
-use mathlib.Core.Bool.{Bool, true, not}
+use mathlib.Core.Bool.{Bool}
 use mathlib.Core.List.{List, _∷_, map}
 use lib.ListN.{length, getD, take}
 use lib.Dec.{eqb}
@@ -8,18 +8,10 @@ use Rattle.meaning.specs.Lists.{range}
 use Rattle.meaning.specs.Log.{Row}
 use Rattle.meaning.specs.Event.{rowCount, relationOf, columnsOf}
 use Rattle.rowset.specs.Rows.{rowAt}
-use Rattle.kinds.specs.declared.Left.{Left}
-use Rattle.kinds.specs.declared.Left.the-variants.{Holds, Denied, Always}
 
 -- variable x is in the set where bit x of the mask is
 abbrev pub inMask : ℕ → ℕ → Bool
 inMask mask x = eqb (mask / 2 ^ x % 2) 1
-
--- left passes, where a row was found in its set or not
-abbrev pub passes : Left → Bool → Bool
-passes Holds found = found
-passes Denied found = not found
-passes Always found = true
 
 -- the words have an event's head and all its rows, 32 at most
 pub record EventThere (w : List ℕ) : Type 0 where

@@ -13,17 +13,10 @@ ghost use Rattle.meaning.specs.Lists.{select, sameRow};
 ghost use Rattle.meaning.specs.Formula.{termsOf, compares, isVariable, variables};
 ghost use Rattle.meaning.specs.Definition2.{value};
 ghost use Rattle.meaning.specs.Event.{rowCount, columnsOf};
-ghost use Rattle.meaning.specs.Evaluator.{cutTo, valuationOf, bound, matches, atomRows, agrees, joined, andRows};
-ghost use Rattle.rowset.specs.Rows.{wordsOf, rowsFrom, lookUp};
+ghost use Rattle.meaning.specs.Evaluator.{cutTo, valuationOf, bound, matches, atomRows, agrees, joined, andRows, lookUp};
+ghost use Rattle.rowset.specs.Rows.{wordsOf, rowsFrom};
 ghost use Rattle.rowset.specs.Sets.{Run, Room, Added};
 ghost use Rattle.kinds.specs.Kinds.{inMask, EventThere, rowFrom, rowsWith};
-
-// What since and until ask of left at a point: that it holds, that it doesn't, or nothing.
-pub enum Left {
-    Holds,
-    Denied,
-    Always,
-}
 
 // Four variables: whether each is in a set.
 pub struct Vars {

@@ -5,7 +5,7 @@ use mathlib.Core.Bool.{Bool, true, false, cond, _||_, false≢true}
 use mathlib.Core.Logic.{_⊎_, inl, inr}
 use mathlib.Core.List.{List, [], _∷_, List·Memᴰ, List·Memᴰ·cases-cons, List·Memᴰ·not-nil}
 use lib.Dec.{eqb}
-use borrow.Author.Tests.{ltb-true, eqb-true}
+use borrow.Author.Tests.{ltb-true, eqb-true, ne-eqb}
 use Rattle.meaning.specs.RuleFile.{atomFits, twoFit, keepFits, existsFits, oneWindowFits, twoWindowFits, isOneOf, shapeFits, nodeOf, childrenOf, termsOfBody, termOf, comparisonOf, windowOf}
 use Rattle.meaning.specs.declared.Head.{Head}
 use Rattle.meaning.specs.declared.Body.{Body}
@@ -110,6 +110,15 @@ module _ (a : ℕ) (h : Head) (w : Body) where
   pub node-14 : h .kind ≡ 14 → nodeOf a h w ≡ Eventually (h .left) (windowOf w)
   unfolding nodeOf
   node-14 e = rw e
+
+-- a node of none of the first thirteen kinds
+pub node-rest : (a : ℕ) (h : Head) (w : Body)
+    → (h .kind ≡ 1 → ⊥) → (h .kind ≡ 2 → ⊥) → (h .kind ≡ 3 → ⊥) → (h .kind ≡ 4 → ⊥) → (h .kind ≡ 5 → ⊥) → (h .kind ≡ 6 → ⊥) → (h .kind ≡ 7 → ⊥)
+    → (h .kind ≡ 8 → ⊥) → (h .kind ≡ 9 → ⊥) → (h .kind ≡ 10 → ⊥) → (h .kind ≡ 11 → ⊥) → (h .kind ≡ 12 → ⊥) → (h .kind ≡ 13 → ⊥)
+    → nodeOf a h w ≡ Eventually (h .left) (windowOf w)
+unfolding nodeOf
+node-rest a h w e1 e2 e3 e4 e5 e6 e7 e8 e9 e10 e11 e12 e13 =
+    simp (ne-eqb (h .kind) 1 e1, ne-eqb (h .kind) 2 e2, ne-eqb (h .kind) 3 e3, ne-eqb (h .kind) 4 e4, ne-eqb (h .kind) 5 e5, ne-eqb (h .kind) 6 e6, ne-eqb (h .kind) 7 e7, ne-eqb (h .kind) 8 e8, ne-eqb (h .kind) 9 e9, ne-eqb (h .kind) 10 e10, ne-eqb (h .kind) 11 e11, ne-eqb (h .kind) 12 e12, ne-eqb (h .kind) 13 e13)
 
 -- "left and right name children, each lower than the node itself"
 module _ (b : List ℕ) (x a : ℕ) (h : Head) (w : Body) where

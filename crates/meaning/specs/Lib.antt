@@ -8,6 +8,7 @@ pub mod Order
 pub mod Evaluator
 pub mod Exact
 pub mod Settled
+pub mod View
 pub mod RuleFile
 pub mod Kept
 pub mod Event

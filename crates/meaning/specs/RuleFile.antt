@@ -7,6 +7,7 @@ use lib.Dec.{ltb, leb, eqb}
 use Rattle.meaning.specs.Lists.{all, any, range, gather, occurrences}
 use Rattle.meaning.specs.Outcome.{Outcome, refused, given, when, cut, otherVersion, sizeOut, misshapen, windowOut, freeBroken, notOneParent, longestWindow}
 use Rattle.meaning.specs.Formula.{Formula, atom, and, andNot, keep, or, exists, previous, next, since, notSince, until, notUntil, once, eventually, termsOf, free, reach, freeFits}
+use Rattle.meaning.specs.View.{viewOf, childrenIn}
 use Rattle.meaning.specs.declared.Term.{Term}
 use Rattle.meaning.specs.declared.Term.the-variants.{Variable, Constant}
 use Rattle.meaning.specs.declared.Terms.{Terms}
@@ -91,20 +92,7 @@ nodeAt b x = nodeOf (arity b (headAt b x .left)) (headAt b x) (bodyAt (bodies b)
 
 -- a node's children, left first
 abbrev pub childrenOf : Node → List ℕ
-childrenOf (Atom r t) = []
-childrenOf (And a b) = a ∷ b ∷ []
-childrenOf (AndNot a b) = a ∷ b ∷ []
-childrenOf (Keep a c s) = a ∷ []
-childrenOf (Or a b) = a ∷ b ∷ []
-childrenOf (Exists a x) = a ∷ []
-childrenOf (Previous a w) = a ∷ []
-childrenOf (Next a w) = a ∷ []
-childrenOf (Since a b w) = a ∷ b ∷ []
-childrenOf (NotSince a b w) = a ∷ b ∷ []
-childrenOf (Until a b w) = a ∷ b ∷ []
-childrenOf (NotUntil a b w) = a ∷ b ∷ []
-childrenOf (Once a w) = a ∷ []
-childrenOf (Eventually a w) = a ∷ []
+childrenOf n = childrenIn (viewOf n .children)
 
 -- the formula of a node, given the formulas of its children
 abbrev pub formulaOf : (ℕ → Formula) → Node → Formula

@@ -73,6 +73,37 @@ pub enum Node {
     Eventually(u8, Window),
 }
 
+// A node's children, by number.
+pub enum Children {
+    None,
+    One(u8),
+    Two(u8, u8),
+}
+
+// What since and until ask of left at a point: that it holds, that it doesn't, or nothing.
+pub enum Left {
+    Holds,
+    Denied,
+    Always,
+}
+
+// The points of its children that a node looks at for a point: that point, the one before, the one after, the earlier ones, or the later ones.
+pub enum Times {
+    Here,
+    Before,
+    After,
+    Past,
+    Future,
+}
+
+// What all but a kind's own operation asks of a node. A kind without a window is viewed with [0, no end), and one that is no since or until asks nothing of left.
+pub struct View {
+    pub children: Children,
+    pub times: Times,
+    pub left: Left,
+    pub window: Window,
+}
+
 // A node's head, as it stands in a rule file.
 pub struct Head {
     pub kind: u8,

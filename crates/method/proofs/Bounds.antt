@@ -10,22 +10,25 @@ use borrow.Author.Tests.{eqb-false, ne-eqb}
 use Rattle.meaning.specs.Lists.{range}
 use Rattle.meaning.specs.Outcome.{given}
 use Rattle.meaning.specs.Log.{point, pointAfter}
+use Rattle.meaning.specs.View.{viewOf, childrenIn}
 use Rattle.meaning.specs.RuleFile.{Accepted, checking, nodeCount, nodeAt, childrenOf, lastNode}
 use Rattle.meaning.specs.declared.Point.{Point}
 use Rattle.meaning.specs.declared.Stamp.{Stamp}
-use Rattle.meaning.specs.declared.Node.{Node}
-use Rattle.meaning.specs.declared.Node.the-variants.{Atom, And, AndNot, Keep, Or, Exists, Previous, Next, Since, NotSince, Until, NotUntil, Once, Eventually}
+use Rattle.meaning.specs.declared.Times.{Times}
+use Rattle.meaning.specs.declared.Times.the-variants.{Here, Before, After, Past, Future}
+use Rattle.meaning.specs.declared.View.{View}
 use Rattle.meaning.proofs.Points.{Tested, passed, failed, tested}
+use Rattle.meaning.proofs.Rows.{range-of}
 use Rattle.meaning.proofs.Accepted.{accepted, lower}
 use Rattle.method.specs.Stored.{Stored, baseOf, stampIn, leastOf, firstRetained}
-use Rattle.method.specs.Counts.{scan, untilCount, advance, countsTo, Consults}
+use Rattle.method.specs.Counts.{scan, untilCount, advanceBy, advance, countsTo, ConsultsBy, Consults}
 use Rattle.method.specs.Step.{firstWanted, wantedFrom, countsStored, countBefore, stampsNow, countsAfter, countAfter}
 use Rattle.method.specs.WellFormed.{mostTimes}
+use Rattle.method.proofs.Least.{least-most, least-below, least-grows, least-same}
 use Rattle.method.proofs.Counted.{counts-length, counts-old, counts-new}
 use Rattle.method.proofs.Keeps.{wanted-low}
 use Rattle.method.proofs.Parents.{parent-is, has-parent}
-use Rattle.method.proofs.Seen.{one, two}
-use Rattle.method.proofs.Turns.{least-below, least-most, from-getD, wanted-on}
+use Rattle.method.proofs.Turns.{from-getD, wanted-on}
 
 -- ---- a node's count from its children's
 
@@ -44,58 +47,35 @@ module _ (τ : Point → Stamp) where
   unfolding untilCount
   until-within n d m from = scan-within d (τ (point (cond (ltb m n) m (n - 1)))) (point from) (m - from)
 
-module _ (τ : Point → Stamp) (n : ℕ) (c : ℕ → ℕ) (from : ℕ) where
-  -- it follows from the counts of the children alone
-  advance-same : (c' : ℕ → ℕ) (node : Node) → ((y : ℕ) → List·Memᴰ y (childrenOf node) → c y ≡ c' y) → advance τ n c from node ≡ advance τ n c' from node
-  advance-same c' (Atom r t) h = refl
-  advance-same c' (And a b) h = rw (h a one, h b two)
-  advance-same c' (AndNot a b) h = rw (h a one, h b two)
-  advance-same c' (Keep a k s) h = h a one
-  advance-same c' (Or a b) h = rw (h a one, h b two)
-  advance-same c' (Exists a x) h = h a one
-  advance-same c' (Previous a w) h = rw (h a one)
-  advance-same c' (Next a w) h = rw (h a one)
-  advance-same c' (Since a b w) h = rw (h a one, h b two)
-  advance-same c' (NotSince a b w) h = rw (h a one, h b two)
-  advance-same c' (Until a b w) h = rw (h a one, h b two)
-  advance-same c' (NotUntil a b w) h = rw (h a one, h b two)
-  advance-same c' (Once a w) h = h a one
-  advance-same c' (Eventually a w) h = rw (h a one)
-
+module _ (τ : Point → Stamp) (n from : ℕ) where
   -- it is at most the number of points, where the children's and the count to start from are
-  pub advance-most : (node : Node) → ((y : ℕ) → List·Memᴰ y (childrenOf node) → c y ≤ n) → from ≤ n → advance τ n c from node ≤ n
-  advance-most (Atom r t) h u = omega arith
-  advance-most (And a b) h u = omega (arith, h a one)
-  advance-most (AndNot a b) h u = omega (arith, h a one)
-  advance-most (Keep a k s) h u = h a one
-  advance-most (Or a b) h u = omega (arith, h a one)
-  advance-most (Exists a x) h u = h a one
-  advance-most (Previous a w) h u = omega arith
-  advance-most (Next a w) h u = omega (arith, h a one)
-  advance-most (Since a b w) h u = omega (arith, h a one)
-  advance-most (NotSince a b w) h u = omega (arith, h a one)
-  advance-most (Until a b w) h u = omega (arith, h a one, until-within τ n (w .end) (min (c a) (c b)) from)
-  advance-most (NotUntil a b w) h u = omega (arith, h a one, until-within τ n (w .end) (min (c a) (c b)) from)
-  advance-most (Once a w) h u = h a one
-  advance-most (Eventually a w) h u = omega (arith, h a one, until-within τ n (w .end) (c a) from)
+  most-by : (m : ℕ) → m ≤ n → from ≤ n → (d : ℕ) (t : Times) → advanceBy τ n m from d t ≤ n
+  most-by m h u d Here = h
+  most-by m h u d Before = omega arith
+  most-by m h u d After = omega arith
+  most-by m h u d Past = h
+  most-by m h u d Future = omega (arith, until-within τ n d m from)
 
   -- it doesn't fall as the number of points and the children's counts grow
-  advance-grows : (τ' : Point → Stamp) (n' : ℕ) (c' : ℕ → ℕ) (node : Node) → n ≤ n' → ((y : ℕ) → List·Memᴰ y (childrenOf node) → c y ≤ c' y)
-      → advance τ n c from node ≤ advance τ' n' c' (advance τ n c from node) node
-  advance-grows τ' n' c' (Atom r t) u h = u
-  advance-grows τ' n' c' (And a b) u h = omega (arith, h a one, h b two)
-  advance-grows τ' n' c' (AndNot a b) u h = omega (arith, h a one, h b two)
-  advance-grows τ' n' c' (Keep a k s) u h = h a one
-  advance-grows τ' n' c' (Or a b) u h = omega (arith, h a one, h b two)
-  advance-grows τ' n' c' (Exists a x) u h = h a one
-  advance-grows τ' n' c' (Previous a w) u h = omega (arith, h a one)
-  advance-grows τ' n' c' (Next a w) u h = omega (arith, h a one)
-  advance-grows τ' n' c' (Since a b w) u h = omega (arith, h a one, h b two)
-  advance-grows τ' n' c' (NotSince a b w) u h = omega (arith, h a one, h b two)
-  advance-grows τ' n' c' (Until a b w) u h = until-within τ' n' (w .end) (min (c' a) (c' b)) _ .0
-  advance-grows τ' n' c' (NotUntil a b w) u h = until-within τ' n' (w .end) (min (c' a) (c' b)) _ .0
-  advance-grows τ' n' c' (Once a w) u h = h a one
-  advance-grows τ' n' c' (Eventually a w) u h = until-within τ' n' (w .end) (c' a) _ .0
+  grows-by : (τ' : Point → Stamp) (n' m m' : ℕ) → n ≤ n' → m ≤ m' → (d : ℕ) (t : Times) → advanceBy τ n m from d t ≤ advanceBy τ' n' m' (advanceBy τ n m from d t) d t
+  grows-by τ' n' m m' u h d Here = h
+  grows-by τ' n' m m' u h d Before = omega arith
+  grows-by τ' n' m m' u h d After = omega arith
+  grows-by τ' n' m m' u h d Past = h
+  grows-by τ' n' m m' u h d Future = until-within τ' n' d m' _ .0
+
+  module _ (c : ℕ → ℕ) (v : View) where
+    -- it follows from the counts of the children alone
+    advance-same : (c' : ℕ → ℕ) → ((y : ℕ) → List·Memᴰ y (childrenIn (v .children)) → c y ≡ c' y) → advance τ n c from v ≡ advance τ n c' from v
+    advance-same c' h = ap (λ m. advanceBy τ n m from (v .window .end) (v .times)) (least-same n c c' (childrenIn (v .children)) h)
+
+    pub advance-most : from ≤ n → advance τ n c from v ≤ n
+    advance-most u = most-by (leastOf n (map c (childrenIn (v .children)))) (least-most n (map c (childrenIn (v .children)))) u (v .window .end) (v .times)
+
+    advance-grows : (τ' : Point → Stamp) (n' : ℕ) (c' : ℕ → ℕ) → n ≤ n' → ((y : ℕ) → List·Memᴰ y (childrenIn (v .children)) → c y ≤ c' y)
+        → advance τ n c from v ≤ advance τ' n' c' (advance τ n c from v) v
+    advance-grows τ' n' c' u h =
+        grows-by τ' n' (leastOf n (map c (childrenIn (v .children)))) (leastOf n' (map c' (childrenIn (v .children)))) u (least-grows n n' c c' (childrenIn (v .children)) u h) (v .window .end) (v .times)
 
 -- ---- the counts of a rule's nodes
 
@@ -125,37 +105,28 @@ module _ (b : List ℕ) (a : Accepted) (ok : checking b ≡ given a) where
     count-at k x h u = let e : nodeCount b ≡ k + (nodeCount b - k) = omega arith in ap (λ z. getD (countsTo b τ n from z) x 0) e ∙ counts-stay k (nodeCount b - k) x h
 
     -- each count follows from those of the children
-    count-step : (x : ℕ) → x < nodeCount b → count x ≡ advance τ n count (from x) (nodeAt b x)
+    count-step : (x : ℕ) → x < nodeCount b → count x ≡ advance τ n count (from x) (viewOf (nodeAt b x))
     count-step x o =
         count-at (suc x) x (omega arith) o ∙ counts-new b τ n from x
-        ∙ advance-same τ n (λ y. getD (countsTo b τ n from x) y 0) (from x) count (nodeAt b x) (λ y m. sym (count-at x y (below x o y m) (omega arith)))
+        ∙ advance-same τ n (from x) (λ y. getD (countsTo b τ n from x) y 0) (viewOf (nodeAt b x)) count (λ y m. sym (count-at x y (below x o y m) (omega arith)))
 
     count-most : ((x : ℕ) → x < nodeCount b → from x ≤ n) → (x : ℕ) → x < nodeCount b → count x ≤ n
-    count-most h = by-children (λ x. count x ≤ n) (λ x o most. rw (count-step x o) (advance-most τ n count (from x) (nodeAt b x) most (h x o)))
+    count-most h x o = rw (count-step x o) (advance-most τ n (from x) count (viewOf (nodeAt b x)) (h x o))
 
 -- ---- the first wanted point
 
 -- a child is wanted from at most one point before the parent's first unsettled point
-wanted-near : (n : Node) (p : ℕ) → p ≤ firstWanted n p .0 + 1
-wanted-near (Atom r t) p = omega arith
-wanted-near (And a b) p = omega arith
-wanted-near (AndNot a b) p = omega arith
-wanted-near (Keep a k s) p = omega arith
-wanted-near (Or a b) p = omega arith
-wanted-near (Exists a x) p = omega arith
-wanted-near (Previous a w) p = omega arith
-wanted-near (Next a w) p = omega arith
-wanted-near (Since a b w) p = omega arith
-wanted-near (NotSince a b w) p = omega arith
-wanted-near (Until a b w) p = omega arith
-wanted-near (NotUntil a b w) p = omega arith
-wanted-near (Once a w) p = omega arith
-wanted-near (Eventually a w) p = omega arith
+wanted-near : (t : Times) (p : ℕ) → p ≤ firstWanted t p .0 + 1
+wanted-near Here p = omega arith
+wanted-near Before p = omega arith
+wanted-near After p = omega arith
+wanted-near Past p = omega arith
+wanted-near Future p = omega arith
 
 -- the first wanted point of node x: x is the last node, or has a parent
 pub data Placed (b : List ℕ) (x : ℕ) : Type 0 where
   at-last : ((c : ℕ → ℕ) → wantedFrom b c x ≡ point (c x)) → Placed b x
-  with-parent : (p : ℕ) → p < nodeCount b → ((c : ℕ → ℕ) → wantedFrom b c x ≡ point (min (c x) (firstWanted (nodeAt b p) (c p) .0))) → Placed b x
+  with-parent : (p : ℕ) → p < nodeCount b → ((c : ℕ → ℕ) → wantedFrom b c x ≡ point (min (c x) (firstWanted (viewOf (nodeAt b p) .times) (c p) .0))) → Placed b x
 
 module _ (b : List ℕ) (a : Accepted) (ok : checking b ≡ given a) where
   pub placed : (x : ℕ) → x < nodeCount b → Placed b x
@@ -171,7 +142,7 @@ module _ (b : List ℕ) (a : Accepted) (ok : checking b ≡ given a) where
 
   module _ (c : ℕ → ℕ) where
     -- a child is wanted from no later than its parent's first unsettled point consults it
-    pub wanted-under : (x : ℕ) → x < nodeCount b → (y : ℕ) → List·Memᴰ y (childrenOf (nodeAt b x)) → wantedFrom b c y .0 ≤ firstWanted (nodeAt b x) (c x) .0
+    pub wanted-under : (x : ℕ) → x < nodeCount b → (y : ℕ) → List·Memᴰ y (childrenOf (nodeAt b x)) → wantedFrom b c y .0 ≤ firstWanted (viewOf (nodeAt b x) .times) (c x) .0
     unfolding wantedFrom
     wanted-under x o y m =
         let under : y < x = below b a ok x o y m in
@@ -184,7 +155,7 @@ module _ (b : List ℕ) (a : Accepted) (ok : checking b ≡ given a) where
       where
         go : Placed b x → wantedFrom b c x .0 ≤ wantedFrom b c' x .0
         go (at-last e) = rw (e c, e c') (h x o)
-        go (with-parent p n e) = rw (e c, e c') (omega (arith, h x o, wanted-on (nodeAt b p) (c p) (c' p) (h p n)))
+        go (with-parent p n e) = rw (e c, e c') (omega (arith, h x o, wanted-on (viewOf (nodeAt b p) .times) (c p) (c' p) (h p n)))
 
     -- it is no earlier than the last point that all nodes have settled
     wanted-late : (v : ℕ) → ((y : ℕ) → y < nodeCount b → v ≤ c y - 1) → (x : ℕ) → x < nodeCount b → v ≤ wantedFrom b c x .0
@@ -192,7 +163,7 @@ module _ (b : List ℕ) (a : Accepted) (ok : checking b ≡ given a) where
       where
         go : Placed b x → v ≤ wantedFrom b c x .0
         go (at-last e) = rw (e c) (omega (arith, h x o))
-        go (with-parent p n e) = rw (e c) (omega (arith, h x o, h p n, wanted-near (nodeAt b p) (c p)))
+        go (with-parent p n e) = rw (e c) (omega (arith, h x o, h p n, wanted-near (viewOf (nodeAt b p) .times) (c p)))
 
 -- ---- what is stored
 
@@ -200,7 +171,7 @@ module _ (b : List ℕ) (a : Accepted) (ok : checking b ≡ given a) where
 module _ (s : Stored) (a : Accepted) (ok : checking (s .rule) ≡ given a)
     (few : length (s .times) ≤ mostTimes)
     (times : length (s .times) ≡ s .points - firstRetained (s .points) (countsStored s) .0) where
-  pub before-step : (x : ℕ) → x < nodeCount (s .rule) → countBefore s x ≡ advance (stampIn (baseOf s) (s .times)) (s .points) (countBefore s) (baseOf s .0) (nodeAt (s .rule) x)
+  pub before-step : (x : ℕ) → x < nodeCount (s .rule) → countBefore s x ≡ advance (stampIn (baseOf s) (s .times)) (s .points) (countBefore s) (baseOf s .0) (viewOf (nodeAt (s .rule) x))
   unfolding countBefore countsStored
   before-step = count-step (s .rule) a ok (stampIn (baseOf s) (s .times)) (s .points) (λ y. baseOf s .0)
 
@@ -217,7 +188,7 @@ module _ (s : Stored) (a : Accepted) (ok : checking (s .rule) ≡ given a)
   -- the last point that a node has settled is no earlier than the first retained
   pub base-low : (x : ℕ) → x < nodeCount (s .rule) → baseOf s .0 ≤ countBefore s x - 1
   base-low x o =
-      let h : leastOf (s .points) (countsStored s) ≤ countBefore s x = rw counts-are (least-below (s .points) (countBefore s) 0 (nodeCount (s .rule)) x (omega arith) (omega arith)) in
+      let h : leastOf (s .points) (countsStored s) ≤ countBefore s x = rw counts-are (least-below (s .points) (countBefore s) (range 0 (nodeCount (s .rule))) x (range-of 0 (nodeCount (s .rule)) (omega arith) (omega arith))) in
       omega (arith, least-most (s .points) (countsStored s))
 
   -- neither is any wanted point
@@ -232,12 +203,12 @@ module _ (s : Stored) (a : Accepted) (ok : checking (s .rule) ≡ given a)
   wanted-before = wanted-low (s .rule) (countBefore s)
 
   -- a child's rows are there from where its parent's first unsettled point consults them
-  pub wanted-child : (x : ℕ) → x < nodeCount (s .rule) → (y : ℕ) → List·Memᴰ y (childrenOf (nodeAt (s .rule) x)) → wantedFrom (s .rule) (countBefore s) y .0 ≤ firstWanted (nodeAt (s .rule) x) (countBefore s x) .0
+  pub wanted-child : (x : ℕ) → x < nodeCount (s .rule) → (y : ℕ) → List·Memᴰ y (childrenOf (nodeAt (s .rule) x)) → wantedFrom (s .rule) (countBefore s) y .0 ≤ firstWanted (viewOf (nodeAt (s .rule) x) .times) (countBefore s x) .0
   wanted-child = wanted-under (s .rule) a ok (countBefore s)
 
   -- one call, with the event's words
   module _ (w : List ℕ) where
-    pub after-step : (x : ℕ) → x < nodeCount (s .rule) → countAfter s w x ≡ advance (stampsNow s w) (s .points + 1) (countAfter s w) (countBefore s x) (nodeAt (s .rule) x)
+    pub after-step : (x : ℕ) → x < nodeCount (s .rule) → countAfter s w x ≡ advance (stampsNow s w) (s .points + 1) (countAfter s w) (countBefore s x) (viewOf (nodeAt (s .rule) x))
     unfolding countAfter countsAfter
     after-step = count-step (s .rule) a ok (stampsNow s w) (s .points + 1) (countBefore s)
 
@@ -250,7 +221,7 @@ module _ (s : Stored) (a : Accepted) (ok : checking (s .rule) ≡ given a)
         by-children (s .rule) a ok (λ x. countBefore s x ≤ countAfter s w x)
         (λ x o grown.
         rw (after-step x o, before-step x o)
-        (advance-grows (stampIn (baseOf s) (s .times)) (s .points) (countBefore s) (baseOf s .0) (stampsNow s w) (s .points + 1) (countAfter s w) (nodeAt (s .rule) x) (omega arith) grown))
+        (advance-grows (stampIn (baseOf s) (s .times)) (s .points) (baseOf s .0) (countBefore s) (viewOf (nodeAt (s .rule) x)) (stampsNow s w) (s .points + 1) (countAfter s w) (omega arith) grown))
 
     pub new-few : (x : ℕ) → x < nodeCount (s .rule) → countAfter s w x - countBefore s x ≤ 65
     new-few x o = omega (arith, retained, base-low x o, after-most x o)
@@ -267,18 +238,12 @@ module _ (s : Stored) (a : Accepted) (ok : checking (s .rule) ≡ given a)
 
 -- ---- what a newly settled point consults is settled
 
-pub consults : (τ : Point → Stamp) (n : ℕ) (c : ℕ → ℕ) (start : ℕ) (node : Node) (i : Point) → start ≤ i .0 → i .0 < advance τ n c start node → Consults c i node
-consults τ n c start (Atom r t) i h u = tt
-consults τ n c start (And a b) i h u = omega arith
-consults τ n c start (AndNot a b) i h u = omega arith
-consults τ n c start (Keep a k s) i h u = u
-consults τ n c start (Or a b) i h u = omega arith
-consults τ n c start (Exists a x) i h u = u
-consults τ n c start (Previous a w) i h u = omega arith
-consults τ n c start (Next a w) i h u = omega arith
-consults τ n c start (Since a b w) i h u = omega arith
-consults τ n c start (NotSince a b w) i h u = omega arith
-consults τ n c start (Until a b w) i h u = omega (arith, until-within τ n (w .end) (min (c a) (c b)) start)
-consults τ n c start (NotUntil a b w) i h u = omega (arith, until-within τ n (w .end) (min (c a) (c b)) start)
-consults τ n c start (Once a w) i h u = u
-consults τ n c start (Eventually a w) i h u = omega (arith, until-within τ n (w .end) (c a) start)
+consults-by : (τ : Point → Stamp) (n m start d : ℕ) (t : Times) (i : Point) → start ≤ i .0 → i .0 < advanceBy τ n m start d t → (c : ℕ) → m ≤ c → ConsultsBy c i t
+consults-by τ n m start d Here i h u c k = omega arith
+consults-by τ n m start d Before i h u c k = omega arith
+consults-by τ n m start d After i h u c k = omega arith
+consults-by τ n m start d Past i h u c k = omega arith
+consults-by τ n m start d Future i h u c k = omega (arith, until-within τ n d m start)
+
+pub consults : (τ : Point → Stamp) (n : ℕ) (c : ℕ → ℕ) (start : ℕ) (v : View) (i : Point) → start ≤ i .0 → i .0 < advance τ n c start v → Consults c i v
+consults τ n c start v i h u y m = consults-by τ n (leastOf n (map c (childrenIn (v .children)))) start (v .window .end) (v .times) i h u (c y) (least-below n c (childrenIn (v .children)) y m)

@@ -1,9 +1,9 @@
 -- The counts that the method computes from time stamps are right: a point of the log is settled for a node exactly if its number is below the node's count.
 use Prim.Native.Nat.{ℕ, zero, suc, _+_, _-_, _≤_, _<_, min}
 use mathlib.Core.Path.{_≡_, refl, sym, _∙_}
-use mathlib.Core.Bool.{Bool, true, false, cond, _&&_, _||_, false≢true}
+use mathlib.Core.Bool.{Bool, true, false, cond, _&&_, false≢true}
 use mathlib.Core.Logic.{_⊎_, inl, inr}
-use mathlib.Core.List.{List, [], _∷_, List·Memᴰ, List·Memᴰ·head, List·Memᴰ·tail}
+use mathlib.Core.List.{List, [], _∷_, map, List·Memᴰ, List·Memᴰ·head, List·Memᴰ·tail}
 use lib.ListN.{length, getD, length-append, List·getD-append}
 use lib.Seq.{getD-at}
 use lib.Dec.{ltb, leb, eqb}
@@ -13,22 +13,29 @@ use native.Mathlib.Omega.{arith}
 use Rattle.meaning.specs.Lists.{select}
 use Rattle.meaning.specs.Log.{Log, Ordered, point, size, time, latest, pointBefore, pointAfter, pointsFrom}
 use Rattle.meaning.specs.Outcome.{given}
-use Rattle.meaning.specs.Formula.{Formula, until, notUntil, eventually}
+use Rattle.meaning.specs.Formula.{Formula}
 use Rattle.meaning.specs.Settled.{settled, settledSince, settledUntil, settledCount}
+use Rattle.meaning.specs.View.{viewOf, childrenIn}
 use Rattle.meaning.specs.RuleFile.{Accepted, checking, nodeCount, nodeAt, childrenOf, formulaOf, formulaAt}
 use Rattle.meaning.specs.declared.Point.{Point}
 use Rattle.meaning.specs.declared.Stamp.{Stamp}
 use Rattle.meaning.specs.declared.Window.{Window}
 use Rattle.meaning.specs.declared.Node.{Node}
-use Rattle.meaning.specs.declared.Node.the-variants.{Atom, And, AndNot, Keep, Or, Exists, Previous, Next, Since, NotSince, Until, NotUntil, Once, Eventually}
+use Rattle.meaning.specs.declared.Children.{Children}
+use Rattle.meaning.specs.declared.Children.the-variants.{None, One, Two}
+use Rattle.meaning.specs.declared.Times.{Times}
+use Rattle.meaning.specs.declared.Times.the-variants.{Here, Before, After, Past, Future}
 use Rattle.meaning.proofs.Points.{both, first, second, orLeft, orRight, Tested, passed, failed, tested}
 use Rattle.meaning.proofs.Rows.{either, both-ways}
 use Rattle.meaning.proofs.Growth.{Extends, at-latest}
 use Rattle.meaning.proofs.Fine.{Fine}
-use Rattle.meaning.proofs.Settles.{UntilSettled, until-parts, until-whole, since-each, since-all, twin, present, prefix, stays}
+use Rattle.meaning.proofs.Settles.{UntilSettled, until-parts, until-whole, since-each, since-all, present, prefix, stays}
 use Rattle.meaning.proofs.Tree.{ChildrenLower, formula-step}
 use Rattle.meaning.proofs.Accepted.{accepted, fine, lower}
-use Rattle.method.specs.Counts.{scan, untilCount, advance, countsTo}
+use Rattle.method.specs.Stored.{leastOf}
+use Rattle.method.specs.Counts.{scan, untilCount, advanceBy, advance, countsTo}
+use Rattle.method.proofs.Least.{least-most}
+use Rattle.method.proofs.Views.{childrenSettled, earlier, settledBy, Ended, viewed}
 
 -- the test passes at the points below c and at no other
 abbrev pub Upto : (Point → Bool) → ℕ → Type 0
@@ -101,10 +108,6 @@ upto-both p q a b h k =
     upto-of (λ i. p i && q i) (min a b)
     (λ i e. omega (arith, upto-below p a h i (first (p i) (q i) e), upto-below q b k i (second (p i) (q i) e)))
     (λ i u. both (upto-holds p a h i (omega arith)) (upto-holds q b k i (omega arith)))
-
--- the test at the point before, if there is one
-abbrev earlier : (Point → Bool) → Point → Bool
-earlier p i = eqb (i .0) 0 || p (pointBefore i)
 
 module _ (p : Point → Bool) (m : ℕ) (h : Upto p m) where
   upto-since : Upto (settledSince p) m
@@ -189,36 +192,39 @@ module _ (l : Log) (o : Ordered l) (w : Window) (pos : 0 < w .end) (p : Point �
       (λ i e. omega (arith, until-below i e))
 
 module _ (l : Log) (o : Ordered l) (F : ℕ → Formula) (c : ℕ → ℕ) where
-  -- the two children of a node together
-  two : (a b : ℕ) → ((y : ℕ) → List·Memᴰ y (a ∷ b ∷ []) → Counted l (F y) (c y)) → Upto (twin l (F a) (F b)) (min (c a) (c b)) × (min (c a) (c b) ≤ size l)
-  two a b h = (
-    upto-both (settled l (F a)) (settled l (F b)) (c a) (c b) (h a (List·Memᴰ·head refl)) (h b (List·Memᴰ·tail (List·Memᴰ·head refl))),
-    omega (arith, counted-most l (F a) (c a) (h a (List·Memᴰ·head refl))),
-  )
+  -- the children of a node together
+  upto-children : (cs : Children) → ((y : ℕ) → List·Memᴰ y (childrenIn cs) → Counted l (F y) (c y)) → Upto (childrenSettled l F cs) (leastOf (size l) (map c (childrenIn cs)))
+  upto-children None h = λ i. refl
+  upto-children (One a) h =
+      let e : min (c a) (size l) ≡ c a = omega (arith, counted-most l (F a) (c a) (h a (List·Memᴰ·head refl))) in
+      rw e (h a (List·Memᴰ·head refl))
+  upto-children (Two a b) h =
+      let e : min (c b) (size l) ≡ c b = omega (arith, counted-most l (F b) (c b) (h b (List·Memᴰ·tail (List·Memᴰ·head refl)))) in
+      rw e (upto-both (settled l (F a)) (settled l (F b)) (c a) (c b) (h a (List·Memᴰ·head refl)) (h b (List·Memᴰ·tail (List·Memᴰ·head refl))))
+
+  -- a node's count by its times, over a test of the children that passes at the first m points
+  upto-times : (w : Window) (t : Times) → Ended w t → (p : Point → Bool) (m : ℕ) → Upto p m → m ≤ size l → Down (settledBy l p w t)
+      → (from : ℕ) → ((i : Point) → i .0 < from → settledBy l p w t i ≡ true)
+      → (τ : Point → Stamp) → ((i : Point) → from ≤ i .0 → i .0 < size l → τ i ≡ time l i)
+      → Upto (settledBy l p w t) (advanceBy τ (size l) m from (w .end) t)
+  upto-times w Here f p m h most down from known τ stamps = h
+  upto-times w Before f p m h most down from known τ stamps = upto-both (λ i. ltb (i .0) (size l)) (earlier p) (size l) (m + 1) (λ i. refl) (upto-earlier p m h)
+  upto-times w After f p m h most down from known τ stamps = upto-next p m h
+  upto-times w Past f p m h most down from known τ stamps = upto-since p m h
+  upto-times w Future f p m h most down from known τ stamps = upto-until l o w f p m h most down from known τ stamps
 
   -- A node's count is right where its children's are, the count to start from is not too high and the stamps from that point on are the log's.
   pub advance-counted : (n : Node) → Fine (formulaOf F n) → ((y : ℕ) → List·Memᴰ y (childrenOf n) → Counted l (F y) (c y))
       → (from : ℕ) → ((i : Point) → i .0 < from → settled l (formulaOf F n) i ≡ true)
       → (τ : Point → Stamp) → ((i : Point) → from ≤ i .0 → i .0 < size l → τ i ≡ time l i)
-      → Counted l (formulaOf F n) (advance τ (size l) c from n)
-  advance-counted (Atom r t) f h from known τ stamps = λ i. refl
-  advance-counted (And a b) f h from known τ stamps = two a b h .0
-  advance-counted (AndNot a b) f h from known τ stamps = two a b h .0
-  advance-counted (Keep a k s) f h from known τ stamps = h a (List·Memᴰ·head refl)
-  advance-counted (Or a b) f h from known τ stamps = two a b h .0
-  advance-counted (Exists a x) f h from known τ stamps = h a (List·Memᴰ·head refl)
-  advance-counted (Previous a w) f h from known τ stamps =
-      upto-both (λ i. ltb (i .0) (size l)) (earlier (settled l (F a))) (size l) (c a + 1) (λ i. refl) (upto-earlier (settled l (F a)) (c a) (h a (List·Memᴰ·head refl)))
-  advance-counted (Next a w) f h from known τ stamps = upto-next (settled l (F a)) (c a) (h a (List·Memᴰ·head refl))
-  advance-counted (Since a b w) f h from known τ stamps = upto-since (twin l (F a) (F b)) (min (c a) (c b)) (two a b h .0)
-  advance-counted (NotSince a b w) f h from known τ stamps = upto-since (twin l (F a) (F b)) (min (c a) (c b)) (two a b h .0)
-  advance-counted (Until a b w) f h from known τ stamps =
-      upto-until l o w (f .3) (twin l (F a) (F b)) (min (c a) (c b)) (two a b h .0) (two a b h .1) (prefix l o (until (F a) (F b) w) f) from known τ stamps
-  advance-counted (NotUntil a b w) f h from known τ stamps =
-      upto-until l o w (f .3) (twin l (F a) (F b)) (min (c a) (c b)) (two a b h .0) (two a b h .1) (prefix l o (notUntil (F a) (F b) w) f) from known τ stamps
-  advance-counted (Once a w) f h from known τ stamps = upto-since (settled l (F a)) (c a) (h a (List·Memᴰ·head refl))
-  advance-counted (Eventually a w) f h from known τ stamps =
-      upto-until l o w (f .1) (settled l (F a)) (c a) (h a (List·Memᴰ·head refl)) (counted-most l (F a) (c a) (h a (List·Memᴰ·head refl))) (prefix l o (eventually (F a) w) f) from known τ stamps
+      → Counted l (formulaOf F n) (advance τ (size l) c from (viewOf n))
+  advance-counted n f h from known τ stamps =
+      λ i. is i
+      ∙ upto-times (viewOf n .window) (viewOf n .times) (viewed F n .ended f) (childrenSettled l F (viewOf n .children)) (leastOf (size l) (map c (childrenIn (viewOf n .children)))) (upto-children (viewOf n .children) h)
+      (least-most (size l) (map c (childrenIn (viewOf n .children)))) (λ j k u e. sym (is k) ∙ prefix l o (formulaOf F n) f j k u (is j ∙ e)) from (λ j u. sym (is j) ∙ known j u) τ stamps i
+    where
+      is : (i : Point) → settled l (formulaOf F n) i ≡ settledBy l (childrenSettled l F (viewOf n .children)) (viewOf n .window) (viewOf n .times) i
+      is i = viewed F n .settles l i
 
 -- The counts of the first nodes: one more node leaves the others as they are and adds its own.
 module _ (b : List ℕ) (τ : Point → Stamp) (n : ℕ) (from : ℕ → ℕ) where
@@ -229,7 +235,7 @@ module _ (b : List ℕ) (τ : Point → Stamp) (n : ℕ) (from : ℕ → ℕ) wh
   pub counts-old : (k x : ℕ) → x < k → getD (countsTo b τ n from (suc k)) x 0 ≡ getD (countsTo b τ n from k) x 0
   counts-old k x u = List·getD-append (countsTo b τ n from k) _ 0 x (omega (arith, counts-length k))
 
-  pub counts-new : (k : ℕ) → getD (countsTo b τ n from (suc k)) k 0 ≡ advance τ n (λ y. getD (countsTo b τ n from k) y 0) (from k) (nodeAt b k)
+  pub counts-new : (k : ℕ) → getD (countsTo b τ n from (suc k)) k 0 ≡ advance τ n (λ y. getD (countsTo b τ n from k) y 0) (from k) (viewOf (nodeAt b k))
   counts-new k = getD-at (countsTo b τ n from k) _ [] 0 k (counts-length k)
 
 -- the counts of the first k nodes are right

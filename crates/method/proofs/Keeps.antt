@@ -1,7 +1,7 @@
 -- What is kept, as runs of points: each node's rows from the first point that its parent still consults, and its pairs; and how they are read off the entries again.
 use Prim.Native.Nat.{ℕ, zero, suc, _+_, _-_, _≤_, _<_, min}
 use native.Mathlib.Omega.{arith}
-use mathlib.Core.Path.{_≡_, refl, sym, _∙_, ap, subst}
+use mathlib.Core.Path.{_≡_, refl, sym, _∙_, ap, subst, fun-ext}
 use mathlib.Core.Bool.{Bool, true, false, not, cond, _&&_, false≢true}
 use mathlib.Core.List.{List, [], _∷_, _++_, map, List·Memᴰ, List·Memᴰ·not-nil}
 use lib.ListN.{getD, drop}
@@ -10,22 +10,26 @@ use borrow.Author.Tests.{ltb-true, ltb-false, le-ltb, leb-true, le-leb, lt-leb, 
 use Rattle.meaning.specs.Lists.{any, range, select, gather}
 use Rattle.meaning.specs.Outcome.{given}
 use Rattle.meaning.specs.Log.{Log, Ordered, point, size, pointsFrom, pointsOf}
-use Rattle.meaning.specs.Formula.{Formula, atom, and, andNot, keep, or, exists, previous, next, since, notSince, until, notUntil, once, eventually}
+use Rattle.meaning.specs.Formula.{Formula}
 use Rattle.meaning.specs.Evaluator.{vals}
 use Rattle.meaning.specs.Settled.{settled, settledCount}
+use Rattle.meaning.specs.View.{viewOf}
 use Rattle.meaning.specs.RuleFile.{Accepted, checking, nodeCount, nodeAt, childrenOf, formulaOf, formulaAt, lastNode}
 use Rattle.meaning.specs.Kept.{pairs, lastPairs, consulted, Entry, entryOf, parentOf, pointEntries, ageEntries, entriesOf, entries}
 use Rattle.meaning.specs.declared.Point.{Point}
+use Rattle.meaning.specs.declared.Window.{Window}
 use Rattle.meaning.specs.declared.Node.{Node}
-use Rattle.meaning.specs.declared.Node.the-variants.{Atom, And, AndNot, Keep, Or, Exists, Previous, Next, Since, NotSince, Until, NotUntil, Once, Eventually}
+use Rattle.meaning.specs.declared.Times.{Times}
+use Rattle.meaning.specs.declared.Times.the-variants.{Here, Before, After, Past, Future}
 use Rattle.meaning.proofs.Points.{first, second, both, Tested, passed, failed, tested}
 use Rattle.meaning.proofs.Rows.{both-ways}
 use Rattle.method.specs.Stored.{held, heldPairs}
+use Rattle.method.specs.Settle.{hasPairs}
 use Rattle.method.specs.Step.{firstWanted, wantedFrom}
 use Rattle.meaning.proofs.Fine.{Fine}
-use Rattle.meaning.proofs.Lemma9.{since-pairs, notSince-pairs, once-pairs}
 use Rattle.meaning.proofs.Tree.{formula-step}
 use Rattle.meaning.proofs.Accepted.{accepted, lower, fine}
+use Rattle.method.proofs.Views.{consultsBy, PairsBy, viewed}
 use Rattle.method.proofs.Counted.{Counted, counted-most, count-counted}
 use Rattle.method.proofs.Parents.{parent-is, has-parent}
 use Rattle.method.proofs.Lists.{any-is, select-run, gather-each}
@@ -65,53 +69,37 @@ module _ (l : Log) (φ : Formula) (p : ℕ) (counted : Counted l φ p) (j : ℕ)
   consult-same : any (λ k. not (settled l φ (point k)) && eqb j k) (range 0 (j + 2)) ≡ leb p j
   consult-same = consult-one (eqb j) j (omega arith) (λ k e. sym (eqb-true j k e)) (eq-eqb j j refl)
 
--- what the parent's kind says
-pub consulted-from : (l : Log) (F : ℕ → Formula) (n : Node) (p : ℕ) → Counted l (formulaOf F n) p → (y : ℕ) → List·Memᴰ y (childrenOf n) → (j : Point) → consulted l (formulaOf F n) j ≡ leb (firstWanted n p .0) (j .0)
-unfolding consulted
-consulted-from l F (Atom r t) p c y m j = absurd (List·Memᴰ·not-nil m)
-consulted-from l F (And a b) p c y m j = consult-same l (formulaOf F (And a b)) p c (j .0)
-consulted-from l F (AndNot a b) p c y m j = consult-same l (formulaOf F (AndNot a b)) p c (j .0)
-consulted-from l F (Keep a k s) p c y m j = consult-same l (formulaOf F (Keep a k s)) p c (j .0)
-consulted-from l F (Or a b) p c y m j = consult-same l (formulaOf F (Or a b)) p c (j .0)
-consulted-from l F (Exists a x) p c y m j = consult-same l (formulaOf F (Exists a x)) p c (j .0)
-consulted-from l F (Previous a w) p c y m j =
-    consult-one l (formulaOf F (Previous a w)) p c (j .0) (λ k. eqb (suc (j .0)) k) (suc (j .0)) (omega arith) (λ k e. sym (eqb-true (suc (j .0)) k e)) (eq-eqb (suc (j .0)) (suc (j .0)) refl) ∙ shift
-  where
-    shift : leb p (suc (j .0)) ≡ leb (p - 1) (j .0)
-    shift = both-ways (leb p (suc (j .0))) (leb (p - 1) (j .0)) (λ e. le-leb (p - 1) (j .0) (omega (arith, leb-true p (suc (j .0)) e))) (λ e. le-leb p (suc (j .0)) (omega (arith, leb-true (p - 1) (j .0) e)))
-consulted-from l F (Next a w) p c y m j = go (j .0) refl
-  where
-    shift : (k : ℕ) → leb p k ≡ leb (p + 1) (suc k)
-    shift k = both-ways (leb p k) (leb (p + 1) (suc k)) (λ e. le-leb (p + 1) (suc k) (omega (arith, leb-true p k e))) (λ e. le-leb p k (omega (arith, leb-true (p + 1) (suc k) e)))
+-- what the parent's times say, of a formula that consults as they do
+module _ (l : Log) (φ : Formula) (p : ℕ) (c : Counted l φ p) (j : Point) where
+  from-times : (t : Times) → any (λ i. not (settled l φ (point i)) && consultsBy t (point i) j) (range 0 (j .0 + 2)) ≡ leb (firstWanted t p .0) (j .0)
+  from-times Here = consult-same l φ p c (j .0)
+  from-times Before =
+      consult-one l φ p c (j .0) (λ k. eqb (suc (j .0)) k) (suc (j .0)) (omega arith) (λ k e. sym (eqb-true (suc (j .0)) k e)) (eq-eqb (suc (j .0)) (suc (j .0)) refl) ∙ shift
+    where
+      shift : leb p (suc (j .0)) ≡ leb (p - 1) (j .0)
+      shift = both-ways (leb p (suc (j .0))) (leb (p - 1) (j .0)) (λ e. le-leb (p - 1) (j .0) (omega (arith, leb-true p (suc (j .0)) e))) (λ e. le-leb p (suc (j .0)) (omega (arith, leb-true (p - 1) (j .0) e)))
+  from-times After = go (j .0) refl
+    where
+      shift : (k : ℕ) → leb p k ≡ leb (p + 1) (suc k)
+      shift k = both-ways (leb p k) (leb (p + 1) (suc k)) (λ e. le-leb (p + 1) (suc k) (omega (arith, leb-true p k e))) (λ e. le-leb p k (omega (arith, leb-true (p + 1) (suc k) e)))
 
-    go : (k : ℕ) → j .0 ≡ k → any (λ i. not (settled l (formulaOf F (Next a w)) (point i)) && eqb k (suc i)) (range 0 (k + 2)) ≡ leb (p + 1) k
-    go zero e = consult-none l (formulaOf F (Next a w)) p c 0 (λ i. eqb 0 (suc i)) (leb (p + 1) 0) (lt-leb (p + 1) 0 (omega arith)) (λ i. ne-eqb 0 (suc i) (λ d. omega arith))
-    go (suc k) e =
-        consult-one l (formulaOf F (Next a w)) p c (suc k) (λ i. eqb (suc k) (suc i)) k (omega arith) (λ i d. let q : suc k ≡ suc i = eqb-true (suc k) (suc i) d in omega arith) (eq-eqb (suc k) (suc k) refl) ∙ shift k
-consulted-from l F (Since a b w) p c y m j = consult-same l (formulaOf F (Since a b w)) p c (j .0)
-consulted-from l F (NotSince a b w) p c y m j = consult-same l (formulaOf F (NotSince a b w)) p c (j .0)
-consulted-from l F (Until a b w) p c y m j = consult-up l (formulaOf F (Until a b w)) p c (j .0)
-consulted-from l F (NotUntil a b w) p c y m j = consult-up l (formulaOf F (NotUntil a b w)) p c (j .0)
-consulted-from l F (Once a w) p c y m j = consult-same l (formulaOf F (Once a w)) p c (j .0)
-consulted-from l F (Eventually a w) p c y m j = consult-up l (formulaOf F (Eventually a w)) p c (j .0)
+      go : (k : ℕ) → j .0 ≡ k → any (λ i. not (settled l φ (point i)) && eqb k (suc i)) (range 0 (k + 2)) ≡ leb (p + 1) k
+      go zero e = consult-none l φ p c 0 (λ i. eqb 0 (suc i)) (leb (p + 1) 0) (lt-leb (p + 1) 0 (omega arith)) (λ i. ne-eqb 0 (suc i) (λ d. omega arith))
+      go (suc k) e = consult-one l φ p c (suc k) (λ i. eqb (suc k) (suc i)) k (omega arith) (λ i d. let q : suc k ≡ suc i = eqb-true (suc k) (suc i) d in omega arith) (eq-eqb (suc k) (suc k) refl) ∙ shift k
+  from-times Past = consult-same l φ p c (j .0)
+  from-times Future = consult-up l φ p c (j .0)
+
+pub consulted-from : (l : Log) (F : ℕ → Formula) (n : Node) (p : ℕ) → Counted l (formulaOf F n) p → (y : ℕ) → List·Memᴰ y (childrenOf n) → (j : Point) → consulted l (formulaOf F n) j ≡ leb (firstWanted (viewOf n .times) p .0) (j .0)
+unfolding consulted
+consulted-from l F n p c y m j =
+    ap (λ (t : ℕ → Bool). any (λ i. not (settled l (formulaOf F n) (point i)) && t i) (range 0 (j .0 + 2))) (fun-ext (λ i. viewed F n .asks y m (point i) j))
+    ∙ from-times l (formulaOf F n) p c j (viewOf n .times)
 
 -- ---- a pair is an age and a row
 
-pair-parts : (l : Log) (φ : Formula) → Fine φ → (i : Point) (p : List ℕ) → List·Memᴰ p (pairs l φ i) → (y : ℕ) × (u : List ℕ) × (p ≡ y ∷ u)
-pair-parts l (atom r ts) f i p m = absurd (List·Memᴰ·not-nil m)
-pair-parts l (and a b) f i p m = absurd (List·Memᴰ·not-nil m)
-pair-parts l (andNot a b) f i p m = absurd (List·Memᴰ·not-nil m)
-pair-parts l (keep a c s t) f i p m = absurd (List·Memᴰ·not-nil m)
-pair-parts l (or a b) f i p m = absurd (List·Memᴰ·not-nil m)
-pair-parts l (exists a x) f i p m = absurd (List·Memᴰ·not-nil m)
-pair-parts l (previous a w) f i p m = absurd (List·Memᴰ·not-nil m)
-pair-parts l (next a w) f i p m = absurd (List·Memᴰ·not-nil m)
-pair-parts l (since a b w) f i p m = let r = since-pairs l i a b w f .cut p m in (r .0, _, r .2)
-pair-parts l (notSince a b w) f i p m = let r = notSince-pairs l i a b w f .cut p m in (r .0, _, r .2)
-pair-parts l (until a b w) f i p m = absurd (List·Memᴰ·not-nil m)
-pair-parts l (notUntil a b w) f i p m = absurd (List·Memᴰ·not-nil m)
-pair-parts l (once a w) f i p m = let r = once-pairs l i a w f .cut p m in (r .0, _, r .2)
-pair-parts l (eventually a w) f i p m = absurd (List·Memᴰ·not-nil m)
+pair-whole-in : (f : ℕ → Bool) (w : Window) (rows : List (List ℕ)) (t : Bool) → PairsBy f w rows t → (p : List ℕ) → List·Memᴰ p rows → getD p 0 0 ∷ drop 1 p ≡ p
+pair-whole-in f w rows true e p m = let (y, v, d, k, h) = e .each p m in rw d
+pair-whole-in f w rows false e p m = absurd (List·Memᴰ·not-nil (rw e at m))
 
 -- ---- a node's entries as runs
 
@@ -138,14 +126,14 @@ module _ (b : List ℕ) (a : Accepted) (ok : checking b ≡ given a) (l : Log) (
   kept-run x o =
       let (p, n, m) = has-parent b a ok x o in
       let e : parentOf b x ≡ p = parent-is b a ok p n x m in
-      let lo : ℕ = min (countIn x) (firstWanted (nodeAt b p) (countIn p) .0) in
+      let lo : ℕ = min (countIn x) (firstWanted (viewOf (nodeAt b p) .times) (countIn p) .0) in
       let z : eqb x (lastNode b) ≡ false = ne-eqb x (lastNode b) (λ d. omega arith) in
       rw (z, e)
       (select-run (λ j. settled l (formulaAt b x) j && consulted l (formulaAt b p) j) (size l) lo (countIn x) (omega arith)
       (counted-most l (formulaAt b x) (countIn x) (count-of x (omega arith)))
-      (λ j h. rw (count-of x (omega arith) j, asked p n m j) (ends (countIn x) (firstWanted (nodeAt b p) (countIn p) .0) (j .0))))
+      (λ j h. rw (count-of x (omega arith) j, asked p n m j) (ends (countIn x) (firstWanted (viewOf (nodeAt b p) .times) (countIn p) .0) (j .0))))
     where
-      asked : (p : ℕ) → p < nodeCount b → List·Memᴰ x (childrenOf (nodeAt b p)) → (j : Point) → consulted l (formulaAt b p) j ≡ leb (firstWanted (nodeAt b p) (countIn p) .0) (j .0)
+      asked : (p : ℕ) → p < nodeCount b → List·Memᴰ x (childrenOf (nodeAt b p)) → (j : Point) → consulted l (formulaAt b p) j ≡ leb (firstWanted (viewOf (nodeAt b p) .times) (countIn p) .0) (j .0)
       asked p n m j =
           let step : formulaAt b p ≡ formulaOf (formulaAt b) (nodeAt b p) = formula-step b p (lower b (nodeCount b) (accepted b a ok .each) p n) in
           ap (λ φ. consulted l φ j) step ∙ consulted-from l (formulaAt b) (nodeAt b p) (countIn p) (subst (λ φ. Counted l φ (countIn p)) step (count-of p n)) x m j
@@ -188,11 +176,14 @@ module _ (b : List ℕ) (a : Accepted) (ok : checking b ≡ given a) (l : Log) (
   unfolding lastPairs
   pair-whole x o p m = go (settledCount l (formulaAt b x)) m
     where
-      whole : (y : ℕ) × (u : List ℕ) × (p ≡ y ∷ u) → getD p 0 0 ∷ drop 1 p ≡ p
-      whole (y, u, e) = rw e
+      step : formulaAt b x ≡ formulaOf (formulaAt b) (nodeAt b x)
+      step = formula-step b x (lower b (nodeCount b) (accepted b a ok .each) x o)
+
+      whole : (i : Point) → List·Memᴰ p (pairs l (formulaAt b x) i) → getD p 0 0 ∷ drop 1 p ≡ p
+      whole i h = pair-whole-in _ (viewOf (nodeAt b x) .window) _ (hasPairs (viewOf (nodeAt b x) .times)) (viewed (formulaAt b) (nodeAt b x) .paired (subst Fine step (fine b a ok x o)) l i) p (subst (λ φ. List·Memᴰ p (pairs l φ i)) step h)
 
       go : (k : ℕ) → List·Memᴰ p (cond (eqb k 0) [] (pairs l (formulaAt b x) (point (k - 1)))) → getD p 0 0 ∷ drop 1 p ≡ p
-      go k h = elim (tested (eqb k 0)) [ passed t ↦ absurd (List·Memᴰ·not-nil (rw t at h)) | failed t ↦ whole (pair-parts l (formulaAt b x) (fine b a ok x o) (point (k - 1)) p (rw t at h)) ]
+      go k h = elim (tested (eqb k 0)) [ passed t ↦ absurd (List·Memᴰ·not-nil (rw t at h)) | failed t ↦ whole (point (k - 1)) (rw t at h) ]
 
   -- the entries are the nodes' in turn
   entries-runs : entries b l ≡ gather (λ x. rowEntries x ++ pairEntries x) (range 0 (nodeCount b))

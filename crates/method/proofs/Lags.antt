@@ -1,20 +1,21 @@
 -- How far a node lags behind the last, in every well-formed state: by one point for each "previous" above it. So a call newly settles few points of each node.
 use Prim.Native.Nat.{ℕ, zero, suc, _+_, _-_, _≤_, _<_}
 use native.Mathlib.Omega.{arith}
-use mathlib.Core.Path.{_≡_, ap}
-use mathlib.Core.Logic.{inl, inr}
-use mathlib.Core.List.{List, [], _∷_, List·Memᴰ, List·Memᴰ·not-nil, List·Memᴰ·cases-cons, List·Memᴰ·eq-of-singleton}
+use mathlib.Core.Path.{_≡_}
+use mathlib.Core.List.{List, List·Memᴰ}
 use lib.Dec.{ltb}
 use borrow.Author.Tests.{ltb-true, ltb-false}
 use Rattle.meaning.specs.Lists.{range}
 use Rattle.meaning.specs.Outcome.{given, mostOpen}
 use Rattle.meaning.specs.Log.{point}
+use Rattle.meaning.specs.View.{viewOf}
 use Rattle.meaning.specs.RuleFile.{Accepted, checking, nodeCount, nodeAt, childrenOf, lastNode, oneIf}
-use Rattle.meaning.specs.declared.Node.{Node}
-use Rattle.meaning.specs.declared.Node.the-variants.{Atom, And, AndNot, Keep, Or, Exists, Previous, Next, Since, NotSince, Until, NotUntil, Once, Eventually}
+use Rattle.meaning.specs.declared.Times.{Times}
+use Rattle.meaning.specs.declared.Times.the-variants.{Here, Before, After, Past, Future}
+use Rattle.meaning.specs.declared.View.{View}
 use Rattle.meaning.proofs.Points.{Tested, passed, failed, tested}
 use Rattle.method.specs.Stored.{Stored, baseOf, stampIn}
-use Rattle.method.specs.Counts.{advance, Consults}
+use Rattle.method.specs.Counts.{advance, ConsultsBy}
 use Rattle.method.specs.Step.{countBefore, openStored}
 use Rattle.method.specs.WellFormed.{Formed}
 use Rattle.method.specs.Room.{isPrevious, previousAt, previousIn, SettlesAtMost}
@@ -25,33 +26,17 @@ use Rattle.method.proofs.Weights.{whole-weight}
 
 -- ---- a child and its parent
 
--- where a node's count is above i, its child's is too, or is i under "previous"
-module _ (c : ℕ → ℕ) (i y : ℕ) where
-  under-one : (a : ℕ) → i < c a → List·Memᴰ y (a ∷ []) → i < c y + 0
-  under-one a h m = omega (arith, ap c (List·Memᴰ·eq-of-singleton m))
-
-  under-two : (a b : ℕ) → i < c a → i < c b → List·Memᴰ y (a ∷ b ∷ []) → i < c y + 0
-  under-two a b h k m = elim (List·Memᴰ·cases-cons m) [ inl e ↦ omega (arith, ap c e) | inr q ↦ under-one b k q ]
-
-  consulted : (n : Node) → Consults c (point i) n → List·Memᴰ y (childrenOf n) → i < c y + oneIf (isPrevious n)
-  consulted (Atom r t) h m = absurd (List·Memᴰ·not-nil m)
-  consulted (And a b) h m = under-two a b (h .0) (h .1) m
-  consulted (AndNot a b) h m = under-two a b (h .0) (h .1) m
-  consulted (Keep a k s) h m = under-one a h m
-  consulted (Or a b) h m = under-two a b (h .0) (h .1) m
-  consulted (Exists a x) h m = under-one a h m
-  consulted (Previous a w) h m = omega (arith, before i h, ap c (List·Memᴰ·eq-of-singleton m))
-    where
-      before : (i : ℕ) → (0 < i → i - 1 < c a) → i < c a + 1
-      before zero k = omega arith
-      before (suc i) k = omega (arith, k (omega arith))
-  consulted (Next a w) h m = under-one a (omega arith) m
-  consulted (Since a b w) h m = under-two a b (h .0) (h .1) m
-  consulted (NotSince a b w) h m = under-two a b (h .0) (h .1) m
-  consulted (Until a b w) h m = under-two a b (omega arith) (omega arith) m
-  consulted (NotUntil a b w) h m = under-two a b (omega arith) (omega arith) m
-  consulted (Once a w) h m = under-one a h m
-  consulted (Eventually a w) h m = under-one a h m
+-- where a node's count is above i, its child's count c is too, or is i under "previous"
+consulted : (c i : ℕ) (t : Times) → ConsultsBy c (point i) t → i < c + oneIf (isPrevious t)
+consulted c i Here h = omega arith
+consulted c i Before h = before i h
+  where
+    before : (i : ℕ) → (0 < i → i - 1 < c) → i < c + 1
+    before zero k = omega arith
+    before (suc i) k = omega (arith, k (omega arith))
+consulted c i After h = omega arith
+consulted c i Past h = omega arith
+consulted c i Future h = omega arith
 
 -- ---- all nodes
 
@@ -78,12 +63,12 @@ module _ (s : Stored) (f : Formed s) where
       let (a, ok) = f .accepted in
       go (countBefore s x) (base-low s a ok (f .few-times) (f .times-many) x o) (before-step s a ok (f .few-times) (f .times-many) x o)
     where
-      node : Node
-      node = nodeAt (s .rule) x
+      view : View
+      view = viewOf (nodeAt (s .rule) x)
 
-      go : (k : ℕ) → baseOf s .0 ≤ k - 1 → k ≡ advance (stampIn (baseOf s) (s .times)) (s .points) (countBefore s) (baseOf s .0) node → k ≤ countBefore s y + oneIf (isPrevious node)
+      go : (k : ℕ) → baseOf s .0 ≤ k - 1 → k ≡ advance (stampIn (baseOf s) (s .times)) (s .points) (countBefore s) (baseOf s .0) view → k ≤ countBefore s y + oneIf (isPrevious (view .times))
       go zero u e = omega arith
-      go (suc i) u e = consulted (countBefore s) i y node (consults (stampIn (baseOf s) (s .times)) (s .points) (countBefore s) (baseOf s .0) node (point i) (omega arith) (rw (← e) (omega arith))) m
+      go (suc i) u e = consulted (countBefore s y) i (view .times) (consults (stampIn (baseOf s) (s .times)) (s .points) (countBefore s) (baseOf s .0) view (point i) (omega arith) (rw (← e) (omega arith)) y m)
 
   -- how many "previous" nodes stand after node x in the file, where its parents are
   abbrev after : ℕ → ℕ

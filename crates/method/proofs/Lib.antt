@@ -1,4 +1,6 @@
 -- Facts about the method.
+pub mod Least
+pub mod Views
 pub mod Counted
 pub mod Sinces
 pub mod Lists

@@ -1,10 +1,10 @@
 -- What a log that the keeper reaches stores is well formed: refusal 8 is never met from a start.
-use Prim.Native.Nat.{ℕ, zero, suc, _+_, _-_, _≤_, _<_, min}
+use Prim.Native.Nat.{ℕ, zero, suc, _+_, _-_, _≤_, _<_}
 use native.Mathlib.Omega.{arith}
 use mathlib.Core.Path.{_≡_, refl, sym, _∙_, ap, subst}
-use mathlib.Core.Bool.{Bool, true, false, not, cond, _&&_, _||_, true≢false}
+use mathlib.Core.Bool.{Bool, true, false, not, cond, _&&_, true≢false}
 use mathlib.Core.Logic.{inl, inr}
-use mathlib.Core.List.{List, [], _∷_, _++_, map, List·Memᴰ, List·Memᴰ·not-nil, List·Memᴰ·cases-cons, List·Memᴰ·eq-of-singleton, Memᴰ·cast}
+use mathlib.Core.List.{List, [], _∷_, _++_, map, List·Memᴰ, List·Memᴰ·not-nil, List·Memᴰ·cases-cons, List·Memᴰ·eq-of-singleton}
 use lib.ListN.{length, getD, drop, length-append, length-map}
 use Rattle.meaning.specs.Event.{pointOf}
 use lib.Dec.{ltb, eqb}
@@ -16,34 +16,41 @@ use Rattle.meaning.specs.Log.{Log, Ordered, point, pointBefore, pointAfter, siz
 use Rattle.meaning.specs.Formula.{Formula, free}
 use Rattle.meaning.specs.Definition2.{Valuation}
 use Rattle.meaning.specs.Evaluator.{cutTo, valuationOf, vals}
-use Rattle.meaning.specs.Settled.{settled, settledUntil, settledCount}
+use Rattle.meaning.specs.Settled.{settled, settledCount}
+use Rattle.meaning.specs.View.{viewOf, childrenIn}
 use Rattle.meaning.specs.RuleFile.{Accepted, checking, nodeCount, nodeAt, childrenOf, formulaOf, formulaAt, lastNode, pattern, isAccepted}
-use Rattle.meaning.specs.Kept.{belowEnd, countedAge, pairs, lastPairs, Entry, entryOf, pointEntries, ageEntries, entriesOf, entries, kept, openPoints}
+use Rattle.meaning.specs.Kept.{countedAge, pairs, lastPairs, Entry, entryOf, pointEntries, ageEntries, entriesOf, entries, kept, openPoints}
 use Rattle.meaning.specs.Keeper.{Taking, newlySettled, crowdedAt, grown, keeperLog}
 use Rattle.meaning.specs.declared.Point.{Point}
 use Rattle.meaning.specs.declared.Window.{Window}
 use Rattle.meaning.specs.declared.Node.{Node}
-use Rattle.meaning.specs.declared.Node.the-variants.{Atom, And, AndNot, Keep, Or, Exists, Previous, Next, Since, NotSince, Until, NotUntil, Once, Eventually}
+use Rattle.meaning.specs.declared.Children.{Children}
+use Rattle.meaning.specs.declared.Children.the-variants.{None, One, Two}
+use Rattle.meaning.specs.declared.Times.{Times}
+use Rattle.meaning.specs.declared.Times.the-variants.{Here, Before, After, Past, Future}
+use Rattle.meaning.specs.declared.View.{View}
 use Rattle.meaning.proofs.Fine.{Fine}
 use Rattle.meaning.proofs.Tree.{formula-step}
 use Rattle.meaning.proofs.Accepted.{accepted, lower, fine, nodes-most, last-is-node}
 use Rattle.meaning.proofs.Agreement.{ascends, rows-cut}
-use Rattle.meaning.proofs.Lemma9.{ExactPairs, Aged, since-pairs, notSince-pairs, once-pairs}
 use Rattle.meaning.proofs.Growth.{Extends, extends}
 use Rattle.meaning.proofs.Steady.{steady-by}
-use Rattle.meaning.proofs.Settles.{UntilSettled, until-parts, since-each, twin, present, prefix}
-use Rattle.meaning.proofs.Rows.{any-of, all-of, select-of, points-of, all-points, same-row, words-same, words-at}
+use Rattle.meaning.proofs.Settles.{UntilSettled, until-parts, since-each, present, prefix}
+use Rattle.meaning.proofs.Rows.{any-of, all-of, select-of, range-at, points-of, all-points, same-row, words-same, words-at}
 use Rattle.meaning.proofs.Points.{both, first, second, Tested, passed, failed, tested}
 use Rattle.meaning.proofs.Takings.{Accepts, every-log}
 use Rattle.method.specs.Stored.{Stored, leastOf, firstRetained, storedOf}
+use Rattle.method.specs.Settle.{hasPairs}
 use Rattle.method.specs.Step.{wantedFrom, countsStored, countBefore, openStored, storedRun}
 use Rattle.method.specs.WellFormed.{mostTimes, notFalling, rowOfNode, setFits, pairFits, pairsFit, ownEntries, nodeFits, wellFormed}
-use Rattle.method.proofs.Counted.{Counted, counted-most, count-counted, counts-length, upto-holds, upto-below}
+use Rattle.method.proofs.Least.{least-most, least-above}
+use Rattle.method.proofs.Views.{childrenSettled, earlier, settledBy, Ended, AgedRows, PairsBy, viewed}
+use Rattle.method.proofs.Counted.{counted-most, counts-length, upto-holds, upto-below}
 use Rattle.method.proofs.Lists.{gather-each, gather-none}
 use Rattle.method.proofs.Formed.{same-entries}
 use Rattle.method.proofs.Parents.{has-parent}
-use Rattle.method.proofs.Keeps.{wanted-low, held-is, heldPairs-is, entries-run}
-use Rattle.method.proofs.Turns.{from-getD, gather-over, least-most, least-above, points-length}
+use Rattle.method.proofs.Keeps.{wanted-low, count-of, held-is, heldPairs-is, entries-run}
+use Rattle.method.proofs.Turns.{from-getD, gather-over, points-length}
 use Rattle.method.proofs.Stepped.{count-before, open-run, open-stored, wanted-same}
 use Rattle.method.proofs.Whole.{grown-ordered, no-points, whole-stored}
 
@@ -117,38 +124,28 @@ module _ (b : List ℕ) (a : Accepted) (ok : checking b ≡ given a) where
 -- ---- how far a node can lag behind the last
 
 -- where a point is settled for a node, the point before it is for its children
-behind : (l : Log) → Ordered l → (F : ℕ → Formula) (n : Node) → Fine (formulaOf F n) → (y : ℕ) → Fine (F y) → List·Memᴰ y (childrenOf n) → (i : Point) → settled l (formulaOf F n) i ≡ true → 0 < i .0 → settled l (F y) (pointBefore i) ≡ true
-behind l o F n f y g m i e h = go n f m e
-  where
-    back : settled l (F y) i ≡ true → settled l (F y) (pointBefore i) ≡ true
-    back s = prefix l o (F y) g i (pointBefore i) (omega arith) s
+module _ (l : Log) (o : Ordered l) (F : ℕ → Formula) (y : ℕ) (g : Fine (F y)) (i : Point) (h : 0 < i .0) where
+  back : settled l (F y) i ≡ true → settled l (F y) (pointBefore i) ≡ true
+  back = prefix l o (F y) g i (pointBefore i) (omega arith)
 
-    one : (c : ℕ) → settled l (F c) i ≡ true → List·Memᴰ y (c ∷ []) → settled l (F y) (pointBefore i) ≡ true
-    one c s k = back (subst (λ z. settled l (F z) i ≡ true) (sym (List·Memᴰ·eq-of-singleton k)) s)
+  -- all children together, and so each
+  each : (c : Children) → List·Memᴰ y (childrenIn c) → (j : Point) → childrenSettled l F c j ≡ true → settled l (F y) j ≡ true
+  each None m j e = absurd (List·Memᴰ·not-nil m)
+  each (One a) m j e = subst (λ z. settled l (F z) j ≡ true) (sym (List·Memᴰ·eq-of-singleton m)) e
+  each (Two a b) m j e = elim (List·Memᴰ·cases-cons m) [
+    | inl q ↦ subst (λ z. settled l (F z) j ≡ true) (sym q) (first (settled l (F a) j) (settled l (F b) j) e)
+    | inr q ↦ subst (λ z. settled l (F z) j ≡ true) (sym (List·Memᴰ·eq-of-singleton q)) (second (settled l (F a) j) (settled l (F b) j) e)
+  ]
 
-    two : (c d : ℕ) → (settled l (F c) i && settled l (F d) i) ≡ true → List·Memᴰ y (c ∷ d ∷ []) → settled l (F y) (pointBefore i) ≡ true
-    two c d s k = elim (List·Memᴰ·cases-cons k) [ inl q ↦ back (subst (λ z. settled l (F z) i ≡ true) (sym q) (first (settled l (F c) i) (settled l (F d) i) s)) | inr q ↦ one d (second (settled l (F c) i) (settled l (F d) i) s) q ]
+  behind-by : (w : Window) (t : Times) → Ended w t → (p : Point → Bool) → ((j : Point) → p j ≡ true → settled l (F y) j ≡ true) → settledBy l p w t i ≡ true → settled l (F y) (pointBefore i) ≡ true
+  behind-by w Here f p k e = back (k i e)
+  behind-by w Before f p k e = k (pointBefore i) (rw (ne-eqb (i .0) 0 (λ z. omega arith)) at (second (ltb (i .0) (size l)) (earlier p i) e))
+  behind-by w After f p k e = prefix l o (F y) g (pointAfter i) (pointBefore i) (omega arith) (k (pointAfter i) e)
+  behind-by w Past f p k e = back (k i (since-each p i e i (omega arith)))
+  behind-by w Future f p k e = let q : UntilSettled l w p i = until-parts l w p i e in back (k i (q .inner i (omega arith) (q .here) (omega arith)))
 
-    here : (w : Window) (c : Point → Bool) → 0 < w .end → settledUntil l w c i ≡ true → c i ≡ true
-    here w c d s = let p : UntilSettled l w c i = until-parts l w c i s in p .inner i (omega arith) (p .here) (omega arith)
-
-    go : (n : Node) → Fine (formulaOf F n) → List·Memᴰ y (childrenOf n) → settled l (formulaOf F n) i ≡ true → settled l (F y) (pointBefore i) ≡ true
-    go (Atom r t) f m e = absurd (List·Memᴰ·not-nil m)
-    go (And a b) f m e = two a b e m
-    go (AndNot a b) f m e = two a b e m
-    go (Keep a c t) f m e = one a e m
-    go (Or a b) f m e = two a b e m
-    go (Exists a x) f m e = one a e m
-    go (Previous a w) f m e =
-        let c : settled l (F a) (pointBefore i) ≡ true = rw (ne-eqb (i .0) 0 (λ z. omega arith)) at (second (ltb (i .0) (size l)) (eqb (i .0) 0 || settled l (F a) (pointBefore i)) e) in
-        subst (λ z. settled l (F z) (pointBefore i) ≡ true) (sym (List·Memᴰ·eq-of-singleton m)) c
-    go (Next a w) f m e = one a (prefix l o (F a) f (pointAfter i) i (omega arith) e) m
-    go (Since a b w) f m e = two a b (since-each (twin l (F a) (F b)) i e i (omega arith)) m
-    go (NotSince a b w) f m e = two a b (since-each (twin l (F a) (F b)) i e i (omega arith)) m
-    go (Until a b w) f m e = two a b (here w (twin l (F a) (F b)) (f .3) e) m
-    go (NotUntil a b w) f m e = two a b (here w (twin l (F a) (F b)) (f .3) e) m
-    go (Once a w) f m e = one a (since-each (settled l (F a)) i e i (omega arith)) m
-    go (Eventually a w) f m e = one a (here w (settled l (F a)) (f .1) e) m
+  behind : (n : Node) → Fine (formulaOf F n) → List·Memᴰ y (childrenOf n) → settled l (formulaOf F n) i ≡ true → settled l (F y) (pointBefore i) ≡ true
+  behind n f m e = behind-by (viewOf n .window) (viewOf n .times) (viewed F n .ended f) (childrenSettled l F (viewOf n .children)) (each (viewOf n .children) m) (sym (viewed F n .settles l i) ∙ e)
 
 -- ---- rows and pairs
 
@@ -160,58 +157,30 @@ cut-again f v = words-same (λ x h. go x (f x) (words-at (λ y. cond (f y) (v y)
     go x true e = sym e
     go x false e = refl
 
--- an age that counts is in range
-age-counts : (w : Window) (a y : ℕ) → belowEnd w a ≡ true → y ≡ countedAge w a → (belowEnd w y ≡ true) × (countedAge w y ≡ y)
-age-counts w a y e h = go (tested (eqb (w .end) 0))
-  where
-    go : Tested (eqb (w .end) 0) → (belowEnd w y ≡ true) × (countedAge w y ≡ y)
-    go (passed z) = let k : y ≡ min a (w .start) = rw z at h in (rw z, rw z (omega arith))
-    go (failed z) = let k : y ≡ a = rw z at h in (rw k e, rw z)
-
--- the pairs of a kind that has them: ages in range, rows of the node
-module _ (b : List ℕ) (x : ℕ) (w : Window) {f : ℕ → Bool} (q : free (formulaAt b x) ≡ f) {l : Log} {i : Point} {left right : Valuation → Point → Type 0} {rows : List (List ℕ)}
-    (e : ExactPairs f (λ y v. Aged l w (left v) (right v) i y) rows) where
-  pairs-fit : (ascending rows && all (pairFits b x w) rows) ≡ true
-  pairs-fit = both (e .ascends) (all-of (pairFits b x w) rows (λ p m. one p m))
+module _ (b : List ℕ) (x : ℕ) where
+  -- the pairs of since: ages in range, rows of the node
+  pairs-fit : (w : Window) {f : ℕ → Bool} → free (formulaAt b x) ≡ f → {rows : List (List ℕ)} → AgedRows f w rows → (ascending rows && all (pairFits b x w) rows) ≡ true
+  pairs-fit w {f} q {rows} e = both (e .ascends) (all-of (pairFits b x w) rows one)
     where
       one : (p : List ℕ) → List·Memᴰ p rows → pairFits b x w p ≡ true
       one p m =
-          let (y, v, d) = e .cut p m in
-          let g : Aged l w (left v) (right v) i y = e .same y v .0 (Memᴰ·cast (sym d) m) in
-          let k = age-counts w _ y (g .below) (g .age) in
-          rw (d, q) (both (both (k .0) (eq-eqb (countedAge w y) y (k .1))) (same-row _ _ .1 (cut-again f v)))
+          let (y, v, d, k, h) = e .each p m in
+          rw (d, q) (both (both k (eq-eqb (countedAge w y) y h)) (same-row _ _ .1 (cut-again f v)))
 
-no-pairs-fit : (b : List ℕ) (x : ℕ) (n : Node) → pairsFit b x n [] ≡ true
-no-pairs-fit b x (Atom r t) = refl
-no-pairs-fit b x (And a c) = refl
-no-pairs-fit b x (AndNot a c) = refl
-no-pairs-fit b x (Keep a c s) = refl
-no-pairs-fit b x (Or a c) = refl
-no-pairs-fit b x (Exists a v) = refl
-no-pairs-fit b x (Previous a w) = refl
-no-pairs-fit b x (Next a w) = refl
-no-pairs-fit b x (Since a c w) = refl
-no-pairs-fit b x (NotSince a c w) = refl
-no-pairs-fit b x (Until a c w) = refl
-no-pairs-fit b x (NotUntil a c w) = refl
-no-pairs-fit b x (Once a w) = refl
-no-pairs-fit b x (Eventually a w) = refl
+  -- no pairs fit every node
+  pub no-pairs-fit : (v : View) → pairsFit b x v [] ≡ true
+  no-pairs-fit v = go (hasPairs (v .times))
+    where
+      go : (t : Bool) → cond t true true ≡ true
+      go true = refl
+      go false = refl
 
-some-pairs-fit : (b : List ℕ) (x : ℕ) (l : Log) (i : Point) (F : ℕ → Formula) (n : Node) → formulaAt b x ≡ formulaOf F n → Fine (formulaOf F n) → pairsFit b x n (pairs l (formulaOf F n) i) ≡ true
-some-pairs-fit b x l i F (Atom r t) q f = refl
-some-pairs-fit b x l i F (And a c) q f = refl
-some-pairs-fit b x l i F (AndNot a c) q f = refl
-some-pairs-fit b x l i F (Keep a c s) q f = refl
-some-pairs-fit b x l i F (Or a c) q f = refl
-some-pairs-fit b x l i F (Exists a v) q f = refl
-some-pairs-fit b x l i F (Previous a w) q f = refl
-some-pairs-fit b x l i F (Next a w) q f = refl
-some-pairs-fit b x l i F (Since a c w) q f = pairs-fit b x w (ap free q) (since-pairs l i (F a) (F c) w f)
-some-pairs-fit b x l i F (NotSince a c w) q f = pairs-fit b x w (ap free q) (notSince-pairs l i (F a) (F c) w f)
-some-pairs-fit b x l i F (Until a c w) q f = refl
-some-pairs-fit b x l i F (NotUntil a c w) q f = refl
-some-pairs-fit b x l i F (Once a w) q f = pairs-fit b x w (ap free q) (once-pairs l i (F a) w f)
-some-pairs-fit b x l i F (Eventually a w) q f = refl
+  some-pairs-fit : {f : ℕ → Bool} → free (formulaAt b x) ≡ f → (v : View) (rows : List (List ℕ)) → PairsBy f (v .window) rows (hasPairs (v .times)) → pairsFit b x v rows ≡ true
+  some-pairs-fit {f} q v rows = go (hasPairs (v .times))
+    where
+      go : (t : Bool) → PairsBy f (v .window) rows t → cond t (ascending rows && all (pairFits b x (v .window)) rows) (eqb (length rows) 0) ≡ true
+      go true e = pairs-fit (v .window) q e
+      go false e = rw e
 
 -- ---- the conditions, one by one
 
@@ -221,9 +190,6 @@ module _ (b : List ℕ) (a : Accepted) (ok : checking b ≡ given a) (l : Log) (
 
   abbrev was : ℕ → ℕ
   was x = settledCount l (formulaAt b x)
-
-  was-counted : (x : ℕ) → x < nodeCount b → Counted l (formulaAt b x) (was x)
-  was-counted x o = count-counted l (formulaAt b x) (r .ordered) (fine b a ok x o)
 
   -- a child lags at most one point behind its parent
   lags : (y : ℕ) → y < nodeCount b → (x : ℕ) → x < nodeCount b → List·Memᴰ y (childrenOf (nodeAt b x)) → was x ≤ was y + 1
@@ -237,16 +203,16 @@ module _ (b : List ℕ) (a : Accepted) (ok : checking b ≡ given a) (l : Log) (
       go (passed e) =
           let h : 1 < was x = ltb-true 1 (was x) e in
           let i : Point = point (was x - 1) in
-          let t : settled l (formulaOf (formulaAt b) (nodeAt b x)) i ≡ true = subst (λ φ. settled l φ i ≡ true) step (upto-holds (settled l (formulaAt b x)) (was x) (was-counted x o) i (omega arith)) in
-          let k : settled l (formulaAt b y) (pointBefore i) ≡ true = behind l (r .ordered) (formulaAt b) (nodeAt b x) (subst Fine step (fine b a ok x o)) y (fine b a ok y p) m i t (omega arith) in
-          omega (arith, upto-below (settled l (formulaAt b y)) (was y) (was-counted y p) (pointBefore i) k)
+          let t : settled l (formulaOf (formulaAt b) (nodeAt b x)) i ≡ true = subst (λ φ. settled l φ i ≡ true) step (upto-holds (settled l (formulaAt b x)) (was x) (count-of b a ok l (r .ordered) x o) i (omega arith)) in
+          let k : settled l (formulaAt b y) (pointBefore i) ≡ true = behind l (r .ordered) (formulaAt b) y (fine b a ok y p) i (omega arith) (nodeAt b x) (subst Fine step (fine b a ok x o)) m t in
+          omega (arith, upto-below (settled l (formulaAt b y)) (was y) (count-of b a ok l (r .ordered) y p) (pointBefore i) k)
 
   -- `open` is what the last node lags
   open-is : was (lastNode b) + openPoints b l ≡ size l
   unfolding openPoints
   open-is =
-      let n : was (lastNode b) ≤ size l = counted-most l (pattern b) (was (lastNode b)) (was-counted (lastNode b) (last-is-node b a ok)) in
-      omega (arith, open-run b a ok l (r .ordered) l (was (lastNode b)) (was-counted (lastNode b) (last-is-node b a ok)))
+      let n : was (lastNode b) ≤ size l = counted-most l (pattern b) (was (lastNode b)) (count-of b a ok l (r .ordered) (lastNode b) (last-is-node b a ok)) in
+      omega (arith, open-run b a ok l (r .ordered) l (was (lastNode b)) (count-of b a ok l (r .ordered) (lastNode b) (last-is-node b a ok)))
 
   depth : (k x : ℕ) → x < nodeCount b → lastNode b - x ≤ k → size l ≤ was x + openPoints b l + (lastNode b - x)
   depth zero x o h = let e : x ≡ lastNode b = omega arith in let z : was x ≡ was (lastNode b) = ap was e in omega (arith, open-is)
@@ -275,8 +241,8 @@ module _ (b : List ℕ) (a : Accepted) (ok : checking b ≡ given a) (l : Log) (
   few-times : size l - firstRetained (size l) (map was (range 0 (nodeCount b))) .0 ≤ mostTimes
   few-times =
       let h : size l - 63 ≤ leastOf (size l) (map was (range 0 (nodeCount b))) =
-      least-above (size l - 63) (size l) was 0 (nodeCount b) (omega arith)
-      (λ x u o. omega (arith, depth (lastNode b - x) x (omega arith) (omega arith), r .few-open, nodes-most b a ok)) in
+      least-above (size l - 63) (size l) was (range 0 (nodeCount b)) (omega arith)
+      (λ x m. let (u, o) = range-at 0 (nodeCount b) m in omega (arith, depth (lastNode b - x) x (omega arith) (omega arith), r .few-open, nodes-most b a ok)) in
       omega arith
 
   -- the times don't fall
@@ -286,16 +252,16 @@ module _ (b : List ℕ) (a : Accepted) (ok : checking b ≡ given a) (l : Log) (
   run-rises k (suc (suc n)) h = both (le-leb (time l (point k) .0) (time l (point (suc k)) .0) (r .ordered .steps (point k) (point (suc k)) (omega arith) (omega arith))) (run-rises (suc k) (suc n) (omega arith))
 
   -- each node's rows and pairs
-  last-pairs-fit : (x : ℕ) → x < nodeCount b → pairsFit b x (nodeAt b x) (lastPairs l (formulaAt b x)) ≡ true
+  last-pairs-fit : (x : ℕ) → x < nodeCount b → pairsFit b x (viewOf (nodeAt b x)) (lastPairs l (formulaAt b x)) ≡ true
   unfolding lastPairs
   last-pairs-fit x o = go (eqb (was x) 0)
     where
       step : formulaAt b x ≡ formulaOf (formulaAt b) (nodeAt b x)
       step = formula-step b x (lower b (nodeCount b) (accepted b a ok .each) x o)
 
-      go : (t : Bool) → pairsFit b x (nodeAt b x) (cond t [] (pairs l (formulaAt b x) (point (was x - 1)))) ≡ true
-      go true = no-pairs-fit b x (nodeAt b x)
-      go false = subst (λ φ. pairsFit b x (nodeAt b x) (pairs l φ (point (was x - 1))) ≡ true) (sym step) (some-pairs-fit b x l (point (was x - 1)) (formulaAt b) (nodeAt b x) step (subst Fine step (fine b a ok x o)))
+      go : (t : Bool) → pairsFit b x (viewOf (nodeAt b x)) (cond t [] (pairs l (formulaAt b x) (point (was x - 1)))) ≡ true
+      go true = no-pairs-fit b x (viewOf (nodeAt b x))
+      go false = subst (λ φ. pairsFit b x (viewOf (nodeAt b x)) (pairs l φ (point (was x - 1))) ≡ true) (sym step) (some-pairs-fit b x (ap free step) (viewOf (nodeAt b x)) _ (viewed (formulaAt b) (nodeAt b x) .paired (subst Fine step (fine b a ok x o)) l (point (was x - 1))))
 
   set-fits : (x : ℕ) → x < nodeCount b → (j : Point) → settled l (formulaAt b x) j ≡ true → setFits b x (vals l (formulaAt b x) j) ≡ true
   set-fits x o j e =
@@ -312,7 +278,7 @@ module _ (b : List ℕ) (a : Accepted) (ok : checking b ≡ given a) (l : Log) (
       (both
       (all-points _ (wantedFrom b was x .0) (was x - wantedFrom b was x .0) .1
       (λ j u v. rw (held-is b a ok l (r .ordered) x o j u (omega (arith, wanted-low b was x)))
-      (set-fits x o j (upto-holds (settled l (formulaAt b x)) (was x) (was-counted x o) j (omega (arith, wanted-low b was x))))))
+      (set-fits x o j (upto-holds (settled l (formulaAt b x)) (was x) (count-of b a ok l (r .ordered) x o) j (omega (arith, wanted-low b was x))))))
       (last-pairs-fit x o))
 
   own-entries : (x : ℕ) → x < nodeCount b → entriesOf b l x ≡ ownEntries s x

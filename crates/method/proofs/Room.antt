@@ -3,7 +3,6 @@ use Prim.Native.Nat.{ℕ, zero, suc, _+_, _-_, _*_, _^_, _≤_, _<_, max}
 use native.Mathlib.Nat.{two-pow-succ}
 use native.Mathlib.Omega.{arith}
 use mathlib.Core.Path.{_≡_, refl, sym, ap, ap₂, _∙_}
-use mathlib.Core.Bool.{false}
 use mathlib.Core.List.{List, [], _∷_, map, List·Memᴰ}
 use lib.ListN.{length, getD, drop, length-append, length-map}
 use lib.Dec.{ltb}
@@ -13,49 +12,27 @@ use Rattle.meaning.specs.Log.{pointsFrom}
 use Rattle.meaning.specs.Kept.{Entry, entryOf}
 use Rattle.meaning.specs.declared.Point.{Point}
 use Rattle.meaning.specs.Outcome.{given, mostOpen, mostKept, mostRows}
-use Rattle.meaning.specs.RuleFile.{Accepted, checking, nodeCount, nodeAt, childrenOf, lastNode}
-use Rattle.meaning.specs.declared.Node.{Node}
-use Rattle.meaning.specs.declared.Node.the-variants.{Atom, And, AndNot, Keep, Or, Exists, Previous, Next, Since, NotSince, Until, NotUntil, Once, Eventually}
+use Rattle.meaning.specs.View.{viewOf, childrenIn}
+use Rattle.meaning.specs.RuleFile.{Accepted, checking, nodeCount, nodeAt, childrenOf, formulaAt, lastNode}
 use Rattle.meaning.proofs.Accepted.{nodes-most, last-is-node}
 use Rattle.meaning.proofs.Points.{Tested, passed, failed, tested}
 use Rattle.method.specs.Stored.{Stored, held, heldPairs}
 use Rattle.method.specs.Step.{wantedFrom, countBefore}
 use Rattle.method.specs.WellFormed.{ownEntries, Formed}
-use Rattle.method.specs.Room.{weight, isPrevious, otherAt, previousIn, othersIn, heavier, lighter, need, newPoints, keptRows, rowsMost, setsMost, setsNeeded, SettlesAtMost, mostSets, RoomEnough}
+use Rattle.method.specs.Room.{weight, otherAt, previousIn, othersIn, heavier, lighter, need, newPoints, keptRows, rowsMost, setsMost, setsNeeded, SettlesAtMost, mostSets, RoomEnough}
+use Rattle.method.proofs.Views.{Branches, none, single, double, viewed}
 use Rattle.method.proofs.Bounds.{below, by-children, span}
 use Rattle.method.proofs.Seen.{one, two}
 use Rattle.method.proofs.Sums.{sum-same, sum-plus, length-gather}
 use Rattle.method.proofs.Lags.{new-points}
 use Rattle.method.proofs.Weights.{both-sides, lighter-less, weight-step, weight-two, need-step, whole-weight, nodes-split, no-shares}
 
--- how many children a node has; a node with none or two isn't "previous"
-data Branches (n : Node) : Type 0 where
-  none : childrenOf n ≡ [] → isPrevious n ≡ false → Branches n
-  single : (a : ℕ) → childrenOf n ≡ a ∷ [] → Branches n
-  double : (a c : ℕ) → childrenOf n ≡ a ∷ c ∷ [] → isPrevious n ≡ false → Branches n
-
-branches : (n : Node) → Branches n
-branches (Atom r t) = none refl refl
-branches (And a b) = double a b refl refl
-branches (AndNot a b) = double a b refl refl
-branches (Keep a c s) = single a refl
-branches (Or a b) = double a b refl refl
-branches (Exists a x) = single a refl
-branches (Previous a w) = single a refl
-branches (Next a w) = single a refl
-branches (Since a b w) = double a b refl refl
-branches (NotSince a b w) = double a b refl refl
-branches (Until a b w) = double a b refl refl
-branches (NotUntil a b w) = double a b refl refl
-branches (Once a w) = single a refl
-branches (Eventually a w) = single a refl
-
 module _ (b : List ℕ) (a : Accepted) (ok : checking b ≡ given a) where
   -- every tree has a node that isn't "previous"
   some-others : (x : ℕ) → x < nodeCount b → 1 ≤ othersIn b x
-  some-others = by-children b a ok (λ x. 1 ≤ othersIn b x) (λ x o h. go x o h (branches (nodeAt b x)))
+  some-others = by-children b a ok (λ x. 1 ≤ othersIn b x) (λ x o h. go x o h (viewed (formulaAt b) (nodeAt b x) .shape))
     where
-      go : (x : ℕ) → x < nodeCount b → ((y : ℕ) → List·Memᴰ y (childrenOf (nodeAt b x)) → 1 ≤ othersIn b y) → Branches (nodeAt b x) → 1 ≤ othersIn b x
+      go : (x : ℕ) → x < nodeCount b → ((y : ℕ) → List·Memᴰ y (childrenOf (nodeAt b x)) → 1 ≤ othersIn b y) → Branches (viewOf (nodeAt b x)) → 1 ≤ othersIn b x
       go x o h (none e p) = rw (weight-step b a ok _ x o, p) (omega arith)
       go x o h (single c e) = rw (weight-step b a ok _ x o, e) (omega (arith, h c (rw e one)))
       go x o h (double c d e p) = rw (weight-step b a ok _ x o, p) (omega arith)
@@ -70,9 +47,9 @@ module _ (b : List ℕ) (a : Accepted) (ok : checking b ≡ given a) where
     share-within x o = omega (arith, fits x o, weight-step b a ok share x o)
 
     pub need-within : (x : ℕ) → x < nodeCount b → Within x
-    need-within = by-children b a ok Within (λ x o h. go x o h (branches (nodeAt b x)))
+    need-within = by-children b a ok Within (λ x o h. go x o h (viewed (formulaAt b) (nodeAt b x) .shape))
       where
-        go : (x : ℕ) → x < nodeCount b → ((y : ℕ) → List·Memᴰ y (childrenOf (nodeAt b x)) → Within y) → Branches (nodeAt b x) → Within x
+        go : (x : ℕ) → x < nodeCount b → ((y : ℕ) → List·Memᴰ y (childrenOf (nodeAt b x)) → Within y) → Branches (viewOf (nodeAt b x)) → Within x
         go x o h t zero u = absurd (omega arith)
         go x o h t (suc zero) u = absurd (omega (arith, some-others x o))
         go x o h (none e p) (suc (suc m)) u =
@@ -96,7 +73,7 @@ module _ (b : List ℕ) (a : Accepted) (ok : checking b ≡ given a) where
             low = both-sides b c d (λ y. y < nodeCount b) (omega (arith, below b a ok x o c (rw e one))) (omega (arith, below b a ok x o d (rw e two)))
 
             others : othersIn b x ≡ 1 + (othersIn b H + othersIn b L)
-            others = rw p at (weight-two b a ok (otherAt b) x c d o e)
+            others = rw p at (weight-two b a ok (otherAt b) x c d o (ap childrenIn e))
 
             -- the lighter has less than half of the nodes, and is walked beside the heavier's sets alone
             both : (m : ℕ) → othersIn b x + 1 < 2 ^ suc (suc m) → need b size x ≤ weight b share x + suc (suc m) * most
@@ -108,7 +85,7 @@ module _ (b : List ℕ) (a : Accepted) (ok : checking b ≡ given a) where
                   arith,
                   first (suc (suc (suc m))) (omega (arith, others)),
                   second (suc (suc m)) (omega (arith, others, lighter-less b c d, two-pow-succ (suc (suc m)))),
-                  weight-two b a ok share x c d o e,
+                  weight-two b a ok share x c d o (ap childrenIn e),
                   fits x o,
                   share-within H (low .0),
                   share-within L (low .1),

@@ -2,7 +2,7 @@
 use Prim.Native.Nat.{ℕ, _-_, _<_}
 use native.Mathlib.Omega.{arith}
 use mathlib.Core.Path.{_≡_, ap}
-use mathlib.Core.Bool.{true, _&&_}
+use mathlib.Core.Bool.{Bool, true, false, cond, _&&_}
 use mathlib.Core.Logic.{_⊎_, inl, inr}
 use mathlib.Core.List.{List, [], _∷_, map, List·Memᴰ, List·Memᴰ·not-nil, List·Memᴰ·append-cases, Memᴰ·of-map}
 use lib.ListN.{length, getD, drop}
@@ -13,15 +13,16 @@ use Rattle.meaning.specs.Order.{ascending}
 use Rattle.meaning.specs.Log.{pointsFrom}
 use Rattle.meaning.specs.Formula.{free}
 use Rattle.meaning.specs.Evaluator.{cutTo, valuationOf}
+use Rattle.meaning.specs.View.{viewOf}
 use Rattle.meaning.specs.RuleFile.{nodeCount, nodeAt, formulaAt}
 use Rattle.meaning.specs.Kept.{Entry, entryOf}
 use Rattle.meaning.specs.declared.Point.{Point}
 use Rattle.meaning.specs.declared.Window.{Window}
-use Rattle.meaning.specs.declared.Node.{Node}
-use Rattle.meaning.specs.declared.Node.the-variants.{Atom, And, AndNot, Keep, Or, Exists, Previous, Next, Since, NotSince, Until, NotUntil, Once, Eventually}
+use Rattle.meaning.specs.declared.View.{View}
 use Rattle.meaning.proofs.Points.{first, second}
 use Rattle.meaning.proofs.Rows.{all-at, gather-at, range-at, same-row}
 use Rattle.method.specs.Stored.{Stored, held, heldPairs}
+use Rattle.method.specs.Settle.{hasPairs}
 use Rattle.method.specs.Step.{wantedFrom, countBefore}
 use Rattle.method.specs.WellFormed.{rowOfNode, setFits, pairFits, pairsFit, ownEntries, nodeFits, Formed}
 
@@ -43,21 +44,12 @@ module _ (b : List ℕ) (x : ℕ) where
       let fits : pairFits b x w p ≡ true = all-at (pairFits b x w) m all-fit in
       four-values (drop 1 p) (search second)
 
-  pair-values : (n : Node) (ps : List (List ℕ)) {p : List ℕ} → List·Memᴰ p ps → pairsFit b x n ps ≡ true → length (drop 1 p) ≡ 4
-  pair-values (Atom r t) = none
-  pair-values (And a c) = none
-  pair-values (AndNot a c) = none
-  pair-values (Keep a c s) = none
-  pair-values (Or a c) = none
-  pair-values (Exists a v) = none
-  pair-values (Previous a w) = none
-  pair-values (Next a w) = none
-  pair-values (Since a c w) = some w
-  pair-values (NotSince a c w) = some w
-  pair-values (Until a c w) = none
-  pair-values (NotUntil a c w) = none
-  pair-values (Once a w) = some w
-  pair-values (Eventually a w) = none
+  pair-values : (v : View) (ps : List (List ℕ)) {p : List ℕ} → List·Memᴰ p ps → pairsFit b x v ps ≡ true → length (drop 1 p) ≡ 4
+  pair-values v ps {p} m = go (hasPairs (v .times))
+    where
+      go : (t : Bool) → cond t (ascending ps && all (pairFits b x (v .window)) ps) (eqb (length ps) 0) ≡ true → length (drop 1 p) ≡ 4
+      go true = some (v .window) ps m
+      go false = none ps m
 
 module _ (s : Stored) (x : ℕ) where
   abbrev rowsAt : Point → List Entry
@@ -81,7 +73,7 @@ module _ (s : Stored) (x : ℕ) where
     unfolding nodeFits
     a-pair m =
         let (p, n, d) = Memᴰ·of-map (λ p. entryOf x 1 (getD p 0 0) (drop 1 p)) (heldPairs (s .entries) x) m in
-        rw (← d) (omega arith, pair-values (s .rule) x (nodeAt (s .rule) x) (heldPairs (s .entries) x) n (search second))
+        rw (← d) (omega arith, pair-values (s .rule) x (viewOf (nodeAt (s .rule) x)) (heldPairs (s .entries) x) n (search second))
 
     own : List·Memᴰ e (ownEntries s x) → Rowed e
     unfolding ownEntries

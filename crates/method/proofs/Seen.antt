@@ -12,6 +12,7 @@ use Rattle.meaning.specs.Log.{Log, Ordered, size, time, rowsAt, elapsed, pointB
 use Rattle.meaning.specs.Formula.{Formula, free, termsOf, inWindow, variables}
 use Rattle.meaning.specs.Evaluator.{cutTo, valuationOf, setOf, atomRows, leading, untilRows, among, vals}
 use Rattle.meaning.specs.Settled.{settled, settledSince, settledUntil}
+use Rattle.meaning.specs.View.{viewOf}
 use Rattle.meaning.specs.RuleFile.{childrenOf, formulaOf}
 use Rattle.meaning.specs.Kept.{pairs}
 use Rattle.meaning.specs.declared.Point.{Point}
@@ -25,18 +26,18 @@ use Rattle.meaning.proofs.Points.{first, second, all-same, select-same, select-
 use Rattle.meaning.proofs.Agreement.{ascends, rows-length}
 use Rattle.meaning.proofs.Settles.{UntilSettled, until-parts, since-each, twin, present}
 use Rattle.meaning.proofs.Steady.{past-end}
-use Rattle.rowset.proofs.Places.{look-member}
+use Rattle.meaning.proofs.LookUp.{look-member}
 use Rattle.method.specs.Settle.{Sight, found, settle, pairsAfter}
 use Rattle.method.specs.Step.{firstWanted}
 use Rattle.method.proofs.Counted.{Counted, counted-most}
-use Rattle.method.proofs.Sinces.{SameSince, rows-straight, pairs-straight}
+use Rattle.method.proofs.Sinces.{SameSince, rows-and-pairs}
 
 -- What node n's turn from point start on has to see: the stamps from the point before on, and its children's variables, counts and rows where these points consult them.
 pub record Sees (v : Sight) (l : Log) (F : ℕ → Formula) (n : Node) (start : Point) : Type 0 where
   pub stamps : (j : Point) → start .0 ≤ suc (j .0) → j .0 < size l → v .stamps j ≡ time l j
   pub variables : v .free ≡ (λ y. free (F y))
   pub counts : (y : ℕ) → List·Memᴰ y (childrenOf n) → Counted l (F y) (v .count y)
-  pub rows : (y : ℕ) → List·Memᴰ y (childrenOf n) → (j : Point) → firstWanted n (start .0) .0 ≤ j .0 → j .0 < v .count y → v .rows y j ≡ vals l (F y) j
+  pub rows : (y : ℕ) → List·Memᴰ y (childrenOf n) → (j : Point) → firstWanted (viewOf n .times) (start .0) .0 ≤ j .0 → j .0 < v .count y → v .rows y j ≡ vals l (F y) j
 
 -- a child's rows, asked for a row
 found-among : (v : Sight) (l : Log) (F : ℕ → Formula) (a : ℕ) (k : Point) → Fine (F a) → v .free ≡ (λ y. free (F y)) → v .rows a k ≡ vals l (F a) k → (u : List ℕ) → found v a u k ≡ among (free (F a)) (vals l (F a)) u k
@@ -113,11 +114,11 @@ two = List·Memᴰ·tail (List·Memᴰ·head refl)
 
 module _ (v : Sight) (l : Log) (ordered : Ordered l) (F : ℕ → Formula) (start i : Point) (from : start .0 ≤ i .0) where
   -- the rows of a child at a point that is consulted and settled
-  seen : (n : Node) → Sees v l F n start → (y : ℕ) → List·Memᴰ y (childrenOf n) → (j : Point) → firstWanted n (start .0) .0 ≤ j .0 → settled l (F y) j ≡ true → v .rows y j ≡ vals l (F y) j
+  seen : (n : Node) → Sees v l F n start → (y : ℕ) → List·Memᴰ y (childrenOf n) → (j : Point) → firstWanted (viewOf n .times) (start .0) .0 ≤ j .0 → settled l (F y) j ≡ true → v .rows y j ≡ vals l (F y) j
   seen n s y m j u e = s .rows y m j u (below l (F y) (v .count y) (s .counts y m) j e)
 
   -- until over two children, with a test of left that is the same
-  settle-two : (n : Node) → Sees v l F n start → (a b : ℕ) → List·Memᴰ a (childrenOf n) → List·Memᴰ b (childrenOf n) → firstWanted n (start .0) .0 ≡ start .0 → (w : Window) → 0 < w .end
+  settle-two : (n : Node) → Sees v l F n start → (a b : ℕ) → List·Memᴰ a (childrenOf n) → List·Memᴰ b (childrenOf n) → firstWanted (viewOf n .times) (start .0) .0 ≡ start .0 → (w : Window) → 0 < w .end
       → settledUntil l w (twin l (F a) (F b)) i ≡ true → (left left' : List ℕ → Point → Bool)
       → ((j : Point) → v .rows a j ≡ vals l (F a) j → (u : List ℕ) → left u j ≡ left' u j)
       → untilRows (v .stamps) (min (v .count a) (v .count b)) w left (v .rows b) i ≡ untilRows (time l) (size l) w left' (vals l (F b)) i
@@ -130,7 +131,7 @@ module _ (v : Sight) (l : Log) (ordered : Ordered l) (F : ℕ → Formula) (star
       (λ j u o. s .rows b mb j (omega arith) (omega arith))
 
   -- since over two children, with a test of left that is the same
-  sees-two : (n : Node) → Sees v l F n start → (a b : ℕ) → List·Memᴰ a (childrenOf n) → List·Memᴰ b (childrenOf n) → firstWanted n (start .0) .0 ≡ start .0 → i .0 < size l
+  sees-two : (n : Node) → Sees v l F n start → (a b : ℕ) → List·Memᴰ a (childrenOf n) → List·Memᴰ b (childrenOf n) → firstWanted (viewOf n .times) (start .0) .0 ≡ start .0 → i .0 < size l
       → settledSince (twin l (F a) (F b)) i ≡ true → (left left' : List ℕ → Point → Bool)
       → ((j : Point) → v .rows a j ≡ vals l (F a) j → (u : List ℕ) → left u j ≡ left' u j)
       → SameSince (v .stamps) (time l) left left' (v .rows b) (vals l (F b)) start i
@@ -160,22 +161,30 @@ module _ (v : Sight) (l : Log) (ordered : Ordered l) (F : ℕ → Formula) (star
         rights = λ j u o. seen (Once a w) s a one j u (since-each (settled l (F a)) i e j o);
       }
 
+  -- the valuations and the pairs of each kind
   pub settle-right : (n : Node) → Sees v l F n start → Fine (formulaOf F n) → settled l (formulaOf F n) i ≡ true → (childrenOf n ≡ [] → v .event ≡ rowsAt l i)
-      → settle v (pairsBefore l (formulaOf F n) start) start i n ≡ vals l (formulaOf F n) i
+      → (settle v (pairsBefore l (formulaOf F n) start) start i n ≡ vals l (formulaOf F n) i)
+      × (pairsAfter v (pairsBefore l (formulaOf F n) start) start i (viewOf n) ≡ pairs l (formulaOf F n) i)
   unfolding settle
-  settle-right (Atom r t) s f e h = ap (λ rows. setOf (atomRows r (termsOf t) rows)) (h refl)
-  settle-right (And a b) s f e h =
-      rw (s .variables, seen (And a b) s a one i (omega arith) (first (settled l (F a) i) (settled l (F b) i) e), seen (And a b) s b two i (omega arith) (second (settled l (F a) i) (settled l (F b) i) e))
+  settle-right (Atom r t) s f e h = (ap (λ rows. setOf (atomRows r (termsOf t) rows)) (h refl), refl)
+  settle-right (And a b) s f e h = (
+    rw (s .variables, seen (And a b) s a one i (omega arith) (first (settled l (F a) i) (settled l (F b) i) e), seen (And a b) s b two i (omega arith) (second (settled l (F a) i) (settled l (F b) i) e)),
+    refl,
+  )
   settle-right (AndNot a b) s f e h =
-      let p : v .rows b i ≡ vals l (F b) i = seen (AndNot a b) s b two i (omega arith) (second (settled l (F a) i) (settled l (F b) i) e) in
-      ap setOf
-      (select-same _ _ (v .rows a i) (λ u. ap not (found-among v l F b i (f .1) (s .variables) p u))
-      ∙ ap (select (λ u. not (among (free (F b)) (vals l (F b)) u i))) (seen (AndNot a b) s a one i (omega arith) (first (settled l (F a) i) (settled l (F b) i) e)))
-  settle-right (Keep a c t) s f e h = rw (seen (Keep a c t) s a one i (omega arith) e)
-  settle-right (Or a b) s f e h =
-      rw (seen (Or a b) s a one i (omega arith) (first (settled l (F a) i) (settled l (F b) i) e), seen (Or a b) s b two i (omega arith) (second (settled l (F a) i) (settled l (F b) i) e))
-  settle-right (Exists a x) s f e h = rw (seen (Exists a x) s a one i (omega arith) e)
-  settle-right (Previous a w) s f e h = ap setOf (go (tested (ltb 0 (i .0))))
+      let p : v .rows b i ≡ vals l (F b) i = seen (AndNot a b) s b two i (omega arith) (second (settled l (F a) i) (settled l (F b) i) e) in (
+        ap setOf
+            (select-same _ _ (v .rows a i) (λ u. ap not (found-among v l F b i (f .1) (s .variables) p u))
+            ∙ ap (select (λ u. not (among (free (F b)) (vals l (F b)) u i))) (seen (AndNot a b) s a one i (omega arith) (first (settled l (F a) i) (settled l (F b) i) e))),
+        refl,
+      )
+  settle-right (Keep a c t) s f e h = (rw (seen (Keep a c t) s a one i (omega arith) e), refl)
+  settle-right (Or a b) s f e h = (
+    rw (seen (Or a b) s a one i (omega arith) (first (settled l (F a) i) (settled l (F b) i) e), seen (Or a b) s b two i (omega arith) (second (settled l (F a) i) (settled l (F b) i) e)),
+    refl,
+  )
+  settle-right (Exists a x) s f e h = (rw (seen (Exists a x) s a one i (omega arith) e), refl)
+  settle-right (Previous a w) s f e h = (ap setOf (go (tested (ltb 0 (i .0)))), refl)
     where
       n : i .0 < size l
       n = present l (formulaOf F (Previous a w)) i e
@@ -188,32 +197,21 @@ module _ (v : Sight) (l : Log) (ordered : Ordered l) (F : ℕ → Formula) (star
       go (failed p) = rw p
   settle-right (Next a w) s f e h =
       let n : suc (i .0) < size l = present l (F a) (pointAfter i) e in
-      rw (lt-ltb (suc (i .0)) (size l) n, s .stamps i (omega arith) (omega arith), s .stamps (pointAfter i) (omega arith) n, seen (Next a w) s a one (pointAfter i) (omega arith) e)
-  settle-right (Since a b w) s f e h = rows-straight l ordered w (sees-since a b w s f e) (rows-length l (F b) (f .1)) (present l (formulaOf F (Since a b w)) i e)
-  settle-right (NotSince a b w) s f e h = rows-straight l ordered w (sees-notSince a b w s f e) (rows-length l (F b) (f .1)) (present l (formulaOf F (NotSince a b w)) i e)
-  settle-right (Until a b w) s f e h =
-      ap setOf (settle-two (Until a b w) s a b one two refl w (f .3) e (found v a) (among (free (F a)) (vals l (F a))) (λ j p. found-among v l F a j (f .0) (s .variables) p))
-  settle-right (NotUntil a b w) s f e h =
-      ap setOf (settle-two (NotUntil a b w) s a b one two refl w (f .3) e (λ u k. not (found v a u k)) (λ u k. not (among (free (F a)) (vals l (F a)) u k)) (λ j p u. ap not (found-among v l F a j (f .0) (s .variables) p u)))
-  settle-right (Once a w) s f e h = rows-straight l ordered w (sees-once a w s e) (rows-length l (F a) f) (present l (formulaOf F (Once a w)) i e)
-  settle-right (Eventually a w) s f e h =
-      ap setOf
-      (settle-until l (v .stamps) w (settled l (F a)) (v .count a) (λ u k. true) (λ u k. true) (v .rows a) (vals l (F a)) i (f .1) (s .counts a one)
-      (counted-most l (F a) (v .count a) (s .counts a one)) e (λ j u o. s .stamps j (omega arith) o) (λ j u o x. refl) (λ j u o. s .rows a one j (omega arith) o))
-
-  pub pairs-right : (n : Node) → Sees v l F n start → Fine (formulaOf F n) → settled l (formulaOf F n) i ≡ true
-      → pairsAfter v (pairsBefore l (formulaOf F n) start) start i n ≡ pairs l (formulaOf F n) i
-  pairs-right (Atom r t) s f e = refl
-  pairs-right (And a b) s f e = refl
-  pairs-right (AndNot a b) s f e = refl
-  pairs-right (Keep a c t) s f e = refl
-  pairs-right (Or a b) s f e = refl
-  pairs-right (Exists a x) s f e = refl
-  pairs-right (Previous a w) s f e = refl
-  pairs-right (Next a w) s f e = refl
-  pairs-right (Since a b w) s f e = pairs-straight l ordered w (sees-since a b w s f e) (rows-length l (F b) (f .1)) (present l (formulaOf F (Since a b w)) i e)
-  pairs-right (NotSince a b w) s f e = pairs-straight l ordered w (sees-notSince a b w s f e) (rows-length l (F b) (f .1)) (present l (formulaOf F (NotSince a b w)) i e)
-  pairs-right (Until a b w) s f e = refl
-  pairs-right (NotUntil a b w) s f e = refl
-  pairs-right (Once a w) s f e = pairs-straight l ordered w (sees-once a w s e) (rows-length l (F a) f) (present l (formulaOf F (Once a w)) i e)
-  pairs-right (Eventually a w) s f e = refl
+      (rw (lt-ltb (suc (i .0)) (size l) n, s .stamps i (omega arith) (omega arith), s .stamps (pointAfter i) (omega arith) n, seen (Next a w) s a one (pointAfter i) (omega arith) e), refl)
+  settle-right (Since a b w) s f e h = rows-and-pairs l ordered w (sees-since a b w s f e) (rows-length l (F b) (f .1)) (present l (formulaOf F (Since a b w)) i e)
+  settle-right (NotSince a b w) s f e h = rows-and-pairs l ordered w (sees-notSince a b w s f e) (rows-length l (F b) (f .1)) (present l (formulaOf F (NotSince a b w)) i e)
+  settle-right (Until a b w) s f e h = (
+    ap setOf (settle-two (Until a b w) s a b one two refl w (f .3) e (found v a) (among (free (F a)) (vals l (F a))) (λ j p. found-among v l F a j (f .0) (s .variables) p)),
+    refl,
+  )
+  settle-right (NotUntil a b w) s f e h = (
+    ap setOf (settle-two (NotUntil a b w) s a b one two refl w (f .3) e (λ u k. not (found v a u k)) (λ u k. not (among (free (F a)) (vals l (F a)) u k)) (λ j p u. ap not (found-among v l F a j (f .0) (s .variables) p u))),
+    refl,
+  )
+  settle-right (Once a w) s f e h = rows-and-pairs l ordered w (sees-once a w s e) (rows-length l (F a) f) (present l (formulaOf F (Once a w)) i e)
+  settle-right (Eventually a w) s f e h = (
+    ap setOf
+        (settle-until l (v .stamps) w (settled l (F a)) (v .count a) (λ u k. true) (λ u k. true) (v .rows a) (vals l (F a)) i (f .1) (s .counts a one)
+        (counted-most l (F a) (v .count a) (s .counts a one)) e (λ j u o. s .stamps j (omega arith) o) (λ j u o x. refl) (λ j u o. s .rows a one j (omega arith) o)),
+    refl,
+  )

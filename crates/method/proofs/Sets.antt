@@ -2,7 +2,7 @@
 use Prim.Native.Nat.{ℕ, zero, suc, _-_, _≤_, _<_}
 use native.Mathlib.Omega.{arith}
 use mathlib.Core.Path.{_≡_, refl, sym, subst}
-use mathlib.Core.Bool.{Bool, true, _&&_}
+use mathlib.Core.Bool.{Bool, true, false, cond, _&&_}
 use mathlib.Core.Logic.{inl, inr, Iff·rfl}
 use mathlib.Core.List.{List, [], _∷_, _++_, map, List·Memᴰ, List·Memᴰ·head, List·Memᴰ·tail, List·Memᴰ·not-nil, List·Memᴰ·append-cases, Memᴰ·of-map}
 use lib.ListN.{length, getD, drop}
@@ -14,12 +14,14 @@ use Rattle.meaning.specs.Log.{point, elapsed, pointBefore, pointAfter, pointsFr
 use Rattle.meaning.specs.Formula.{Formula, inWindow, free, termsOf}
 use Rattle.meaning.specs.Evaluator.{cutTo, valuationOf, setOf, lasting, leading, untilRows}
 use Rattle.meaning.specs.Exact.{Exact}
+use Rattle.meaning.specs.View.{viewOf}
 use Rattle.meaning.specs.RuleFile.{nodeCount, nodeAt, childrenOf, formulaOf, formulaAt}
 use Rattle.meaning.specs.Event.{pointOf}
 use Rattle.meaning.specs.declared.Point.{Point}
 use Rattle.meaning.specs.declared.Window.{Window}
 use Rattle.meaning.specs.declared.Node.{Node}
 use Rattle.meaning.specs.declared.Node.the-variants.{Atom, And, AndNot, Keep, Or, Exists, Previous, Next, Since, NotSince, Until, NotUntil, Once, Eventually}
+use Rattle.meaning.specs.declared.View.{View}
 use Rattle.meaning.proofs.Fine.{Fine}
 use Rattle.meaning.proofs.Tree.{formula-step}
 use Rattle.meaning.proofs.Accepted.{accepted, lower, fine}
@@ -27,7 +29,7 @@ use Rattle.meaning.proofs.Agreement.{gives-or, gives-exists, gives-and, gives-a
 use Rattle.meaning.proofs.Points.{first, second}
 use Rattle.meaning.proofs.Rows.{all-at, cond-at, select-at, gather-at, same-row, insertAll-at, setOf-ascends}
 use Rattle.method.specs.Stored.{Stored, held, heldPairs}
-use Rattle.method.specs.Settle.{Sight, fresh, rowsSince, candidates, settle, rowsOfTurn}
+use Rattle.method.specs.Settle.{Sight, fresh, rowsSince, candidates, settle, hasPairs, rowsOfTurn}
 use Rattle.method.specs.Step.{wantedFrom, newRows, turnOf, sightOf, turnsTo, stampsNow, countBefore, countAfter, turn}
 use Rattle.method.specs.WellFormed.{rowOfNode, setFits, pairFits, pairsFit, nodeFits, Formed}
 use Rattle.method.proofs.Bounds.{by-children}
@@ -120,21 +122,12 @@ module _ (b : List ℕ) (x : ℕ) where
   some-held : (w : Window) (ps : List (List ℕ)) → (ascending ps && all (pairFits b x w) ps) ≡ true → PairsOf (free (formulaAt b x)) ps
   some-held w ps e = record { cut = λ p m. let t : pairFits b x w p ≡ true = all-at (pairFits b x w) m (second (ascending ps) _ e) in same-row (drop 1 p) _ .0 (search second) }
 
-  pairs-held : (n : Node) (ps : List (List ℕ)) → pairsFit b x n ps ≡ true → PairsOf (free (formulaAt b x)) ps
-  pairs-held (Atom r t) ps e = none-held ps e
-  pairs-held (And a c) ps e = none-held ps e
-  pairs-held (AndNot a c) ps e = none-held ps e
-  pairs-held (Keep a c s) ps e = none-held ps e
-  pairs-held (Or a c) ps e = none-held ps e
-  pairs-held (Exists a v) ps e = none-held ps e
-  pairs-held (Previous a w) ps e = none-held ps e
-  pairs-held (Next a w) ps e = none-held ps e
-  pairs-held (Since a c w) ps e = some-held w ps e
-  pairs-held (NotSince a c w) ps e = some-held w ps e
-  pairs-held (Until a c w) ps e = none-held ps e
-  pairs-held (NotUntil a c w) ps e = none-held ps e
-  pairs-held (Once a w) ps e = some-held w ps e
-  pairs-held (Eventually a w) ps e = none-held ps e
+  pairs-held : (v : View) (ps : List (List ℕ)) → pairsFit b x v ps ≡ true → PairsOf (free (formulaAt b x)) ps
+  pairs-held v ps = go (hasPairs (v .times))
+    where
+      go : (t : Bool) → cond t (ascending ps && all (pairFits b x (v .window)) ps) (eqb (length ps) 0) ≡ true → PairsOf (free (formulaAt b x)) ps
+      go true = some-held (v .window) ps
+      go false = none-held ps
 
   rows-held : (rows : List (List ℕ)) → setFits b x rows ≡ true → RowsOf (free (formulaAt b x)) rows
   rows-held rows e = record { ascends = search (first, second); cut = λ u m. same-row u _ .0 (all-at (rowOfNode b x) m (search second)) }
@@ -182,7 +175,7 @@ module _ (s : Stored) (f : Formed s) (w : List ℕ) where
 
     pairs-own : PairsOf (free (formulaAt b x)) (heldPairs (s .entries) x)
     unfolding nodeFits
-    pairs-own = pairs-held b x (nodeAt b x) (heldPairs (s .entries) x) (search (fits, second))
+    pairs-own = pairs-held b x (viewOf (nodeAt b x)) (heldPairs (s .entries) x) (search (fits, second))
 
     low : (y : ℕ) → y ≤ x → (c : ℕ) → List·Memᴰ c (childrenOf (nodeAt b y)) → c < y
     low = lower b (nodeCount b) (accepted b (f .accepted .0) (f .accepted .1) .each) x o

@@ -256,12 +256,15 @@ module _ (l : Log) (ordered : Ordered l) (w : Window) {τ : Point → Stamp} {le
       → setOf (straight (time l) w left' right' test made pairsHeld start i) ≡ setOf (madeFrom (time l) w left' right' test made i (pointsFrom (point 0) (suc (i .0))))
   log-right = straight-right (time l) w left' right' long start i (s .order) (λ j k a b. ordered .steps j k a (omega (arith, here)))
 
-  pub rows-straight : setOf (rowsSince τ w left right pairsHeld start i) ≡ setOf (sinceRows (time l) w left' right' i)
+  rows-straight : setOf (rowsSince τ w left right pairsHeld start i) ≡ setOf (sinceRows (time l) w left' right' i)
   rows-straight =
       ap setOf (rows-agree s w pairsHeld ∙ rows-as-made (time l) w left' right' pairsHeld start i)
       ∙ log-right (reads-rows w)
       ∙ ap (λ (f : Point → List (List ℕ)). setOf (gather f (select (λ j. inWindow w (elapsed (time l j) (time l i))) (pointsFrom (point 0) (suc (i .0)))))) (fun-ext (λ j. map-same (lasting left' right' i j)))
 
-  pub pairs-straight : setOf (pairsSince τ w left right pairsHeld start i) ≡ setOf (pairRows (time l) w left' right' i)
+  pairs-straight : setOf (pairsSince τ w left right pairsHeld start i) ≡ setOf (pairRows (time l) w left' right' i)
   unfolding pairsSince
   pairs-straight = ap setOf (pairs-agree s w pairsHeld) ∙ log-right (reads-pairs w)
+
+  pub rows-and-pairs : (setOf (rowsSince τ w left right pairsHeld start i) ≡ setOf (sinceRows (time l) w left' right' i)) × (setOf (pairsSince τ w left right pairsHeld start i) ≡ setOf (pairRows (time l) w left' right' i))
+  rows-and-pairs = (rows-straight, pairs-straight)

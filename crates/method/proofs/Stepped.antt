@@ -25,6 +25,7 @@ use Rattle.meaning.specs.declared.Node.{Node}
 use Rattle.meaning.proofs.Fine.{Fine}
 use Rattle.meaning.proofs.Tree.{formula-step}
 use Rattle.meaning.proofs.Accepted.{accepted, lower, fine, last-is-node}
+use Rattle.meaning.proofs.Rows.{range-at, range-of}
 use Rattle.meaning.proofs.Growth.{Extends, extends}
 use Rattle.meaning.proofs.Settles.{stays}
 use Rattle.meaning.proofs.Steady.{steady-by, pairs-by}
@@ -33,12 +34,13 @@ use Rattle.method.specs.Stored.{Stored, baseOf, stampIn, held, heldPairs
 use Rattle.method.specs.Counts.{countsTo}
 use Rattle.method.specs.Settle.{Sight, Turn, rowsOfTurn}
 use Rattle.method.specs.Step.{wantedFrom, newRows, newPairs, turnOf, sightOf, turnsTo, stampsNow, countsStored, countBefore, keptStored, openStored, countAfter, countsAfter, turn, entriesNow, storedNow, crowdedNow, reportedNow, reportNow, latestStored}
+use Rattle.method.proofs.Least.{least-most, least-below, least-grows}
 use Rattle.method.proofs.Counted.{Counted, counted-most, counted-is, count-counted, counts-length, counts-right, counts-grow, upto-holds}
 use Rattle.method.proofs.Lists.{gather-each, select-run}
-use Rattle.method.proofs.Keeps.{wanted-low, held-is, heldPairs-is, entries-run}
+use Rattle.method.proofs.Keeps.{wanted-low, count-of, held-is, heldPairs-is, entries-run}
 use Rattle.method.proofs.Seen.{Sees, pairsBefore}
-use Rattle.method.proofs.Bounds.{Placed, at-last, with-parent, placed, wanted-under, wanted-moves}
-use Rattle.method.proofs.Turns.{any-over, least-below, least-most, least-grows, drop-points, gather-over, from-getD, points-length, getD-points, map-points, map-append, Ready, new-rows, new-pairs, atom-counted, turns-at, turns-seen}
+use Rattle.method.proofs.Bounds.{below, Placed, at-last, with-parent, placed, wanted-under, wanted-moves}
+use Rattle.method.proofs.Turns.{any-over, drop-points, gather-over, from-getD, points-length, getD-points, map-points, map-append, Ready, new-rows, new-pairs, atom-counted, turns-at, turns-seen}
 use Rattle.method.proofs.Newly.{newly-run}
 
 -- no point, no time
@@ -53,14 +55,11 @@ module _ (b : List ℕ) (a : Accepted) (ok : checking b ≡ given a) (l : Log) (
   abbrev was : ℕ → ℕ
   was x = settledCount l (formulaAt b x)
 
-  was-counted : (x : ℕ) → x < nodeCount b → Counted l (formulaAt b x) (was x)
-  was-counted x o = count-counted l (formulaAt b x) ordered (fine b a ok x o)
-
   abbrev base : Point
   base = firstRetained (size l) (map was (range 0 (nodeCount b)))
 
   base-low : (x : ℕ) → x < nodeCount b → base .0 ≤ was x - 1
-  base-low x o = let h : leastOf (size l) (map was (range 0 (nodeCount b))) ≤ was x = least-below (size l) was 0 (nodeCount b) x (omega arith) (omega arith) in omega arith
+  base-low x o = let h : leastOf (size l) (map was (range 0 (nodeCount b))) ≤ was x = least-below (size l) was (range 0 (nodeCount b)) x (range-of 0 (nodeCount b) (omega arith) (omega arith)) in omega arith
 
   base-size : base .0 ≤ size l
   base-size = let h : leastOf (size l) (map was (range 0 (nodeCount b))) ≤ size l = least-most (size l) (map was (range 0 (nodeCount b))) in omega arith
@@ -104,7 +103,7 @@ module _ (b : List ℕ) (a : Accepted) (ok : checking b ≡ given a) (l : Log) (
       ∙ sym
       (counted-is l (formulaAt b x) (getD (countsTo b (stampIn base timesOf) (size l) (λ y. base .0) (nodeCount b)) x 0)
       (counts-right b a ok l ordered (λ y. base .0)
-      (λ y q i u. upto-holds (settled l (formulaAt b y)) (was y) (was-counted y q) i (omega (arith, base-low y q)))
+      (λ y q i u. upto-holds (settled l (formulaAt b y)) (was y) (count-of b a ok l ordered y q) i (omega (arith, base-low y q)))
       (stampIn base timesOf) (λ y q i u v. stored-stamp i u v) x o))
 
   last-node : lastNode b < nodeCount b
@@ -125,7 +124,7 @@ module _ (b : List ℕ) (a : Accepted) (ok : checking b ≡ given a) (l : Log) (
 
   pub open-stored : openStored s ≡ openPoints b l
   unfolding openStored openPoints storedOf
-  open-stored = ap (λ k. size l - k) (count-before (lastNode b) last-node) ∙ open-run l (was (lastNode b)) (was-counted (lastNode b) last-node)
+  open-stored = ap (λ k. size l - k) (count-before (lastNode b) last-node) ∙ open-run l (was (lastNode b)) (count-of b a ok l ordered (lastNode b) last-node)
 
   pub kept-stored : keptStored s ≡ kept b l
   unfolding kept storedOf
@@ -157,7 +156,7 @@ module _ (b : List ℕ) (a : Accepted) (ok : checking b ≡ given a) (l : Log) (
     is-counted x o = count-counted l' (formulaAt b x) ordered' (fine b a ok x o)
 
     was-is : (x : ℕ) → x < nodeCount b → was x ≤ is x
-    was-is x o = counts-grow l l' grows (formulaAt b x) (was x) (is x) (was-counted x o) (is-counted x o)
+    was-is x o = counts-grow l l' grows (formulaAt b x) (was x) (is x) (count-of b a ok l ordered x o) (is-counted x o)
 
     -- the new point's time and rows
     new-point : getD l' (size l) beyond ≡ pointOf b w
@@ -193,7 +192,7 @@ module _ (b : List ℕ) (a : Accepted) (ok : checking b ≡ given a) (l : Log) (
         (sym
         (counted-is l' (formulaAt b x) (getD (countsTo b (stampsNow s w) (size l') (countBefore s) (nodeCount b)) x 0)
         (counts-right b a ok l' ordered' (countBefore s)
-        (λ y q i u. stays l l' grows (formulaAt b y) i (upto-holds (settled l (formulaAt b y)) (was y) (was-counted y q) i (omega (arith, count-before y q))))
+        (λ y q i u. stays l l' grows (formulaAt b y) i (upto-holds (settled l (formulaAt b y)) (was y) (count-of b a ok l ordered y q) i (omega (arith, count-before y q))))
         (stampsNow s w)
         (λ y q i u v. stamps-right i (omega (arith, count-before y q, base-low y q)) v) x o)))
 
@@ -251,7 +250,7 @@ module _ (b : List ℕ) (a : Accepted) (ok : checking b ≡ given a) (l : Log) (
         }
       where
         low : (y : ℕ) → List·Memᴰ y (childrenOf (nodeAt b x)) → y < x
-        low y m = lower b (nodeCount b) (accepted b a ok .each) x o x (omega arith) y m
+        low = below b a ok x o
 
     -- the pairs as the turn begins, and as it ends
     start-pairs : (x : ℕ) → x < nodeCount b → heldPairs (entries b l) x ≡ pairsBefore l' (formulaAt b x) (point (was x))
@@ -262,7 +261,7 @@ module _ (b : List ℕ) (a : Accepted) (ok : checking b ≡ given a) (l : Log) (
         go (passed e) = rw e
         go (failed e) =
             let d : was x ≡ 0 → ⊥ = eqb-false (was x) 0 e in
-            rw (pairs-by l l' grows (formulaAt b x) (fine b a ok x o) (point (was x - 1)) (upto-holds (settled l (formulaAt b x)) (was x) (was-counted x o) (point (was x - 1)) (omega arith)))
+            rw (pairs-by l l' grows (formulaAt b x) (fine b a ok x o) (point (was x - 1)) (upto-holds (settled l (formulaAt b x)) (was x) (count-of b a ok l ordered x o) (point (was x - 1)) (omega arith)))
 
     end-pairs : (x : ℕ) → pairsBefore l' (formulaAt b x) (point (is x)) ≡ lastPairs l' (formulaAt b x)
     unfolding lastPairs
@@ -285,7 +284,7 @@ module _ (b : List ℕ) (a : Accepted) (ok : checking b ≡ given a) (l : Log) (
       old-rows =
           map-points (held (entries b l) x) (vals l' (formulaAt b x)) (lo .0) (was x - lo .0)
           (λ j u v. held-is b a ok l ordered x o j u (omega (arith, lo-low))
-          ∙ steady-by l l' grows (formulaAt b x) (fine b a ok x o) j (upto-holds (settled l (formulaAt b x)) (was x) (was-counted x o) j (omega (arith, lo-low))))
+          ∙ steady-by l l' grows (formulaAt b x) (fine b a ok x o) j (upto-holds (settled l (formulaAt b x)) (was x) (count-of b a ok l ordered x o) j (omega (arith, lo-low))))
 
       made-rows : newRows (sight x) node (point (was x)) (is x - was x) (heldPairs (entries b l) x) ≡ map (vals l' (formulaAt b x)) (pointsFrom (point (was x)) (is x - was x))
       made-rows =
@@ -358,7 +357,7 @@ module _ (b : List ℕ) (a : Accepted) (ok : checking b ≡ given a) (l : Log) (
     counts-now = from-getD (countsAfter s w) (nodeCount b) is counts-many count-entry
 
     base-grows : base .0 ≤ firstRetained (size l') (map is (range 0 (nodeCount b))) .0
-    base-grows = let h : leastOf (size l) (map was (range 0 (nodeCount b))) ≤ leastOf (size l') (map is (range 0 (nodeCount b))) = least-grows (size l) (size l') was is 0 (nodeCount b) (omega (arith, size-grown)) (λ x u v. was-is x (omega arith)) in omega arith
+    base-grows = let h : leastOf (size l) (map was (range 0 (nodeCount b))) ≤ leastOf (size l') (map is (range 0 (nodeCount b))) = least-grows (size l) (size l') was is (range 0 (nodeCount b)) (omega (arith, size-grown)) (λ x m. was-is x (omega (arith, range-at 0 (nodeCount b) m))) in omega arith
 
     times-now : timesOf ++ getD w 0 0 ∷ [] ≡ map (λ i. time l' i .0) (pointsFrom base (size l' - base .0))
     times-now =
@@ -402,7 +401,7 @@ module _ (b : List ℕ) (a : Accepted) (ok : checking b ≡ given a) (l : Log) (
     -- ---- the figures
 
     newly : (x : ℕ) → x < nodeCount b → newlySettled l l' (formulaAt b x) ≡ pointsFrom (point (was x)) (is x - was x)
-    newly x o = newly-run l l' (formulaAt b x) (was x) (is x) (was-is x o) (was-counted x o) (is-counted x o)
+    newly x o = newly-run l l' (formulaAt b x) (was x) (is x) (was-is x o) (count-of b a ok l ordered x o) (is-counted x o)
 
     new-rows-right : (x : ℕ) → x < nodeCount b → (j : Point) → was x ≤ j .0 → j .0 < was x + (is x - was x) → rowsOfTurn (turn s w x) j ≡ vals l' (formulaAt b x) j
     new-rows-right x o j u v = turns-right x o .rows j (omega (arith, wanted-low b was x)) (omega (arith, was-is x o))

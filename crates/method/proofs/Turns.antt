@@ -1,55 +1,36 @@
 -- The nodes in turn: from what is stored of a log, each node's turn gives the evaluator's rows on the grown log, from the first point that is still consulted on, and its pairs there.
-use Prim.Native.Nat.{ℕ, zero, suc, _+_, _-_, _≤_, _<_, min}
-use native.Mathlib.Nat.{eq-or-lt-of-le}
+use Prim.Native.Nat.{ℕ, zero, suc, _+_, _-_, _≤_, _<_}
 use native.Mathlib.Omega.{arith}
 use mathlib.Core.Path.{_≡_, refl, sym, _∙_, ap, ap₂}
 use mathlib.Core.Bool.{Bool, true, _||_}
-use mathlib.Core.Logic.{_⊎_, inl, inr}
 use mathlib.Core.List.{List, [], _∷_, _++_, map, cons≢nil}
 use lib.ListN.{length, getD, drop, length-append, length-map, List·getD-append}
 use lib.Seq.{getD-append-seam, ext-getD}
+use lib.Dec.{ltb}
 use borrow.Author.Tests.{ne-eqb}
 use Rattle.meaning.specs.Lists.{any, range, gather}
 use Rattle.meaning.specs.Log.{Log, Row, Ordered, point, size, rowsAt, pointsFrom}
 use Rattle.meaning.specs.Formula.{Formula}
 use Rattle.meaning.specs.Evaluator.{vals}
 use Rattle.meaning.specs.Settled.{settled}
+use Rattle.meaning.specs.View.{viewOf, childrenIn}
 use Rattle.meaning.specs.RuleFile.{childrenOf, formulaOf}
 use Rattle.meaning.specs.Kept.{Entry}
 use Rattle.meaning.specs.declared.Point.{Point}
 use Rattle.meaning.specs.declared.Stamp.{Stamp}
 use Rattle.meaning.specs.declared.Node.{Node}
-use Rattle.meaning.specs.declared.Node.the-variants.{Atom, And, AndNot, Keep, Or, Exists, Previous, Next, Since, NotSince, Until, NotUntil, Once, Eventually}
+use Rattle.meaning.specs.declared.Times.{Times}
+use Rattle.meaning.specs.declared.Times.the-variants.{Here, Before, After, Past, Future}
 use Rattle.meaning.proofs.Fine.{Fine}
-use Rattle.method.specs.Stored.{leastOf}
 use Rattle.method.specs.Settle.{Sight, settle, Turn, rowsOfTurn}
 use Rattle.method.specs.Step
 use Rattle.method.specs.Step.{firstWanted, newRows, newPairs, turnOf, sightOf, turnsTo, noTurn}
+use Rattle.method.proofs.Views.{Branches, none, single, double, viewed}
 use Rattle.method.proofs.Counted.{Counted}
 use Rattle.meaning.proofs.Lists.{range-length}
-use Rattle.method.proofs.Seen.{Sees, pairsBefore, settle-right, pairs-right}
+use Rattle.method.proofs.Seen.{Sees, pairsBefore, settle-right}
 
 -- ---- lists
-
-pub least-below : (n : ℕ) (c : ℕ → ℕ) (a k y : ℕ) → a ≤ y → y < a + k → leastOf n (map c (range a k)) ≤ c y
-least-below n c a zero y u o = absurd (omega arith)
-least-below n c a (suc k) y u o = go (eq-or-lt-of-le u) (λ v. least-below n c (suc a) k y v (omega arith))
-  where
-    go : (a ≡ y) ⊎ (a < y) → (a < y → leastOf n (map c (range (suc a) k)) ≤ c y) → min (c a) (leastOf n (map c (range (suc a) k))) ≤ c y
-    go (inl e) rest = let h : c a ≡ c y = ap c e in omega arith
-    go (inr v) rest = omega (arith, rest v)
-
-pub least-most : (n : ℕ) (cs : List ℕ) → leastOf n cs ≤ n
-least-most n [] = omega arith
-least-most n (c ∷ cs) = omega (arith, least-most n cs)
-
-pub least-above : (v n : ℕ) (c : ℕ → ℕ) (a k : ℕ) → v ≤ n → ((x : ℕ) → a ≤ x → x < a + k → v ≤ c x) → v ≤ leastOf n (map c (range a k))
-least-above v n c a zero h g = h
-least-above v n c a (suc k) h g = omega (arith, g a (omega arith) (omega arith), least-above v n c (suc a) k h (λ x u o. g x (omega arith) (omega arith)))
-
-pub least-grows : (n n' : ℕ) (c c' : ℕ → ℕ) (a k : ℕ) → n ≤ n' → ((x : ℕ) → a ≤ x → x < a + k → c x ≤ c' x) → leastOf n (map c (range a k)) ≤ leastOf n' (map c' (range a k))
-least-grows n n' c c' a zero h g = h
-least-grows n n' c c' a (suc k) h g = omega (arith, g a (omega arith) (omega arith), least-grows n n' c c' (suc a) k h (λ x u o. g x (omega arith) (omega arith)))
 
 -- a list by its elements
 getD-range : (f : ℕ → ℕ) (a n k : ℕ) → k < n → getD (map f (range a n)) k 0 ≡ f (a + k)
@@ -107,7 +88,7 @@ module _ (v : Sight) (l : Log) (ordered : Ordered l) (F : ℕ → Formula) (n : 
 
   pub new-rows : (start : Point) (count : ℕ) → Sees v l F n start → ((j : Point) → start .0 ≤ j .0 → j .0 < start .0 + count → Ready j)
       → newRows v n start count (pairsBefore l (formulaOf F n) start) ≡ map (vals l (formulaOf F n)) (pointsFrom start count)
-  new-rows start count s h = map-points _ (vals l (formulaOf F n)) (start .0) count (λ j u o. let r = h j u o in settle-right v l ordered F start j u n s f (r .0) (r .1))
+  new-rows start count s h = map-points _ (vals l (formulaOf F n)) (start .0) count (λ j u o. let r = h j u o in settle-right v l ordered F start j u n s f (r .0) (r .1) .0)
 
   pub new-pairs : (start : Point) (count : ℕ) → Sees v l F n start → ((j : Point) → start .0 ≤ j .0 → j .0 < start .0 + count → Ready j)
       → newPairs v n start count (pairsBefore l (formulaOf F n) start) ≡ pairsBefore l (formulaOf F n) (point (start .0 + count))
@@ -115,41 +96,24 @@ module _ (v : Sight) (l : Log) (ordered : Ordered l) (F : ℕ → Formula) (n : 
   new-pairs start (suc count) s h =
       let z : start .0 + suc count - 1 ≡ start .0 + count = omega arith in
       rw (ne-eqb (start .0 + suc count) 0 (λ d. omega arith), z)
-      (pairs-right v l ordered F start (point (start .0 + count)) (omega arith) n s f (h (point (start .0 + count)) (omega arith) (omega arith) .0))
+      (let r = h (point (start .0 + count)) (omega arith) (omega arith) in settle-right v l ordered F start (point (start .0 + count)) (omega arith) n s f (r .0) (r .1) .1)
 
 -- an atom has settled every point
 pub atom-counted : (l : Log) (F : ℕ → Formula) (n : Node) → childrenOf n ≡ [] → Counted l (formulaOf F n) (size l)
-atom-counted l F (Atom r t) e = λ i. refl
-atom-counted l F (And a b) e = absurd (cons≢nil e)
-atom-counted l F (AndNot a b) e = absurd (cons≢nil e)
-atom-counted l F (Keep a c s) e = absurd (cons≢nil e)
-atom-counted l F (Or a b) e = absurd (cons≢nil e)
-atom-counted l F (Exists a x) e = absurd (cons≢nil e)
-atom-counted l F (Previous a w) e = absurd (cons≢nil e)
-atom-counted l F (Next a w) e = absurd (cons≢nil e)
-atom-counted l F (Since a b w) e = absurd (cons≢nil e)
-atom-counted l F (NotSince a b w) e = absurd (cons≢nil e)
-atom-counted l F (Until a b w) e = absurd (cons≢nil e)
-atom-counted l F (NotUntil a b w) e = absurd (cons≢nil e)
-atom-counted l F (Once a w) e = absurd (cons≢nil e)
-atom-counted l F (Eventually a w) e = absurd (cons≢nil e)
+atom-counted l F n e i = go (viewed F n .shape)
+  where
+    go : Branches (viewOf n) → settled l (formulaOf F n) i ≡ ltb (i .0) (size l)
+    go (none c t) = viewed F n .settles l i ∙ rw (c, t)
+    go (single a c) = absurd (cons≢nil (sym (ap childrenIn c) ∙ e))
+    go (double a b c p) = absurd (cons≢nil (sym (ap childrenIn c) ∙ e))
 
 -- what is first wanted of a child moves on with its parent
-pub wanted-on : (n : Node) (p q : ℕ) → p ≤ q → firstWanted n p .0 ≤ firstWanted n q .0
-wanted-on (Atom r t) p q h = h
-wanted-on (And a b) p q h = h
-wanted-on (AndNot a b) p q h = h
-wanted-on (Keep a c s) p q h = h
-wanted-on (Or a b) p q h = h
-wanted-on (Exists a x) p q h = h
-wanted-on (Previous a w) p q h = omega arith
-wanted-on (Next a w) p q h = omega arith
-wanted-on (Since a b w) p q h = h
-wanted-on (NotSince a b w) p q h = h
-wanted-on (Until a b w) p q h = h
-wanted-on (NotUntil a b w) p q h = h
-wanted-on (Once a w) p q h = h
-wanted-on (Eventually a w) p q h = h
+pub wanted-on : (t : Times) (p q : ℕ) → p ≤ q → firstWanted t p .0 ≤ firstWanted t q .0
+wanted-on Here p q h = h
+wanted-on Before p q h = omega arith
+wanted-on After p q h = omega arith
+wanted-on Past p q h = h
+wanted-on Future p q h = h
 
 -- ---- the turns, one after the other
 

@@ -7,6 +7,7 @@ use mathlib.Core.List.{List, [], _∷_, List·Memᴰ}
 use borrow.Author.Tests.{ltb-true, ltb-false}
 use Rattle.meaning.specs.Lists.{range, gather}
 use Rattle.meaning.specs.Outcome.{given}
+use Rattle.meaning.specs.View.{viewOf}
 use Rattle.meaning.specs.RuleFile.{Accepted, checking, nodeCount, nodeAt, childrenOf, lastNode, timesChild, oneIf}
 use Rattle.meaning.proofs.Accepted.{accepted, last-is-node}
 use Rattle.meaning.proofs.Lists.{range-length}
@@ -99,7 +100,7 @@ module _ (b : List ℕ) (a : Accepted) (ok : checking b ≡ given a) where
   nodes-split =
       rw (whole-weight (otherAt b), whole-weight (previousAt b))
       (sym (sum-plus (otherAt b) (previousAt b) (range 0 (nodeCount b)))
-      ∙ sum-same (λ x. otherAt b x + previousAt b x) (λ x. 1) (range 0 (nodeCount b)) (λ x m. either (isPrevious (nodeAt b x)))
+      ∙ sum-same (λ x. otherAt b x + previousAt b x) (λ x. 1) (range 0 (nodeCount b)) (λ x m. either (isPrevious (viewOf (nodeAt b x) .times)))
       ∙ omega (arith, sum-each 1 (range 0 (nodeCount b)), range-length 0 (nodeCount b)))
     where
       either : (t : Bool) → oneIf (not t) + oneIf t ≡ 1

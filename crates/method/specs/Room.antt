@@ -7,9 +7,10 @@ use lib.Dec.{ltb}
 use Rattle.meaning.specs.Lists.{gather, total}
 use Rattle.meaning.specs.Log.{pointsFrom}
 use Rattle.meaning.specs.Outcome.{mostRows, mostOpen, mostKept}
+use Rattle.meaning.specs.View.{viewOf}
 use Rattle.meaning.specs.RuleFile.{nodeCount, nodeAt, childrenOf, lastNode, oneIf}
-use Rattle.meaning.specs.declared.Node.{Node}
-use Rattle.meaning.specs.declared.Node.the-variants.{Atom, And, AndNot, Keep, Or, Exists, Previous, Next, Since, NotSince, Until, NotUntil, Once, Eventually}
+use Rattle.meaning.specs.declared.Times.{Times}
+use Rattle.meaning.specs.declared.Times.the-variants.{Here, Before, After, Past, Future}
 use Rattle.method.specs.Stored.{Stored, held}
 use Rattle.method.specs.Step.{wantedFrom, countBefore, countAfter}
 
@@ -22,27 +23,19 @@ madeWithin make (suc depth) x = make (madeWithin make depth) x
 unfoldable pub weight : List ℕ → (ℕ → ℕ) → ℕ → ℕ
 weight b own x = madeWithin (λ below y. own y + total (map below (childrenOf (nodeAt b y)))) (suc x) x
 
-abbrev pub isPrevious : Node → Bool
-isPrevious (Atom r t) = false
-isPrevious (And a b) = false
-isPrevious (AndNot a b) = false
-isPrevious (Keep a c s) = false
-isPrevious (Or a b) = false
-isPrevious (Exists a x) = false
-isPrevious (Previous a w) = true
-isPrevious (Next a w) = false
-isPrevious (Since a b w) = false
-isPrevious (NotSince a b w) = false
-isPrevious (Until a b w) = false
-isPrevious (NotUntil a b w) = false
-isPrevious (Once a w) = false
-isPrevious (Eventually a w) = false
+-- only "previous" looks at the point before
+abbrev pub isPrevious : Times → Bool
+isPrevious Here = false
+isPrevious Before = true
+isPrevious After = false
+isPrevious Past = false
+isPrevious Future = false
 
 abbrev pub previousAt : List ℕ → ℕ → ℕ
-previousAt b x = oneIf (isPrevious (nodeAt b x))
+previousAt b x = oneIf (isPrevious (viewOf (nodeAt b x) .times))
 
 abbrev pub otherAt : List ℕ → ℕ → ℕ
-otherAt b x = oneIf (not (isPrevious (nodeAt b x)))
+otherAt b x = oneIf (not (isPrevious (viewOf (nodeAt b x) .times)))
 
 -- how many nodes of a tree are "previous", and how many are others. Each "previous" adds a point to what the nodes below it newly settle, and none to the number of nodes whose sets stand at once; so they are counted apart.
 abbrev pub previousIn : List ℕ → ℕ → ℕ

@@ -1,6 +1,6 @@
 -- One node at a newly settled point: its valuations, and the pairs of since, from its children's rows and the pairs that were held before.
 use Prim.Native.Nat.{ℕ, zero, suc, _+_, _-_, min}
-use mathlib.Core.Bool.{Bool, true, not, cond, _&&_}
+use mathlib.Core.Bool.{Bool, true, false, not, cond, _&&_}
 use mathlib.Core.List.{List, [], _∷_, _++_, map}
 use lib.ListN.{getD, drop}
 use lib.Dec.{ltb, eqb}
@@ -8,12 +8,17 @@ use Rattle.meaning.specs.Lists.{all, select, gather}
 use Rattle.meaning.specs.Log.{Row, elapsed, pointBefore, pointAfter, pointsFrom}
 use Rattle.meaning.specs.Formula.{termsOf, inWindow, compares}
 use Rattle.meaning.specs.Definition2.{value}
-use Rattle.meaning.specs.Evaluator.{cutTo, valuationOf, setOf, atomRows, andRows, lasting, untilRows}
+use Rattle.meaning.specs.Evaluator.{cutTo, valuationOf, setOf, atomRows, andRows, lasting, untilRows, lookUp}
+use Rattle.meaning.specs.View.{passes}
 use Rattle.meaning.specs.Kept.{belowEnd, countedAge}
-use Rattle.rowset.specs.Rows.{lookUp}
 use Rattle.meaning.specs.declared.Point.{Point}
 use Rattle.meaning.specs.declared.Stamp.{Stamp}
 use Rattle.meaning.specs.declared.Window.{Window}
+use Rattle.meaning.specs.declared.Children.{Children}
+use Rattle.meaning.specs.declared.Children.the-variants.{None, One, Two}
+use Rattle.meaning.specs.declared.Times.{Times}
+use Rattle.meaning.specs.declared.Times.the-variants.{Here, Before, After, Past, Future}
+use Rattle.meaning.specs.declared.View.{View}
 use Rattle.meaning.specs.declared.Node.{Node}
 use Rattle.meaning.specs.declared.Node.the-variants.{Atom, And, AndNot, Keep, Or, Exists, Previous, Next, Since, NotSince, Until, NotUntil, Once, Eventually}
 
@@ -80,22 +85,29 @@ candidates v held start i (Eventually a w) = untilRows (v .stamps) (v .count a) 
 unfoldable pub settle : Sight → List (List ℕ) → Point → Point → Node → List (List ℕ)
 settle v held start i node = setOf (candidates v held start i node)
 
+-- left and right of since and until; where there is one child, it is right, and nothing is asked of left
+abbrev pub leftOf : Children → ℕ
+leftOf None = 0
+leftOf (One a) = a
+leftOf (Two a b) = a
+
+abbrev pub rightOf : Children → ℕ
+rightOf None = 0
+rightOf (One a) = a
+rightOf (Two a b) = b
+
+-- only since has pairs
+abbrev pub hasPairs : Times → Bool
+hasPairs Here = false
+hasPairs Before = false
+hasPairs After = false
+hasPairs Past = true
+hasPairs Future = false
+
 -- the pairs there
-abbrev pub pairsAfter : Sight → List (List ℕ) → Point → Point → Node → List (List ℕ)
-pairsAfter v held start i (Atom r t) = []
-pairsAfter v held start i (And a b) = []
-pairsAfter v held start i (AndNot a b) = []
-pairsAfter v held start i (Keep a c s) = []
-pairsAfter v held start i (Or a b) = []
-pairsAfter v held start i (Exists a x) = []
-pairsAfter v held start i (Previous a w) = []
-pairsAfter v held start i (Next a w) = []
-pairsAfter v held start i (Since a b w) = setOf (pairsSince (v .stamps) w (found v a) (v .rows b) held start i)
-pairsAfter v held start i (NotSince a b w) = setOf (pairsSince (v .stamps) w (λ u k. not (found v a u k)) (v .rows b) held start i)
-pairsAfter v held start i (Until a b w) = []
-pairsAfter v held start i (NotUntil a b w) = []
-pairsAfter v held start i (Once a w) = setOf (pairsSince (v .stamps) w (λ u k. true) (v .rows a) held start i)
-pairsAfter v held start i (Eventually a w) = []
+abbrev pub pairsAfter : Sight → List (List ℕ) → Point → Point → View → List (List ℕ)
+pairsAfter v held start i node =
+    cond (hasPairs (node .times)) (setOf (pairsSince (v .stamps) (node .window) (λ u k. passes (node .left) (found v (leftOf (node .children)) u k)) (v .rows (rightOf (node .children))) held start i)) []
 
 -- What a node's turn gives: its rows from point low on, and its pairs at its last settled point.
 pub record Turn : Type 0 where

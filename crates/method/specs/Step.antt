@@ -8,6 +8,7 @@ use Rattle.meaning.specs.Lists.{any, range, select, gather}
 use Rattle.meaning.specs.Outcome.{Outcome, refused, given, mostRows}
 use Rattle.meaning.specs.Log.{Row, point, stamp, pointsFrom}
 use Rattle.meaning.specs.Formula.{free, variables}
+use Rattle.meaning.specs.View.{viewOf}
 use Rattle.meaning.specs.RuleFile.{nodeCount, nodeAt, formulaAt, lastNode, pattern}
 use Rattle.meaning.specs.Kept.{Entry, entryOf, parentOf}
 use Rattle.meaning.specs.Event.{pointOf}
@@ -16,31 +17,23 @@ use Rattle.meaning.specs.Keeper.{Taking, Given, reportRow, admitted, weighed, b
 use Rattle.meaning.specs.declared.Point.{Point}
 use Rattle.meaning.specs.declared.Stamp.{Stamp}
 use Rattle.meaning.specs.declared.Node.{Node}
-use Rattle.meaning.specs.declared.Node.the-variants.{Atom, And, AndNot, Keep, Or, Exists, Previous, Next, Since, NotSince, Until, NotUntil, Once, Eventually}
+use Rattle.meaning.specs.declared.Times.{Times}
+use Rattle.meaning.specs.declared.Times.the-variants.{Here, Before, After, Past, Future}
 use Rattle.method.specs.Stored.{Stored, baseOf, stampIn, held, heldPairs, firstRetained}
 use Rattle.method.specs.Counts.{countsTo}
 use Rattle.method.specs.Settle.{Sight, settle, pairsAfter, Turn, rowsOfTurn}
 
 -- the first point of a child that an unsettled point of its parent consults, with p points of the parent settled
-abbrev pub firstWanted : Node → ℕ → Point
-firstWanted (Atom r t) p = point p
-firstWanted (And a b) p = point p
-firstWanted (AndNot a b) p = point p
-firstWanted (Keep a c s) p = point p
-firstWanted (Or a b) p = point p
-firstWanted (Exists a x) p = point p
-firstWanted (Previous a w) p = point (p - 1)
-firstWanted (Next a w) p = point (p + 1)
-firstWanted (Since a b w) p = point p
-firstWanted (NotSince a b w) p = point p
-firstWanted (Until a b w) p = point p
-firstWanted (NotUntil a b w) p = point p
-firstWanted (Once a w) p = point p
-firstWanted (Eventually a w) p = point p
+abbrev pub firstWanted : Times → ℕ → Point
+firstWanted Here p = point p
+firstWanted Before p = point (p - 1)
+firstWanted After p = point (p + 1)
+firstWanted Past p = point p
+firstWanted Future p = point p
 
 -- the first point from which node x keeps its rows; the last node keeps none
 unfoldable pub wantedFrom : List ℕ → (ℕ → ℕ) → ℕ → Point
-wantedFrom b count x = point (cond (eqb x (lastNode b)) (count x) (min (count x) (firstWanted (nodeAt b (parentOf b x)) (count (parentOf b x)) .0)))
+wantedFrom b count x = point (cond (eqb x (lastNode b)) (count x) (min (count x) (firstWanted (viewOf (nodeAt b (parentOf b x)) .times) (count (parentOf b x)) .0)))
 
 -- a node's rows at newly settled points, and its pairs at the last of them
 abbrev pub newRows : Sight → Node → Point → ℕ → List (List ℕ) → List (List (List ℕ))
@@ -48,7 +41,7 @@ newRows v node start count held = map (λ i. settle v held start i node) (points
 
 abbrev pub newPairs : Sight → Node → Point → ℕ → List (List ℕ) → List (List ℕ)
 newPairs v node start zero held = held
-newPairs v node start (suc count) held = pairsAfter v held start (point (start .0 + count)) node
+newPairs v node start (suc count) held = pairsAfter v held start (point (start .0 + count)) (viewOf node)
 
 -- the turn of node x, which had settled as many points as before says and now has as many as after says
 unfoldable pub turnOf : List ℕ → List Entry → (ℕ → ℕ) → (ℕ → ℕ) → Sight → ℕ → Turn

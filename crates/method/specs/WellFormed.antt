@@ -1,7 +1,7 @@
 -- When what is stored is well formed: the conditions of refusal 8, as docs/STATE.md lists them. What a log stores is so (proofs/Reached.antt).
 use Prim.Native.Nat.{ℕ, _-_, _≤_, _<_}
 use mathlib.Core.Path.{_≡_}
-use mathlib.Core.Bool.{Bool, true, false, _&&_}
+use mathlib.Core.Bool.{Bool, true, false, cond, _&&_}
 use mathlib.Core.List.{List, [], _∷_, _++_, map}
 use lib.ListN.{length, getD, drop}
 use lib.Dec.{leb, eqb}
@@ -11,13 +11,14 @@ use Rattle.meaning.specs.Order.{ascending}
 use Rattle.meaning.specs.Log.{pointsFrom}
 use Rattle.meaning.specs.Formula.{free}
 use Rattle.meaning.specs.Evaluator.{cutTo, valuationOf}
+use Rattle.meaning.specs.View.{viewOf}
 use Rattle.meaning.specs.RuleFile.{Accepted, checking, nodeCount, nodeAt, formulaAt, isAccepted}
 use Rattle.meaning.specs.Kept.{belowEnd, countedAge, Entry, entryOf}
 use Rattle.meaning.specs.declared.Point.{Point}
 use Rattle.meaning.specs.declared.Window.{Window}
-use Rattle.meaning.specs.declared.Node.{Node}
-use Rattle.meaning.specs.declared.Node.the-variants.{Atom, And, AndNot, Keep, Or, Exists, Previous, Next, Since, NotSince, Until, NotUntil, Once, Eventually}
+use Rattle.meaning.specs.declared.View.{View}
 use Rattle.method.specs.Stored.{Stored, held, heldPairs, firstRetained}
+use Rattle.method.specs.Settle.{hasPairs}
 use Rattle.method.specs.Step.{wantedFrom, countsStored, countBefore, openStored}
 
 -- times at most: 32 open points, one more for each step down the tree, and the last that all nodes have settled
@@ -52,21 +53,8 @@ abbrev pub pairFits : List ℕ → ℕ → Window → List ℕ → Bool
 pairFits b x w p = belowEnd w (getD p 0 0) && eqb (countedAge w (getD p 0 0)) (getD p 0 0) && rowOfNode b x (drop 1 p)
 
 -- pairs are strictly ascending, and only kinds 9, 10 and 13 have any
-abbrev pub pairsFit : List ℕ → ℕ → Node → List (List ℕ) → Bool
-pairsFit b x (Atom r t) ps = eqb (length ps) 0
-pairsFit b x (And a c) ps = eqb (length ps) 0
-pairsFit b x (AndNot a c) ps = eqb (length ps) 0
-pairsFit b x (Keep a c s) ps = eqb (length ps) 0
-pairsFit b x (Or a c) ps = eqb (length ps) 0
-pairsFit b x (Exists a v) ps = eqb (length ps) 0
-pairsFit b x (Previous a w) ps = eqb (length ps) 0
-pairsFit b x (Next a w) ps = eqb (length ps) 0
-pairsFit b x (Since a c w) ps = ascending ps && all (pairFits b x w) ps
-pairsFit b x (NotSince a c w) ps = ascending ps && all (pairFits b x w) ps
-pairsFit b x (Until a c w) ps = eqb (length ps) 0
-pairsFit b x (NotUntil a c w) ps = eqb (length ps) 0
-pairsFit b x (Once a w) ps = ascending ps && all (pairFits b x w) ps
-pairsFit b x (Eventually a w) ps = eqb (length ps) 0
+abbrev pub pairsFit : List ℕ → ℕ → View → List (List ℕ) → Bool
+pairsFit b x v ps = cond (hasPairs (v .times)) (ascending ps && all (pairFits b x (v .window)) ps) (eqb (length ps) 0)
 
 module _ (s : Stored) where
   -- the entries of node x, in their order: its rows at each point that is still consulted, and its pairs
@@ -78,7 +66,7 @@ module _ (s : Stored) where
   unfoldable pub nodeFits : ℕ → Bool
   nodeFits x =
       all (λ j. setFits (s .rule) x (held (s .entries) x j)) (pointsFrom (wantedFrom (s .rule) (countBefore s) x) (countBefore s x - wantedFrom (s .rule) (countBefore s) x .0))
-      && pairsFit (s .rule) x (nodeAt (s .rule) x) (heldPairs (s .entries) x)
+      && pairsFit (s .rule) x (viewOf (nodeAt (s .rule) x)) (heldPairs (s .entries) x)
 
   unfoldable pub wellFormed : Bool
   unfolding ownEntries nodeFits

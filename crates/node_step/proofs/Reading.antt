@@ -7,9 +7,9 @@ use lib.ListN.{getD}
 use Rattle.meaning.specs.Log.{point}
 use Rattle.method.proofs.Seen.{one, two}
 use Rattle.room.specs.declared.Child.{Child}
-use Rattle.rulenodes.specs.Children.{childrenIn}
-use Rattle.rulenodes.specs.declared.Children.{Children}
-use Rattle.rulenodes.specs.declared.Children.the-variants.{None, One, Two}
+use Rattle.meaning.specs.View.{childrenIn}
+use Rattle.meaning.specs.declared.Children.{Children}
+use Rattle.meaning.specs.declared.Children.the-variants.{None, One, Two}
 use Rattle.node_step.specs.Figures.{maskIn, lowIn, afterIn}
 use Rattle.node_step.specs.Parts.{childIn, ChildFigures, ChildSetsAre}
 

@@ -5,6 +5,7 @@ use mathlib.Core.Path.{_≡_, refl, sym, ap, ap₂, _∙_}
 use mathlib.Core.List.{List, [], _∷_, List·Memᴰ}
 use lib.ListN.{length, getD}
 use Rattle.meaning.specs.Log.{point}
+use Rattle.meaning.specs.View.{viewOf}
 use Rattle.meaning.specs.RuleFile.{nodeCount, nodeAt, childrenOf}
 use Rattle.meaning.specs.Event.{pointOf}
 use Rattle.meaning.specs.declared.Point.{Point}
@@ -37,7 +38,7 @@ module _ {s : Stored} {w os ns vs stamps f : List ℕ} (g : CallReady s w os ns 
   module _ (rows at : List ℕ) (n : ℕ) where
     module _ (y : ℕ) (first : ℕ) (c : ChildStands s w rows at n y first) where
       -- a child's sets are among the first, from where the node's first new point consults them
-      reaches : List·Memᴰ y (childrenOf (nodeAt (s .rule) x)) → (m : ℕ) → n ≤ m → Reaches m (firstWanted (nodeAt (s .rule) x) (countBefore s x) .0) (countAfter s w y) (childIn f y first)
+      reaches : List·Memᴰ y (childrenOf (nodeAt (s .rule) x)) → (m : ℕ) → n ≤ m → Reaches m (firstWanted (viewOf (nodeAt (s .rule) x) .times) (countBefore s x) .0) (countAfter s w y) (childIn f y first)
       reaches h m o =
           let k = g .each y (lower y h) in
           record {
@@ -64,7 +65,7 @@ module _ {s : Stored} {w os ns vs stamps f : List ℕ} (g : CallReady s w os ns 
 
     -- the same of all children
     reach-all : (cs : List ℕ) → ((y : ℕ) → List·Memᴰ y cs → List·Memᴰ y (childrenOf (nodeAt (s .rule) x))) → (p q : ℕ) (left right : Child) → ChildSetsAre f cs p q left right → ChildrenStand s w rows at n cs p q → (m : ℕ) → n ≤ m
-        → ChildrenReach m (firstWanted (nodeAt (s .rule) x) (countBefore s x) .0) (countAfter s w) cs left right
+        → ChildrenReach m (firstWanted (viewOf (nodeAt (s .rule) x) .times) (countBefore s x) .0) (countAfter s w) cs left right
     reach-all [] i p q left right e c m o = tt
     reach-all (y ∷ []) i p q left right e c m o = rw e (reaches y p c (i y one) m o)
     reach-all (y ∷ z ∷ zs) i p q left right e c m o = rw (e .0, e .1) (reaches y p (c .0) (i y one) m o, reaches z q (c .1) (i z two) m o)
@@ -90,4 +91,4 @@ module _ {s : Stored} {w os ns vs stamps f : List ℕ} (g : CallReady s w os ns 
       asks oldAges oldValues h m o i u v rows' at' laid =
           point-asks (s .rule) w oldAges oldValues left right (point (countBefore s x)) i (countAfter s w) laid h (g .event) u (nodeAt (s .rule) x) (as-many (s .rule) x (accepted (s .rule) (a g) (ok g) .each x l))
           (reach-all (childrenOf (nodeAt (s .rule) x)) (λ y k. k) p q left right e c m o)
-          (consults (stampsNow s w) (s .points + 1) (countAfter s w) (countBefore s x) (nodeAt (s .rule) x) i u (rw (after-step s (a g) (ok g) (g .formed .few-times) (g .formed .times-many) w x l) at v))
+          (consults (stampsNow s w) (s .points + 1) (countAfter s w) (countBefore s x) (viewOf (nodeAt (s .rule) x)) i u (rw (after-step s (a g) (ok g) (g .formed .few-times) (g .formed .times-many) w x l) at v))

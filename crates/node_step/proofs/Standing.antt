@@ -1,23 +1,29 @@
--- What stands at a newly settled point: from where its children's sets are to what its kind asks for.
-use Prim.Native.Nat.{ℕ, _+_, _-_, _≤_, _<_, min}
+-- What stands at a newly settled point: from where its children's sets are to what the node asks for.
+use Prim.Native.Nat.{ℕ, _+_, _-_, _≤_, _<_}
 use native.Mathlib.Omega.{arith}
-use mathlib.Core.Path.{_≡_, refl}
-use mathlib.Core.List.{List, [], _∷_}
+use mathlib.Core.Path.{_≡_}
+use mathlib.Core.List.{List, [], _∷_, List·Memᴰ}
 use lib.ListN.{length}
 use Rattle.meaning.specs.Log.{point, pointBefore}
+use Rattle.meaning.specs.View.{viewOf, childrenIn}
 use Rattle.meaning.specs.RuleFile.{arity, childrenOf}
 use Rattle.meaning.specs.declared.Point.{Point}
 use Rattle.meaning.specs.declared.Terms.{Terms}
 use Rattle.meaning.specs.declared.Node.{Node}
-use Rattle.meaning.specs.declared.Node.the-variants.{Atom, And, AndNot, Keep, Or, Exists, Previous, Next, Since, NotSince, Until, NotUntil, Once, Eventually}
-use Rattle.method.specs.Counts.{Consults}
+use Rattle.meaning.specs.declared.Node.the-variants.{Atom}
+use Rattle.meaning.specs.declared.Children.{Children}
+use Rattle.meaning.specs.declared.Children.the-variants.{None, One, Two}
+use Rattle.meaning.specs.declared.Times.{Times}
+use Rattle.meaning.specs.declared.Times.the-variants.{Here, Before, After, Past, Future}
+use Rattle.method.specs.Counts.{ConsultsBy, Consults}
 use Rattle.method.specs.Step.{firstWanted}
+use Rattle.method.proofs.Seen.{one, two}
 use Rattle.kinds.specs.Kinds.{EventThere, PairsThere}
 use Rattle.room.specs.Room.{Laid}
 use Rattle.room.specs.declared.Child.{Child}
 use Rattle.room.proofs.Laid.{laid-fewer}
 use Rattle.untils.specs.Until.{Stand}
-use Rattle.settling.specs.Sights.{asked, untilThere, sinceThere}
+use Rattle.settling.specs.Sights.{ChildThere, ChildrenThere, asked}
 
 -- a child that has settled count points has its sets among the first n, from a point on that is at most `wanted`
 pub record Reaches (n wanted count : ℕ) (c : Child) : Type 0 where
@@ -43,29 +49,19 @@ module _ {rows at : List ℕ} {n wanted count : ℕ} {c : Child} (laid : Laid ro
 
 module _ (b w : List ℕ) {rows at : List ℕ} (oldAges oldValues : List ℕ) (left right : Child) (start i : Point) {n : ℕ} (counts : ℕ → ℕ)
     (laid : Laid rows at n) (pairs : PairsThere oldAges oldValues (length oldAges)) (event : EventThere w) (l : start .0 ≤ i .0) where
-  both-until : {x y : ℕ} {c d : Child} → Reaches n (start .0) (counts x) c → Reaches n (start .0) (counts y) d → i .0 < min (counts x) (counts y) → untilThere b w rows at oldAges oldValues left right start i c d
-  both-until {x} {y} {c} {d} g h o =
-      let e : min (c .count) (d .count) ≡ min (counts x) (counts y) = rw (g .counted, h .counted) in
-      rw e
-      (child-stands laid g i (min (counts x) (counts y)) l (omega arith) (omega arith), child-stands laid h i (min (counts x) (counts y)) l (omega arith) (omega arith))
+  -- a child's sets, as the node's times look at them
+  child-there : (t : Times) {count : ℕ} {c : Child} → Reaches n (firstWanted t (start .0) .0) count c → ConsultsBy count i t → ChildThere rows at start i t c
+  child-there Here r u = record { sets = child-at laid r i l u; settled = omega (arith, r .counted) }
+  child-there Before r u = record { sets = λ o. child-at laid r (pointBefore i) (omega arith) (u o); settled = λ o. omega (arith, r .counted, u o) }
+  child-there After r u = record { sets = child-at laid r (point (i .0 + 1)) (omega arith) u; settled = omega (arith, r .counted) }
+  child-there Past r u = record { sets = child-stands laid r start (i .0 + 1) (omega arith) (omega arith) (omega arith); settled = omega (arith, r .counted) }
+  child-there Future {count} {c} r u = record { sets = child-stands laid r i (c .count) l (omega (arith, r .counted)) (omega (arith, r .counted)); settled = omega (arith, r .counted) }
 
-  both-since : {x y : ℕ} {c d : Child} → Reaches n (start .0) (counts x) c → Reaches n (start .0) (counts y) d → i .0 < counts x → i .0 < counts y → sinceThere b w rows at oldAges oldValues left right start i c d
-  both-since g h o u =
-      (child-stands laid g start (i .0 + 1) (omega arith) (omega arith) (omega arith), child-stands laid h start (i .0 + 1) (omega arith) (omega arith) (omega arith), omega (arith, g .counted), omega (arith, h .counted), pairs)
+  children-there : (t : Times) (cs : Children) → ChildrenReach n (firstWanted t (start .0) .0) counts (childrenIn cs) left right → ((y : ℕ) → List·Memᴰ y (childrenIn cs) → ConsultsBy (counts y) i t) → ChildrenThere rows at start i t left right cs
+  children-there t None s u = tt
+  children-there t (One x) s u = child-there t s (u x one)
+  children-there t (Two x y) s u = (child-there t (s .0) (u x one), child-there t (s .1) (u y two))
 
-  pub point-asks : (node : Node) → ((r : ℕ) (t : Terms) → node ≡ Atom r t → arity b r ≡ t .count) → ChildrenReach n (firstWanted node (start .0) .0) counts (childrenOf node) left right → Consults counts i node
+  pub point-asks : (node : Node) → ((r : ℕ) (t : Terms) → node ≡ Atom r t → arity b r ≡ t .count) → ChildrenReach n (firstWanted (viewOf node .times) (start .0) .0) counts (childrenOf node) left right → Consults counts i (viewOf node)
       → asked b w rows at oldAges oldValues left right start i node
-  point-asks (Atom r t) a s u = (event, a r t refl)
-  point-asks (And x y) a s u = (child-at laid (s .0) i l (u .0), child-at laid (s .1) i l (u .1), omega (arith, s .0 .counted, u), omega (arith, s .1 .counted, u))
-  point-asks (AndNot x y) a s u = (child-at laid (s .0) i l (u .0), child-at laid (s .1) i l (u .1), omega (arith, s .0 .counted, u), omega (arith, s .1 .counted, u))
-  point-asks (Keep x c t) a s u = (child-at laid s i l u, omega (arith, s .counted))
-  point-asks (Or x y) a s u = (child-at laid (s .0) i l (u .0), child-at laid (s .1) i l (u .1), omega (arith, s .0 .counted, u), omega (arith, s .1 .counted, u))
-  point-asks (Exists x v) a s u = (child-at laid s i l u, omega (arith, s .counted))
-  point-asks (Previous x v) a s u = λ o. (child-at laid s (pointBefore i) (omega arith) (u o), omega (arith, s .counted, u o))
-  point-asks (Next x v) a s u = (omega (arith, s .counted, u), child-at laid s (point (i .0 + 1)) (omega arith) u)
-  point-asks (Since x y v) a s u = both-since (s .0) (s .1) (u .0) (u .1)
-  point-asks (NotSince x y v) a s u = both-since (s .0) (s .1) (u .0) (u .1)
-  point-asks (Until x y v) a s u = both-until (s .0) (s .1) u
-  point-asks (NotUntil x y v) a s u = both-until (s .0) (s .1) u
-  point-asks (Once x v) a s u = both-since s s u u
-  point-asks (Eventually x v) a s u = both-until s s (omega (arith, u))
+  point-asks node a s u = record { event = event; terms = a; pairs = pairs; children = children-there (viewOf node .times) (viewOf node .children) s u }

@@ -1,8 +1,8 @@
 // A node's own step in a call: its kept sets are loaded behind its children's, its newly settled points are settled, what is still wanted of it is kept, and its sets take the place of its children's.
+use meaning::Children;
 use meaning::Node;
 use meaning::Point;
 use room::Child;
-use rulenodes::Children;
 ghost use mathlib.Core.Path.{_≡_};
 ghost use mathlib.Core.List.{List·Memᴰ};
 ghost use Prim.Native.Nat.{ℕ, _+_, _*_, _≤_, _<_};

@@ -6,6 +6,7 @@ use mathlib.Core.Path.{_≡_, refl, _∙_}
 use mathlib.Core.List.{List}
 use lib.ListN.{length, getD, take, drop, set, length-set, length-append}
 use lib.Seq.{take-suc-set, drop-set-lt}
+use Rattle.meaning.specs.View.{viewOf}
 use Rattle.meaning.specs.RuleFile.{nodeCount, nodeAt}
 use Rattle.meaning.specs.declared.Point.{Point}
 use Rattle.meaning.specs.declared.Stamp.{Stamp}
@@ -31,11 +32,11 @@ module _ (rule : List ℕ) (τ : Point → Stamp) (n : ℕ) (from before : List 
   pub filling-none : Filling rule τ n from before 0 before
   filling-none = record { reached = omega arith; same = refl; exact = refl; past = refl }
 
-  pub filling-more : {x v : ℕ} {after : List ℕ} → Filling rule τ n from before x after → x < nodeCount rule → nodeCount rule ≤ length before → v ≡ advance τ n (λ y. getD (take (x - 0) after) y 0) (getD from x 0) (nodeAt rule x) → Filling rule τ n from before (x + 1) (set after x v)
+  pub filling-more : {x v : ℕ} {after : List ℕ} → Filling rule τ n from before x after → x < nodeCount rule → nodeCount rule ≤ length before → v ≡ advance τ n (λ y. getD (take (x - 0) after) y 0) (getD from x 0) (viewOf (nodeAt rule x)) → Filling rule τ n from before (x + 1) (set after x v)
   filling-more {x} {v} {after} f h room e =
       let l : x < length after = omega (arith, f .same) in
       let z : x - 0 ≡ x = omega arith in
-      let w : v ≡ advance τ n (λ y. getD (countsTo rule τ n (λ y. getD from y 0) x) y 0) (getD from x 0) (nodeAt rule x) = e ∙ rw (z, f .exact) in
+      let w : v ≡ advance τ n (λ y. getD (countsTo rule τ n (λ y. getD from y 0) x) y 0) (getD from x 0) (viewOf (nodeAt rule x)) = e ∙ rw (z, f .exact) in
       record {
         reached = omega arith;
         same = length-set after x v ∙ f .same;

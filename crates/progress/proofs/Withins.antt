@@ -3,6 +3,7 @@ use Prim.Native.Nat.{ℕ, zero, suc, _≤_}
 use native.Mathlib.Omega.{arith}
 use mathlib.Core.List.{List, [], _∷_, _++_}
 use lib.ListN.{getD}
+use Rattle.meaning.specs.View.{viewOf}
 use Rattle.meaning.specs.RuleFile.{nodeAt}
 use Rattle.meaning.specs.declared.Point.{Point}
 use Rattle.meaning.specs.declared.Stamp.{Stamp}
@@ -20,5 +21,5 @@ module _ (τ : Point → Stamp) (n : ℕ) where
   pub counts-within : (b : List ℕ) (from : ℕ → ℕ) (x : ℕ) → ((y : ℕ) → from y ≤ n) → Within n (countsTo b τ n from x)
   counts-within b from zero h = λ y. omega arith
   counts-within b from (suc x) h =
-      append-within (countsTo b τ n from x) (advance τ n (λ y. getD (countsTo b τ n from x) y 0) (from x) (nodeAt b x)) (counts-within b from x h)
-      (advance-most τ n (λ y. getD (countsTo b τ n from x) y 0) (from x) (nodeAt b x) (λ y m. counts-within b from x h y) (h x))
+      append-within (countsTo b τ n from x) (advance τ n (λ y. getD (countsTo b τ n from x) y 0) (from x) (viewOf (nodeAt b x))) (counts-within b from x h)
+      (advance-most τ n (from x) (λ y. getD (countsTo b τ n from x) y 0) (viewOf (nodeAt b x)) (h x))

@@ -1,14 +1,18 @@
 // How many points each node has settled, from the time stamps alone.
+use meaning::Children;
 use meaning::Point;
 use meaning::Stamp;
+use meaning::Times;
 ghost use mathlib.Core.Path.{_≡_};
 ghost use Prim.Native.Nat.{_+_, _-_, _*_, _≤_, _<_, min};
 ghost use mathlib.Core.Bool.{cond};
+ghost use mathlib.Core.List.{map};
 ghost use lib.ListN.{length, getD};
 ghost use lib.Dec.{ltb, leb};
 ghost use Rattle.meaning.specs.Log.{point};
+ghost use Rattle.meaning.specs.View.{viewOf, childrenIn};
 ghost use Rattle.meaning.specs.RuleFile.{nodeCount, bodies, bodyAt, nodeAt};
-ghost use Rattle.method.specs.Stored.{stampIn};
+ghost use Rattle.method.specs.Stored.{stampIn, leastOf};
 ghost use Rattle.method.specs.Counts.{scan, untilCount, advance};
 ghost use Rattle.progress.specs.Filled.{Filled};
 
@@ -86,11 +90,15 @@ fn count_at(counts: &[u32], y: u8) -> u32
     word_in(counts, y as usize)
 }
 
-// The lower count of two children.
-fn both_at(counts: &[u32], a: u8, b: u8) -> u32
-    ensures { λ r. ⌜ r ≡ min (getD (now (counts .entry)) a 0) (getD (now (counts .entry)) b 0) ⌝ }
+// The least count of some children, and no more than n.
+fn least_of(counts: &[u32], n: u32, children: Children) -> u32
+    ensures { λ r. ⌜ r ≡ leastOf n (map (λ y. getD (now (counts .entry)) y 0) (childrenIn children)) ⌝ }
 {
-    lower(count_at(counts, a), count_at(counts, b))
+    match children {
+        Children::None => n,
+        Children::One(a) => lower(count_at(counts, a), n),
+        Children::Two(a, b) => lower(count_at(counts, a), lower(count_at(counts, b), n)),
+    }
 }
 
 // One more, and no more than n.
@@ -126,41 +134,16 @@ fn count_of(
     x: u8,
 ) -> u32
     requires { ⌜ (length (now rule) ≡ 12 + 20 * nodeCount (now rule)) × (x < nodeCount (now rule)) ⌝ }
-    ensures { λ r. ⌜ r ≡ advance (stampIn base (now (times .entry))) n (λ y. getD (now (below .entry)) y 0) (getD (now (from .entry)) x 0) (nodeAt (now (rule .entry)) x) ⌝ }
+    ensures { λ r. ⌜ r ≡ advance (stampIn base (now (times .entry))) n (λ y. getD (now (below .entry)) y 0) (getD (now (from .entry)) x 0) (viewOf (nodeAt (now (rule .entry)) x)) ⌝ }
 {
-    let h = rulenodes::head_at(rule, x);
-    let kind = h.kind;
-    match kind {
-        1 => n,
-        2 => both_at(below, h.left, h.right),
-        3 => both_at(below, h.left, h.right),
-        4 => count_at(below, h.left),
-        5 => both_at(below, h.left, h.right),
-        6 => count_at(below, h.left),
-        7 => one_more(n, count_at(below, h.left)),
-        8 => less(count_at(below, h.left), 1),
-        9 => both_at(below, h.left, h.right),
-        10 => both_at(below, h.left, h.right),
-        11 => until_of(
-            rule,
-            times,
-            base,
-            n,
-            both_at(below, h.left, h.right),
-            from,
-            x,
-        ),
-        12 => until_of(
-            rule,
-            times,
-            base,
-            n,
-            both_at(below, h.left, h.right),
-            from,
-            x,
-        ),
-        13 => count_at(below, h.left),
-        _ => until_of(rule, times, base, n, count_at(below, h.left), from, x),
+    let m = least_of(below, n, rulenodes::children_at(rule, x));
+    let look = rulenodes::times_at(rule, x);
+    match look {
+        Times::Here => m,
+        Times::Before => one_more(n, m),
+        Times::After => less(m, 1),
+        Times::Past => m,
+        Times::Future => until_of(rule, times, base, n, m, from, x),
     }
 }
 

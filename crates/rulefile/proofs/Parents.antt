@@ -14,9 +14,9 @@ use borrow.Author.Tests.{eqb-true, eqb-false, eq-eqb, ne-eqb}
 use Rattle.meaning.specs.Lists.{range, gather, occurrences}
 use Rattle.meaning.specs.Outcome.{Outcome, refused, when, notOneParent}
 use Rattle.meaning.specs.RuleFile.{Accepted as Answer, nodeCount, nodeAt, childrenOf, timesChild, weighParents}
-use Rattle.rulenodes.specs.declared.Children.{Children}
-use Rattle.rulenodes.specs.declared.Children.the-variants.{None, One, Two}
-use Rattle.rulenodes.specs.Children.{childrenIn}
+use Rattle.meaning.specs.declared.Children.{Children}
+use Rattle.meaning.specs.declared.Children.the-variants.{None, One, Two}
+use Rattle.meaning.specs.View.{childrenIn}
 use Rattle.rulefile.specs.declared.Stray.{Stray}
 use Rattle.rulefile.specs.declared.Stray.the-variants.{At, Nowhere}
 use Rattle.rulefile.specs.Weighing.{strayOr, firstOf, FirstStray}

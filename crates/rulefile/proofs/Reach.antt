@@ -8,12 +8,12 @@ use Rattle.meaning.specs.Formula.{Formula, reach}
 use Rattle.meaning.specs.RuleFile.{nodeCount, nodeAt, childrenOf, formulaOf, formulaAt}
 use Rattle.meaning.specs.declared.Node.{Node}
 use Rattle.meaning.specs.declared.Node.the-variants.{Atom, And, AndNot, Keep, Or, Exists, Previous, Next, Since, NotSince, Until, NotUntil, Once, Eventually}
+use Rattle.meaning.specs.declared.Children.{Children}
+use Rattle.meaning.specs.declared.Children.the-variants.{None, One, Two}
+use Rattle.meaning.specs.View.{childrenIn}
 use Rattle.meaning.proofs.Tree.{formula-step}
 use Rattle.ruleshape.specs.Sound.{NodeSound, windowReach}
 use Rattle.ruleshape.proofs.Sound.{node-sound}
-use Rattle.rulenodes.specs.declared.Children.{Children}
-use Rattle.rulenodes.specs.declared.Children.the-variants.{None, One, Two}
-use Rattle.rulenodes.specs.Children.{childrenIn}
 use Rattle.rulefile.specs.Weighing.{AllFit}
 use Rattle.rulefile.proofs.Nodes.{children-lower}
 

@@ -1,10 +1,10 @@
 // Check a rule: whether bytes are a rule file, and its reach and free variables.
 use meaning::Body;
+use meaning::Children;
 use meaning::Head;
 use meaning::Node;
 use rulefree::node_fits;
 use rulefree::node_mask;
-use rulenodes::Children;
 use rulenodes::arity_at;
 use rulenodes::body_of;
 use rulenodes::children_of;
@@ -21,7 +21,7 @@ ghost use lib.ListN.{length, getD};
 ghost use Rattle.meaning.specs.Lists.{occurrences};
 ghost use Rattle.meaning.specs.Formula.{reach};
 ghost use Rattle.meaning.specs.RuleFile.{nodeCount, arityFits, sizesFit, formulaAt, checking, isAccepted};
-ghost use Rattle.rulenodes.specs.Children.{childrenIn};
+ghost use Rattle.meaning.specs.View.{childrenIn};
 ghost use Rattle.ruleshape.specs.Sound.{windowReach};
 ghost use Rattle.rulefile.specs.Checked.{answerOf};
 ghost use Rattle.rulefile.specs.Weighing.{Sized, AllFit, weighing, NodesWeighed, Masked, Tells, firstOf, FirstStray, fromNodes};

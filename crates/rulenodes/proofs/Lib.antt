@@ -1,3 +1,4 @@
--- What the proofs of several functions use.
+-- What the proofs of several functions use, and callers too.
 mod Rest
 mod Single
+pub mod Windows

@@ -1,18 +1,22 @@
 // Reading a rule file: its words, heads, bodies, and each node as one of the fourteen kinds.
 use meaning::Body;
+use meaning::Children;
 use meaning::Comparison;
 use meaning::Head;
+use meaning::Left;
 use meaning::Node;
 use meaning::Sides;
 use meaning::Term;
 use meaning::Terms;
+use meaning::Times;
+use meaning::View;
 use meaning::Window;
 ghost use mathlib.Core.Path.{_≡_};
 ghost use Prim.Native.Nat.{ℕ, _+_, _*_, _≤_, _<_};
 ghost use lib.ListN.{length};
+ghost use Rattle.meaning.specs.View.{here, viewOf, childrenIn};
 ghost use Rattle.meaning.specs.RuleFile.{wordAt, nodeCount, arity, headAt, bodyAt, bodies, bit, termOf, comparisonOf, termsOfBody, nodeOf, nodeAt, childrenOf};
 ghost use Rattle.meaning.specs.declared.Body.{Body};
-ghost use Rattle.rulenodes.specs.Children.{childrenIn};
 
 // A byte as a word.
 fn wide(b: u8) -> u32
@@ -160,35 +164,89 @@ pub fn node_at(rule: &[u8], x: u8) -> Node
     node_of(arity_at(rule, h.left), h, body_of(rule, x))
 }
 
-// The children of a node, left first.
-pub enum Children {
-    None,
-    One(u8),
-    Two(u8, u8),
-}
-
-pub fn children_of(node: Node) -> Children
-    ensures { λ r. ⌜ childrenIn r ≡ childrenOf node ⌝ }
+// The view of a node without a window.
+fn without_window(children: Children) -> View
+    ensures { λ r. ⌜ r ≡ here children ⌝ }
 {
-    match node {
-        Node::Atom(_, _) => Children::None,
-        Node::And(a, b) => Children::Two(a, b),
-        Node::AndNot(a, b) => Children::Two(a, b),
-        Node::Keep(a, _, _) => Children::One(a),
-        Node::Or(a, b) => Children::Two(a, b),
-        Node::Exists(a, _) => Children::One(a),
-        Node::Previous(a, _) => Children::One(a),
-        Node::Next(a, _) => Children::One(a),
-        Node::Since(a, b, _) => Children::Two(a, b),
-        Node::NotSince(a, b, _) => Children::Two(a, b),
-        Node::Until(a, b, _) => Children::Two(a, b),
-        Node::NotUntil(a, b, _) => Children::Two(a, b),
-        Node::Once(a, _) => Children::One(a),
-        Node::Eventually(a, _) => Children::One(a),
+    View {
+        children,
+        times: Times::Here,
+        left: Left::Always,
+        window: Window { start: 0, end: 0 },
     }
 }
 
-// The same by the head alone, whatever its relation's arity and the node's body.
+// A node's view.
+pub fn view_of(node: Node) -> View
+    ensures { λ r. ⌜ r ≡ viewOf node ⌝ }
+{
+    match node {
+        Node::Atom(_, _) => without_window(Children::None),
+        Node::And(a, b) => without_window(Children::Two(a, b)),
+        Node::AndNot(a, b) => without_window(Children::Two(a, b)),
+        Node::Keep(a, _, _) => without_window(Children::One(a)),
+        Node::Or(a, b) => without_window(Children::Two(a, b)),
+        Node::Exists(a, _) => without_window(Children::One(a)),
+        Node::Previous(a, w) => View {
+            children: Children::One(a),
+            times: Times::Before,
+            left: Left::Always,
+            window: w,
+        },
+        Node::Next(a, w) => View {
+            children: Children::One(a),
+            times: Times::After,
+            left: Left::Always,
+            window: w,
+        },
+        Node::Since(a, b, w) => View {
+            children: Children::Two(a, b),
+            times: Times::Past,
+            left: Left::Holds,
+            window: w,
+        },
+        Node::NotSince(a, b, w) => View {
+            children: Children::Two(a, b),
+            times: Times::Past,
+            left: Left::Denied,
+            window: w,
+        },
+        Node::Until(a, b, w) => View {
+            children: Children::Two(a, b),
+            times: Times::Future,
+            left: Left::Holds,
+            window: w,
+        },
+        Node::NotUntil(a, b, w) => View {
+            children: Children::Two(a, b),
+            times: Times::Future,
+            left: Left::Denied,
+            window: w,
+        },
+        Node::Once(a, w) => View {
+            children: Children::One(a),
+            times: Times::Past,
+            left: Left::Always,
+            window: w,
+        },
+        Node::Eventually(a, w) => View {
+            children: Children::One(a),
+            times: Times::Future,
+            left: Left::Always,
+            window: w,
+        },
+    }
+}
+
+// The children of a node, left first.
+pub fn children_of(node: Node) -> Children
+    ensures { λ r. ⌜ childrenIn r ≡ childrenOf node ⌝ }
+{
+    let v = view_of(node);
+    v.children
+}
+
+// The children by the head alone, whatever its relation's arity and the node's body.
 fn children_by(h: Head) -> Children
     ensures { λ r. ⌜ ((arity : ℕ) (w : Body) → childrenIn r ≡ childrenOf (nodeOf arity h w)) ⌝ }
 {
@@ -215,12 +273,36 @@ pub fn children_at(rule: &[u8], x: u8) -> Children
 }
 
 // The kind of node x of a rule, as its number.
-pub fn kind_at(rule: &[u8], x: u8) -> u8
+fn kind_at(rule: &[u8], x: u8) -> u8
     requires { ⌜ 12 + 4 * x + 4 ≤ length (now rule) ⌝ }
     ensures { λ r. ⌜ r ≡ headAt (now (rule .entry)) x .kind ⌝ }
 {
     let at = 12 + 4 * (x as usize);
     rule[at]
+}
+
+// Which points of its children node x of a rule looks at: of its bytes only the kind is read.
+pub fn times_at(rule: &[u8], x: u8) -> Times
+    requires { ⌜ 12 + 4 * x + 4 ≤ length (now rule) ⌝ }
+    ensures { λ r. ⌜ r ≡ viewOf (nodeAt (now (rule .entry)) x) .times ⌝ }
+{
+    let kind = kind_at(rule, x);
+    match kind {
+        1 => Times::Here,
+        2 => Times::Here,
+        3 => Times::Here,
+        4 => Times::Here,
+        5 => Times::Here,
+        6 => Times::Here,
+        7 => Times::Before,
+        8 => Times::After,
+        9 => Times::Past,
+        10 => Times::Past,
+        11 => Times::Future,
+        12 => Times::Future,
+        13 => Times::Past,
+        _ => Times::Future,
+    }
 }
 
 // The word of node x's body that is a window's end where its kind has a window.

@@ -1,5 +1,5 @@
--- What a node's evaluation at a newly settled point reads, as it stands in slices, what must stand there for the node's kind, and what it gives.
-use Prim.Native.Nat.{ℕ, _+_, _≤_, _<_, min}
+-- What a node's evaluation at a newly settled point reads, as it stands in slices, what must stand there for the node, and what it gives.
+use Prim.Native.Nat.{ℕ, _+_, _≤_, _<_}
 use mathlib.Core.Path.{_≡_}
 use mathlib.Core.List.{List, [], _∷_, map}
 use lib.ListN.{length}
@@ -7,11 +7,18 @@ use Rattle.meaning.specs.Lists.{range}
 use Rattle.meaning.specs.Outcome.{mostRows}
 use Rattle.meaning.specs.Log.{point, pointBefore}
 use Rattle.meaning.specs.Event.{rowCount, rowOf}
+use Rattle.meaning.specs.View.{viewOf}
 use Rattle.meaning.specs.RuleFile.{arity, childrenOf}
 use Rattle.meaning.specs.declared.Point.{Point}
+use Rattle.meaning.specs.declared.Terms.{Terms}
 use Rattle.meaning.specs.declared.Node.{Node}
-use Rattle.meaning.specs.declared.Node.the-variants.{Atom, And, AndNot, Keep, Or, Exists, Previous, Next, Since, NotSince, Until, NotUntil, Once, Eventually}
+use Rattle.meaning.specs.declared.Node.the-variants.{Atom}
+use Rattle.meaning.specs.declared.Children.{Children}
+use Rattle.meaning.specs.declared.Children.the-variants.{None, One, Two}
+use Rattle.meaning.specs.declared.Times.{Times}
+use Rattle.meaning.specs.declared.Times.the-variants.{Here, Before, After, Past, Future}
 use Rattle.method.specs.Stored.{stampIn}
+use Rattle.method.specs.Counts.{ConsultsBy}
 use Rattle.method.specs.Settle.{Sight, settle, pairsAfter}
 use Rattle.rowset.specs.Rows.{rowsFrom, mostHeld}
 use Rattle.kinds.specs.Kinds.{inMask, EventThere, PairsThere}
@@ -38,35 +45,38 @@ pub record Sees (v : Sight) (b w rows at times : List ℕ) (base : Point) (left 
   pub event : v .event ≡ map (rowOf b w) (range 0 (rowCount w))
   pub children : SeenAll v rows at (childrenOf node) left right
 
--- what must stand for a node of each kind at point i; its pairs before point start are held in the old words
-module _ (b w rows at oldAges oldValues : List ℕ) (left right : Child) (start i : Point) where
-  -- a child's set at point j
-  abbrev pub setThere : Child → Point → Type 0
-  setThere c j = Stand rows at (c .first) (c .low) j (j .0 + 1)
+-- what must stand of a child's sets for a node at point i, whose first newly settled point is start
+module _ (rows at : List ℕ) (start i : Point) where
+  -- the sets at the points that the node's times look at; for since those before start are in its pairs, and until looks as far as the child has settled
+  abbrev pub setsThere : Times → Child → Type 0
+  setsThere Here c = Stand rows at (c .first) (c .low) i (i .0 + 1)
+  setsThere Before c = 0 < i .0 → Stand rows at (c .first) (c .low) (pointBefore i) (pointBefore i .0 + 1)
+  setsThere After c = Stand rows at (c .first) (c .low) (point (i .0 + 1)) (i .0 + 1 + 1)
+  setsThere Past c = Stand rows at (c .first) (c .low) start (i .0 + 1)
+  setsThere Future c = Stand rows at (c .first) (c .low) i (c .count)
 
-  -- the sets of both from point start on up to i, no more than the children have settled, and the pairs
-  abbrev pub sinceThere : Child → Child → Type 0
-  sinceThere c d = Stand rows at (c .first) (c .low) start (i .0 + 1) × Stand rows at (d .first) (d .low) start (i .0 + 1) × (i .0 < c .count) × (i .0 < d .count) × PairsThere oldAges oldValues (length oldAges)
+  pub record ChildThere (t : Times) (c : Child) : Type 0 where
+    pub sets : setsThere t c
+    pub settled : ConsultsBy (c .count) i t
 
-  -- the sets of both at the points from i on that both have settled
-  abbrev pub untilThere : Child → Child → Type 0
-  untilThere c d = Stand rows at (c .first) (c .low) i (min (c .count) (d .count)) × Stand rows at (d .first) (d .low) i (min (c .count) (d .count))
+  -- the same of all children
+  abbrev pub ChildrenThere : Times → Child → Child → Children → Type 0
+  ChildrenThere t left right None = Unit
+  ChildrenThere t left right (One x) = ChildThere t left
+  ChildrenThere t left right (Two x y) = ChildThere t left × ChildThere t right
 
-  abbrev pub asked : Node → Type 0
-  asked (Atom r t) = EventThere w × (arity b r ≡ t .count)
-  asked (And x y) = setThere left i × setThere right i × (i .0 < left .count) × (i .0 < right .count)
-  asked (AndNot x y) = setThere left i × setThere right i × (i .0 < left .count) × (i .0 < right .count)
-  asked (Keep x c s) = setThere left i × (i .0 < left .count)
-  asked (Or x y) = setThere left i × setThere right i × (i .0 < left .count) × (i .0 < right .count)
-  asked (Exists x v) = setThere left i × (i .0 < left .count)
-  asked (Previous x v) = 0 < i .0 → setThere left (pointBefore i) × (i .0 ≤ left .count)
-  asked (Next x v) = (i .0 + 1 < left .count) × setThere left (point (i .0 + 1))
-  asked (Since x y v) = sinceThere left right
-  asked (NotSince x y v) = sinceThere left right
-  asked (Until x y v) = untilThere left right
-  asked (NotUntil x y v) = untilThere left right
-  asked (Once x v) = sinceThere left left
-  asked (Eventually x v) = untilThere left left
+-- what must stand for a node at point i; its pairs before point start are held in the old words
+pub record asked (b w rows at oldAges oldValues : List ℕ) (left right : Child) (start i : Point) (node : Node) : Type 0 where
+  pub event : EventThere w
+  pub terms : (r : ℕ) (t : Terms) → node ≡ Atom r t → arity b r ≡ t .count
+  pub pairs : PairsThere oldAges oldValues (length oldAges)
+  pub children : ChildrenThere rows at start i (viewOf node .times) left right (viewOf node .children)
+
+-- the sets of right of since and until: those of the one child where there is one
+abbrev pub rightIn : Children → Child → Child → Child
+rightIn None left right = right
+rightIn (One x) left right = left
+rightIn (Two x y) left right = right
 
 -- k rows at the front of the words are the set; where it has more than 32, only that shows
 pub record SetMade (out : List ℕ) (k : ℕ) (set : List (List ℕ)) : Type 0 where
@@ -80,4 +90,4 @@ pub record PointSettled (b w rows at times : List ℕ) (base : Point) (oldAges o
 
 -- its pairs there, put into the words
 pub record PairsSettled (rows at times : List ℕ) (base : Point) (oldAges oldValues : List ℕ) (left right : Child) (start i : Point) (node : Node) (ages values ages' values' : List ℕ) (k : ℕ) : Type 0 where
-  pub gives : (v : Sight) (b w : List ℕ) → Sees v b w rows at times base left right node → PairsPut ages values ages' values' k (pairsAfter v (heldIn oldAges oldValues) start i node)
+  pub gives : (v : Sight) (b w : List ℕ) → Sees v b w rows at times base left right node → PairsPut ages values ages' values' k (pairsAfter v (heldIn oldAges oldValues) start i (viewOf node))

@@ -1,9 +1,11 @@
 // The valuations of one node at one newly settled point, by its kind, from its children's sets in a lent slice; and its pairs there.
-use kinds::Left;
+use meaning::Children;
 use meaning::Comparison;
+use meaning::Left;
 use meaning::Node;
 use meaning::Point;
 use meaning::Sides;
+use meaning::Times;
 use meaning::Window;
 use room::Child;
 ghost use mathlib.Core.Path.{_≡_};
@@ -16,14 +18,13 @@ ghost use Rattle.meaning.specs.Lists.{select};
 ghost use Rattle.meaning.specs.Log.{point, elapsed, pointBefore, pointAfter};
 ghost use Rattle.meaning.specs.Formula.{inWindow, compares};
 ghost use Rattle.meaning.specs.Definition2.{value};
-ghost use Rattle.meaning.specs.Evaluator.{cutTo, valuationOf, andRows, untilRows};
+ghost use Rattle.meaning.specs.Evaluator.{cutTo, valuationOf, andRows, untilRows, lookUp};
 ghost use Rattle.method.specs.Stored.{stampIn};
-ghost use Rattle.rowset.specs.Rows.{lookUp};
 ghost use Rattle.rowset.specs.Sets.{Room, Added};
 ghost use Rattle.kinds.specs.Kinds.{inMask, PairsThere};
 ghost use Rattle.untils.specs.Until.{leftTest, Stand};
 ghost use Rattle.settling.specs.Children.{childSet, SetStands};
-ghost use Rattle.settling.specs.Sights.{asked, PointSettled, PairsSettled};
+ghost use Rattle.settling.specs.Sights.{asked, rightIn, PointSettled, PairsSettled};
 
 // The window holds what has elapsed from point j to point k.
 fn due(times: &[u32], base: Point, w: Window, j: Point, k: Point) -> bool
@@ -288,7 +289,18 @@ pub fn settle_point(
     }
 }
 
-// The node's pairs at point i, put to the front of ages and values, as many as the ages have room for; one more than that where there are more. The kinds other than since have none. The rule and the event are there for the contract.
+// The sets of right of since and until: those of the one child where there is one.
+fn right_of(children: Children, left: Child, right: Child) -> Child
+    ensures { λ r. ⌜ r ≡ rightIn children left right ⌝ }
+{
+    match children {
+        Children::None => right,
+        Children::One(_) => left,
+        Children::Two(_, _) => right,
+    }
+}
+
+// The node's pairs at point i, put to the front of ages and values, as many as the ages have room for; one more than that where there are more. Only since has any. The rule and the event are there for the contract.
 pub fn settle_pairs(
     node: Node,
     rule: &[u8],
@@ -310,16 +322,23 @@ pub fn settle_pairs(
     requires { ⌜ PairsThere (now ages) (now values) (length (now ages)) ⌝ }
     ensures { λ k. ⌜ PairsSettled (now (rows .entry)) (now (at .entry)) (now (times .entry)) base (now («old_ages» .entry)) (now («old_values» .entry)) left right start i node (now (ages .entry)) (now (values .entry)) (now (ages .exit)) (now (values .exit)) k ⌝ }
 {
-    match node {
-        Node::Since(_, _, w) => since::pairs_at(
-            Left::Holds,
+    let view = rulenodes::view_of(node);
+    let children = view.children;
+    let look = view.times;
+    let ask = view.left;
+    match look {
+        Times::Here => 0,
+        Times::Before => 0,
+        Times::After => 0,
+        Times::Past => since::pairs_at(
+            ask,
             left,
-            right,
+            right_of(children, left, right),
             rows,
             at,
             times,
             base,
-            w,
+            view.window,
             old_ages,
             old_values,
             start,
@@ -327,48 +346,6 @@ pub fn settle_pairs(
             ages,
             values,
         ),
-        Node::NotSince(_, _, w) => since::pairs_at(
-            Left::Denied,
-            left,
-            right,
-            rows,
-            at,
-            times,
-            base,
-            w,
-            old_ages,
-            old_values,
-            start,
-            i,
-            ages,
-            values,
-        ),
-        Node::Once(_, w) => since::pairs_at(
-            Left::Always,
-            left,
-            left,
-            rows,
-            at,
-            times,
-            base,
-            w,
-            old_ages,
-            old_values,
-            start,
-            i,
-            ages,
-            values,
-        ),
-        Node::Atom(_, _) => 0,
-        Node::And(_, _) => 0,
-        Node::AndNot(_, _) => 0,
-        Node::Keep(_, _, _) => 0,
-        Node::Or(_, _) => 0,
-        Node::Exists(_, _) => 0,
-        Node::Previous(_, _) => 0,
-        Node::Next(_, _) => 0,
-        Node::Until(_, _, _) => 0,
-        Node::NotUntil(_, _, _) => 0,
-        Node::Eventually(_, _) => 0,
+        Times::Future => 0,
     }
 }

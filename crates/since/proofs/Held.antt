@@ -17,8 +17,8 @@ use Rattle.rowset.specs.Rows.{rowAt}
 use Rattle.rowset.specs.Sets.{Added}
 use Rattle.rowset.proofs.Growing.{Turns, goes-on, Through, turned, map-select-one}
 use Rattle.kinds.specs.Kinds.{inMask, pairAt, pairsFrom}
-use Rattle.kinds.specs.declared.Left.{Left}
-use Rattle.kinds.specs.declared.Left.the-variants.{Always}
+use Rattle.meaning.specs.declared.Left.{Left}
+use Rattle.meaning.specs.declared.Left.the-variants.{Always}
 use Rattle.untils.proofs.Passing.{nothing-asked}
 use Rattle.since.specs.Pairs.{PairsAdded, passesOver, olderRows, olderPairs, belowOf, mostOf}
 use Rattle.since.proofs.Ages.{in-window, counted-as}

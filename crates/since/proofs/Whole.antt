@@ -8,7 +8,7 @@ use Rattle.meaning.specs.declared.Point.{Point}
 use Rattle.meaning.specs.declared.Stamp.{Stamp}
 use Rattle.meaning.specs.declared.Window.{Window}
 use Rattle.method.specs.Settle.{rowsSince, pairsSince}
-use Rattle.kinds.specs.declared.Left.{Left}
+use Rattle.meaning.specs.declared.Left.{Left}
 use Rattle.untils.specs.Until.{leftTest}
 use Rattle.since.specs.Pairs.{passesOver, freshRows, freshPairs, grownBy, olderRows, olderPairs}
 

@@ -16,7 +16,7 @@ use Rattle.meaning.specs.declared.Stamp.{Stamp}
 use Rattle.meaning.specs.declared.Window.{Window}
 use Rattle.method.specs.Settle.{backFrom}
 use Rattle.kinds.specs.Kinds.{pairsFrom}
-use Rattle.kinds.specs.declared.Left.{Left}
+use Rattle.meaning.specs.declared.Left.{Left}
 use Rattle.untils.specs.Until.{leftTest}
 
 -- n pairs that ascend strictly; or n is one more than the words have room for, and says only that the pairs are too many

@@ -8,7 +8,7 @@ use Rattle.meaning.specs.declared.Window.{Window}
 use Rattle.method.specs.Stored.{stampIn}
 use Rattle.method.specs.Settle.{rowsSince, pairsSince}
 use Rattle.kinds.specs.Kinds.{pairsFrom}
-use Rattle.kinds.specs.declared.Left.{Left}
+use Rattle.meaning.specs.declared.Left.{Left}
 use Rattle.room.specs.Room.{setAt}
 use Rattle.room.specs.declared.Child.{Child}
 use Rattle.untils.specs.Until.{leftTest}

@@ -1,5 +1,5 @@
 // The since kinds at a newly settled point, straight from their definition: right's rows from the first newly settled point on, and the pairs that were held before it. A pair is an age, in one lent slice, and a row of four words, in another.
-use kinds::Left;
+use meaning::Left;
 use meaning::Point;
 use meaning::Stamp;
 use meaning::Window;

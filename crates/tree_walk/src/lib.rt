@@ -1,8 +1,8 @@
 // The walk over a rule's tree in a call: a node's children first, of two the heavier first, then the node itself, whose sets take the place of its children's.
+use meaning::Children;
 use node_step::Place;
 use node_step::Spot;
 use node_step::own_step;
-use rulenodes::Children;
 use rulenodes::children_at;
 ghost use mathlib.Core.Path.{_≡_};
 ghost use mathlib.Core.Bool.{cond};

@@ -12,10 +12,10 @@ use Rattle.meaning.specs.Evaluator.{leading}
 use Rattle.meaning.specs.declared.Point.{Point}
 use Rattle.meaning.specs.declared.Stamp.{Stamp}
 use Rattle.meaning.specs.declared.Window.{Window}
-use Rattle.kinds.specs.Kinds.{passes}
+use Rattle.meaning.specs.View.{passes}
+use Rattle.meaning.specs.declared.Left.{Left}
+use Rattle.meaning.specs.declared.Left.the-variants.{Always}
 use Rattle.untils.specs.Until.{passesAt}
-use Rattle.kinds.specs.declared.Left.{Left}
-use Rattle.kinds.specs.declared.Left.the-variants.{Always}
 
 -- a test at every point from k on before end
 module _ (p : Point → Bool) (k end : ℕ) where

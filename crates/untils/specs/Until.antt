@@ -4,11 +4,11 @@ use mathlib.Core.Bool.{Bool}
 use mathlib.Core.List.{List}
 use Rattle.meaning.specs.Lists.{all}
 use Rattle.meaning.specs.Log.{pointsFrom}
-use Rattle.meaning.specs.Evaluator.{cutTo, valuationOf}
+use Rattle.meaning.specs.Evaluator.{cutTo, valuationOf, lookUp}
 use Rattle.meaning.specs.declared.Point.{Point}
-use Rattle.rowset.specs.Rows.{lookUp}
-use Rattle.kinds.specs.Kinds.{inMask, passes}
-use Rattle.kinds.specs.declared.Left.{Left}
+use Rattle.meaning.specs.View.{passes}
+use Rattle.meaning.specs.declared.Left.{Left}
+use Rattle.kinds.specs.Kinds.{inMask}
 use Rattle.room.specs.Room.{Laid}
 
 -- left passes at point k for a row that is cut down already

@@ -1,5 +1,5 @@
 // The valuations of until at a point, from its children's sets in a lent slice.
-use kinds::Left;
+use meaning::Left;
 use meaning::Point;
 use meaning::Stamp;
 use meaning::Window;
@@ -12,11 +12,11 @@ ghost use lib.ListN.{length, getD};
 ghost use Rattle.meaning.specs.Lists.{all, select};
 ghost use Rattle.meaning.specs.Log.{elapsed, pointsFrom};
 ghost use Rattle.meaning.specs.Formula.{inWindow};
-ghost use Rattle.meaning.specs.Evaluator.{leading, untilRows};
+ghost use Rattle.meaning.specs.Evaluator.{leading, untilRows, lookUp};
+ghost use Rattle.meaning.specs.View.{passes};
 ghost use Rattle.method.specs.Stored.{stampIn};
-ghost use Rattle.rowset.specs.Rows.{wordsOf, rowsFrom, lookUp};
+ghost use Rattle.rowset.specs.Rows.{wordsOf, rowsFrom};
 ghost use Rattle.rowset.specs.Sets.{Run, Room, Added};
-ghost use Rattle.kinds.specs.Kinds.{passes};
 ghost use Rattle.room.specs.Room.{setAt};
 ghost use Rattle.untils.specs.Until.{passesAt, leftTest, leads, Stand};
 

@@ -14,12 +14,12 @@ use Rattle.meaning.specs.Outcome.{given}
 use Rattle.meaning.specs.RuleFile.{Accepted, checking, nodeCount, nodeAt, childrenOf, isOneOf, lastNode}
 use Rattle.meaning.specs.Kept.{parentOf}
 use Rattle.meaning.specs.declared.Point.{Point}
+use Rattle.meaning.specs.declared.Children.{Children}
+use Rattle.meaning.specs.declared.Children.the-variants.{None, One, Two}
+use Rattle.meaning.specs.View.{viewOf, childrenIn}
 use Rattle.meaning.proofs.Points.{Tested, passed, failed, tested}
 use Rattle.method.specs.Step.{firstWanted, wantedFrom}
 use Rattle.method.proofs.Parents.{parent-is, has-parent, is-one-of}
-use Rattle.rulenodes.specs.declared.Children.{Children}
-use Rattle.rulenodes.specs.declared.Children.the-variants.{None, One, Two}
-use Rattle.rulenodes.specs.Children.{childrenIn}
 use Rattle.wanted.specs.Wants.{Wants}
 
 -- one child
@@ -51,13 +51,13 @@ module _ (counts : List ℕ) (first : Point) (out : List ℕ) (l : Children) whe
 
 -- the children of the first x nodes have their words
 pub record Handed (b counts out : List ℕ) (x : ℕ) : Type 0 where
-  pub words : (y : ℕ) → y < nodeCount b - 1 → parentOf b y < x → getD out y 0 ≡ min (getD counts y 0) (firstWanted (nodeAt b (parentOf b y)) (getD counts (parentOf b y) 0) .0)
+  pub words : (y : ℕ) → y < nodeCount b - 1 → parentOf b y < x → getD out y 0 ≡ min (getD counts y 0) (firstWanted (viewOf (nodeAt b (parentOf b y)) .times) (getD counts (parentOf b y) 0) .0)
 
 module _ (b : List ℕ) (a : Accepted) (ok : checking b ≡ given a) (counts : List ℕ) where
   pub handed-none : (out : List ℕ) → Handed b counts out 0
   handed-none out = record { words = λ y o l. absurd (omega arith) }
 
-  pub handed-more : {x : ℕ} {first : Point} {cs out out' : List ℕ} → Handed b counts out x → x < nodeCount b → first ≡ firstWanted (nodeAt b x) (getD counts x 0) → cs ≡ childrenOf (nodeAt b x)
+  pub handed-more : {x : ℕ} {first : Point} {cs out out' : List ℕ} → Handed b counts out x → x < nodeCount b → first ≡ firstWanted (viewOf (nodeAt b x) .times) (getD counts x 0) → cs ≡ childrenOf (nodeAt b x)
       → Wants counts first cs out out' → Handed b counts out' (x + 1)
   handed-more {x} {first} {cs} {out} {out'} h o f e w = record { words = λ y l u. go y l u (tested (isOneOf (childrenOf (nodeAt b x)) y)) }
     where
@@ -65,7 +65,7 @@ module _ (b : List ℕ) (a : Accepted) (ok : checking b ≡ given a) (counts : L
       now y = rw e at (w .words y)
 
       go : (y : ℕ) → y < nodeCount b - 1 → parentOf b y < x + 1 → Tested (isOneOf (childrenOf (nodeAt b x)) y)
-          → getD out' y 0 ≡ min (getD counts y 0) (firstWanted (nodeAt b (parentOf b y)) (getD counts (parentOf b y) 0) .0)
+          → getD out' y 0 ≡ min (getD counts y 0) (firstWanted (viewOf (nodeAt b (parentOf b y)) .times) (getD counts (parentOf b y) 0) .0)
       go y l u (passed t) =
           let p : parentOf b y ≡ x = parent-is b a ok x o y (is-one-of (childrenOf (nodeAt b x)) y .0 t) in
           rw p (rw t at (now y) ∙ ap (λ (p : Point). min (getD counts y 0) (p .0)) f)
@@ -87,7 +87,7 @@ module _ (b : List ℕ) (a : Accepted) (ok : checking b ≡ given a) (counts : L
   unfolding wantedFrom
   handed-all {n} {last} {out} e at l h x o = go (tested (eqb x (lastNode b)))
     where
-      go : Tested (eqb x (lastNode b)) → getD (set out last (getD counts last 0)) x 0 ≡ cond (eqb x (lastNode b)) (getD counts x 0) (min (getD counts x 0) (firstWanted (nodeAt b (parentOf b x)) (getD counts (parentOf b x) 0) .0))
+      go : Tested (eqb x (lastNode b)) → getD (set out last (getD counts last 0)) x 0 ≡ cond (eqb x (lastNode b)) (getD counts x 0) (min (getD counts x 0) (firstWanted (viewOf (nodeAt b (parentOf b x)) .times) (getD counts (parentOf b x) 0) .0))
       go (passed t) = let s : x ≡ last = eqb-true x (lastNode b) t ∙ sym at in rw t (rw s (getD-set-same out last (getD counts last 0) 0 l))
       go (failed t) =
           let ne : x ≡ lastNode b → ⊥ = eqb-false x (lastNode b) t in

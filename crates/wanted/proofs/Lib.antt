@@ -1,3 +1,2 @@
 -- Facts about the words that nodes hand down.
 pub mod Handed
-pub mod Firsts

@@ -1,27 +1,30 @@
 // The point from which on each node's rows are kept for its parent.
+use meaning::Children;
 use meaning::Point;
-use rulenodes::Children;
+use meaning::Times;
 ghost use mathlib.Core.Path.{_≡_};
 ghost use mathlib.Core.List.{[], _∷_, List·Memᴰ};
 ghost use Prim.Native.Nat.{ℕ, _+_, _*_, _≤_, _<_};
 ghost use lib.ListN.{length, getD};
 ghost use Rattle.meaning.specs.Outcome.{given};
+ghost use Rattle.meaning.specs.View.{viewOf, childrenIn};
 ghost use Rattle.meaning.specs.RuleFile.{Accepted, checking, nodeCount, nodeAt};
 ghost use Rattle.method.specs.Step.{firstWanted, wantedFrom};
-ghost use Rattle.rulenodes.specs.Children.{childrenIn};
 ghost use Rattle.progress.specs.Bounds.{Within};
 ghost use Rattle.wanted.specs.Wants.{Wants};
 
 // The first point of a child that an unsettled point of its parent, node x, consults, with p points of the parent settled. Only the node's kind is read.
 fn first_wanted(rule: &[u8], x: u8, p: u32) -> Point
     requires { ⌜ (12 + 4 * x + 4 ≤ length (now rule)) × (p < 4294967295) ⌝ }
-    ensures { λ r. ⌜ r ≡ firstWanted (nodeAt (now (rule .entry)) x) p ⌝ }
+    ensures { λ r. ⌜ r ≡ firstWanted (viewOf (nodeAt (now (rule .entry)) x) .times) p ⌝ }
 {
-    let kind = rulenodes::kind_at(rule, x);
-    match kind {
-        7 => Point(progress::less(p, 1)),
-        8 => Point(p + 1),
-        _ => Point(p),
+    let look = rulenodes::times_at(rule, x);
+    match look {
+        Times::Here => Point(p),
+        Times::Before => Point(progress::less(p, 1)),
+        Times::After => Point(p + 1),
+        Times::Past => Point(p),
+        Times::Future => Point(p),
     }
 }
 

@@ -1,5 +1,6 @@
 -- `pairs_fit` meets its contract: none fit, and some are tested by the node's kind.
 use borrow.Author.Needs.{needs}
+use Rattle.meaning.specs.View.{viewOf}
 use Rattle.meaning.specs.RuleFile.{nodeAt}
 use Rattle.formed.proofs.NoPairs.{pairs-none}
 use Rattle.formed.proofs.pairs_fit.Statement.{statement}
@@ -8,7 +9,7 @@ use Rattle.formed.proofs.pairs_fit.Tie as tie
 returns : tie.Need-returns
 returns c =
     let a = c .before .before .before .before .args in
-    pairs-none (a .rule .now) (a .x) (nodeAt (a .rule .now) (a .x)) (a .numbers .now) (a .values .now) (a .from) (a .to) (c .if1 .taken)
+    pairs-none (a .rule .now) (a .x) (viewOf (nodeAt (a .rule .now) (a .x))) (a .numbers .now) (a .values .now) (a .from) (a .to) (c .if1 .taken)
 
 kind-fits-requires : tie.Need-kind-fits-requires
 kind-fits-requires c κs = search needs

@@ -7,7 +7,7 @@ use borrow.Author.Needs.{needs}
 use borrow.Fn.Kinds.{In}
 use borrow.Fn.PlainCycle.{Measures, is, falls, and}
 use Rattle.meaning.specs.RuleFile.{childrenOf}
-use Rattle.rulenodes.specs.declared.Children.the-variants.{One, Two}
+use Rattle.meaning.specs.declared.Children.the-variants.{One, Two}
 use Rattle.ruleshape.specs.Sound.{windowReach}
 use Rattle.rulefile.proofs.Reach.{Opened, opened-lower, opened-none, opened-one, opened-two, opened-small}
 use Rattle.rulefile.proofs.reach_of.Reads as reach-of

@@ -4,7 +4,7 @@ use mathlib.Core.List.{List·Memᴰ·head, List·Memᴰ·tail}
 use mathlib.Core.Path.{refl}
 use lib.ListN.{length}
 use borrow.Author.Needs.{needs}
-use Rattle.rulenodes.specs.declared.Children.the-variants.{One, Two}
+use Rattle.meaning.specs.declared.Children.the-variants.{One, Two}
 use Rattle.rulefile.proofs.Parents.{counted-no-child, counted-one, counted-two, counted-room, child-room}
 use Rattle.rulefile.proofs.count_children.Statement.{statement}
 use Rattle.rulefile.proofs.count_children.Tie as tie

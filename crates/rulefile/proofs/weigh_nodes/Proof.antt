@@ -5,7 +5,7 @@ use mathlib.Core.Path.{_≡_, sym, ap, subst, _∙_}
 use lib.ListN.{length, length-set}
 use borrow.Author.Needs.{needs}
 use Rattle.meaning.specs.RuleFile.{nodeAt, childrenOf}
-use Rattle.rulenodes.specs.Children.{childrenIn}
+use Rattle.meaning.specs.View.{childrenIn}
 use Rattle.rulefile.specs.Weighing.{NodesWeighed}
 use Rattle.rulefile.proofs.Nodes.{WeighedTo, weighingAt, node-read, weighed-none, weighed-more, weighed-all, node-refused, passing-lower}
 use Rattle.rulefile.proofs.Parents.{Counted, counted-none, counted-more, counted-all}

@@ -1,6 +1,6 @@
 -- `settle_point` meets its contract, kind by kind: what is asked for the node is asked for its kind, and what the kind gives the node gives.
 use Prim.Native.Nat.{ℕ}
-use mathlib.Core.Path.{_≡_, subst}
+use mathlib.Core.Path.{_≡_, refl, subst}
 use mathlib.Core.List.{List}
 use borrow.Author.Needs.{needs}
 use Rattle.meaning.specs.Formula.{termsOf}
@@ -9,7 +9,7 @@ use Rattle.rowset.specs.Sets.{Added}
 use Rattle.rowset.proofs.Growing.{added-as}
 use Rattle.kinds.proofs.Atoms.{atom-reads}
 use Rattle.settling.specs.Sights.{asked, PointSettled}
-use Rattle.settling.proofs.Gives.{given, point-settled}
+use Rattle.settling.proofs.Gives.{given, point-settled, both-stand}
 use Rattle.settling.proofs.settle_point.Statement.{statement}
 use Rattle.settling.proofs.settle_point.Tie as tie
 
@@ -32,92 +32,95 @@ atom-requires : tie.Need-atom-requires
 atom-requires c κs =
     let s = c .before .before .before .before .before .before .before .before .before .before .before .before in
     let t = told s (c .before .before .node .given .1) in
-    (t .0, s .pre .1)
+    (t .event, s .pre .1)
 
 and-at-requires : tie.Need-and-at-requires
 and-at-requires c κs =
     let s = c .before .before .before .before .before .before .before .before .before .before .before in
     let t = told s (c .before .enum-told .given .1) in
-    (t .0, (t .1, s .pre .1))
+    (t .children .0 .sets, (t .children .1 .sets, s .pre .1))
 
 and-not-at-requires : tie.Need-and-not-at-requires
 and-not-at-requires c κs =
     let s = c .before .before .before .before .before .before .before .before .before .before .before in
     let t = told s (c .before .enum-told2 .given .1) in
-    (t .0, (t .1, s .pre .1))
+    (t .children .0 .sets, (t .children .1 .sets, s .pre .1))
 
 keep-at-requires : tie.Need-keep-at-requires
 keep-at-requires c κs =
     let s = c .before .before .before .before .before .before .before .before .before .before .before .before in
     let t = told s (c .before .before .node2 .given .1) in
-    (t .0, s .pre .1)
+    (t .children .sets, s .pre .1)
 
 or-at-requires : tie.Need-or-at-requires
 or-at-requires c κs =
     let s = c .before .before .before .before .before .before .before .before .before .before .before in
     let t = told s (c .before .enum-told3 .given .1) in
-    (t .0, (t .1, s .pre .1))
+    (t .children .0 .sets, (t .children .1 .sets, s .pre .1))
 
 exists-at-requires : tie.Need-exists-at-requires
 exists-at-requires c κs =
     let s = c .before .before .before .before .before .before .before .before .before .before .before .before in
     let t = told s (c .before .before .node3 .given .1) in
-    (t .0, s .pre .1)
+    (t .children .sets, s .pre .1)
 
 previous-at-requires : tie.Need-previous-at-requires
 previous-at-requires c κs =
     let s = c .before .before .before .before .before .before .before .before .before .before .before .before in
     let t = told s (c .before .before .node4 .given .1) in
-    (λ l. t l .0, s .pre .1)
+    (t .children .sets, s .pre .1)
 
 next-at-requires : tie.Need-next-at-requires
 next-at-requires c κs =
     let s = c .before .before .before .before .before .before .before .before .before .before .before .before in
     let t = told s (c .before .before .node5 .given .1) in
-    (t, s .pre .1)
+    ((t .children .settled, t .children .sets), s .pre .1)
 
 rows-at-requires : tie.Need-rows-at-requires
 rows-at-requires c κs =
     let s = c .before .before .before .before .before .before .before .before .before .before .before .before in
     let t = told s (c .before .before .node6 .given .1) in
-    (t .0, (t .1, (t .4, s .pre .1)))
+    (t .children .0 .sets, (t .children .1 .sets, (t .pairs, s .pre .1)))
 
 rows-at-requires-2 : tie.Need-rows-at-requires-2
 rows-at-requires-2 c κs =
     let s = c .before .before .before .before .before .before .before .before .before .before .before .before in
     let t = told s (c .before .before .node7 .given .1) in
-    (t .0, (t .1, (t .4, s .pre .1)))
+    (t .children .0 .sets, (t .children .1 .sets, (t .pairs, s .pre .1)))
 
 until-at-requires : tie.Need-until-at-requires
 until-at-requires c κs =
     let s = c .before .before .before .before .before .before .before .before .before .before .before .before in
     let t = told s (c .before .before .node8 .given .1) in
-    (t .0, (t .1, s .pre .1))
+    let (p, q) = both-stand (t .children .0) (t .children .1) in
+    (p, (q, s .pre .1))
 
 until-at-requires-2 : tie.Need-until-at-requires-2
 until-at-requires-2 c κs =
     let s = c .before .before .before .before .before .before .before .before .before .before .before .before in
     let t = told s (c .before .before .node9 .given .1) in
-    (t .0, (t .1, s .pre .1))
+    let (p, q) = both-stand (t .children .0) (t .children .1) in
+    (p, (q, s .pre .1))
 
 rows-at-requires-3 : tie.Need-rows-at-requires-3
 rows-at-requires-3 c κs =
     let s = c .before .before .before .before .before .before .before .before .before .before .before .before in
     let t = told s (c .before .before .node10 .given .1) in
-    (t .0, (t .1, (t .4, s .pre .1)))
+    (t .children .sets, (t .children .sets, (t .pairs, s .pre .1)))
 
 until-at-requires-3 : tie.Need-until-at-requires-3
 until-at-requires-3 c κs =
     let s = c .before .before .before .before .before .before .before .before .before .before .before .before in
     let t = told s (c .before .before .node11 .given .1) in
-    (t .0, (t .1, s .pre .1))
+    let (p, q) = both-stand (t .children) (t .children) in
+    (p, (q, s .pre .1))
 
 returns : tie.Need-returns
 returns c =
     let s = c .before .before .before .before .before .before .before .before .before .before .before .before .before .before .before in
     let n = c .before .before .before .before .before .node .given in
     gives s (n .1)
-    (added-as (c .before .before .atom .ensures) (atom-reads (s .args .rule .now) (s .args .event .now) (n .0 .0) (n .0 .1 .0 .count) (termsOf (n .0 .1 .0)) (told s (n .1) .1)))
+    (added-as (c .before .before .atom .ensures) (atom-reads (s .args .rule .now) (s .args .event .now) (n .0 .0) (n .0 .1 .0 .count) (termsOf (n .0 .1 .0)) (told s (n .1) .terms _ _ refl)))
 
 returns-2 : tie.Need-returns-2
 returns-2 c = gives (c .before .before .before .before .before .before .before .before .before .before .before .before .before .before) (c .before .before .before .before .enum-told .given .1) (c .before .before .and-at .ensures)

@@ -8,7 +8,7 @@ use Rattle.meaning.specs.Lists.{all}
 use Rattle.meaning.specs.Log.{point, pointsFrom}
 use Rattle.meaning.specs.Order.{before}
 use Rattle.rowset.specs.Rows.{wordsOf}
-use Rattle.kinds.specs.declared.Left.{Left}
+use Rattle.meaning.specs.declared.Left.{Left}
 use Rattle.room.specs.Room.{setAt}
 use Rattle.untils.specs.Until.{passesAt}
 use Rattle.untils.proofs.Spans.{stand-part}

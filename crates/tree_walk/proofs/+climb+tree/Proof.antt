@@ -6,7 +6,7 @@ use mathlib.Core.List.{[], _∷_}
 use lib.ListN.{getD}
 use borrow.Author.Needs.{needs}
 use Rattle.meaning.specs.RuleFile.{nodeAt, childrenOf}
-use Rattle.rulenodes.specs.Children.{childrenIn}
+use Rattle.meaning.specs.View.{childrenIn}
 use Rattle.node_step.specs.Figures.{called}
 use Rattle.tree_walk.proofs.Trees.{head-there}
 use Rattle.tree_walk.proofs.Arms.{TwoOrdered, weights-there, figure-there, sets-figured, stood-figured, low-first, first-calm, one-inside, one-room, one-stand, one-out, one-climbs, one-stuck, two-lower, two-ordered, first-inside, second-lower, second-inside, second-ready, first-few, two-few, two-room, two-stand, two-out, two-stuck, two-climbs}

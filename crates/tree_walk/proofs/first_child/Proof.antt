@@ -2,7 +2,7 @@
 use native.Mathlib.Omega.{arith}
 use borrow.Author.Needs.{needs}
 use mathlib.Core.Path.{sym, ap, _∙_}
-use Rattle.rulenodes.specs.Children.{childrenIn}
+use Rattle.meaning.specs.View.{childrenIn}
 use Rattle.method.proofs.Bounds.{below}
 use Rattle.tree_walk.specs.Tree.{firstAmong}
 use Rattle.tree_walk.proofs.Trees.{first-in, second-in, head-there, sides-are}

@@ -6,10 +6,10 @@ use borrow.Author.Tests.{not-true, not-false}
 use borrow.Author.Needs.{needs}
 use Rattle.meaning.specs.Lists.{all}
 use Rattle.meaning.specs.Log.{point, pointsFrom}
+use Rattle.meaning.specs.declared.Left.{Left}
 use Rattle.rowset.specs.Rows.{wordsOf}
 use Rattle.room.specs.Room.{setAt}
 use Rattle.untils.specs.Until.{passesAt}
-use Rattle.kinds.specs.declared.Left.{Left}
 use Rattle.untils.proofs.Spans.{stand-part}
 use Rattle.untils.proofs.Passing.{all-more, all-stops, all-ends, passes-as}
 use Rattle.untils.proofs.passes_from.Statement.{statement}
