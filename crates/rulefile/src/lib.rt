@@ -3,6 +3,7 @@ use meaning::Body;
 use meaning::Children;
 use meaning::Head;
 use meaning::Node;
+use meaning::Times;
 use rulefree::node_fits;
 use rulefree::node_mask;
 use rulenodes::arity_at;
@@ -11,6 +12,7 @@ use rulenodes::children_of;
 use rulenodes::head_at;
 use rulenodes::node_at;
 use rulenodes::node_of;
+use rulenodes::view_of;
 use ruleshape::range_fits;
 use ruleshape::shape_fits;
 ghost use mathlib.Core.Path.{_≡_};
@@ -221,21 +223,15 @@ fn greater(a: u32, b: u32) -> u32
 fn window_reach(node: Node) -> u32
     ensures { λ r. ⌜ r ≡ windowReach node ⌝ }
 {
-    match node {
-        Node::Until(_, _, w) => w.end,
-        Node::NotUntil(_, _, w) => w.end,
-        Node::Eventually(_, w) => w.end,
-        Node::Atom(_, _) => 0,
-        Node::And(_, _) => 0,
-        Node::AndNot(_, _) => 0,
-        Node::Keep(_, _, _) => 0,
-        Node::Or(_, _) => 0,
-        Node::Exists(_, _) => 0,
-        Node::Previous(_, _) => 0,
-        Node::Next(_, _) => 0,
-        Node::Since(_, _, _) => 0,
-        Node::NotSince(_, _, _) => 0,
-        Node::Once(_, _) => 0,
+    let view = view_of(node);
+    let look = view.times;
+    let w = view.window;
+    match look {
+        Times::Here => 0,
+        Times::Before => 0,
+        Times::After => 0,
+        Times::Past => 0,
+        Times::Future => w.end,
     }
 }
 

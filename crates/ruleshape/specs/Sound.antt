@@ -4,11 +4,14 @@ use mathlib.Core.Path.{_≡_}
 use mathlib.Core.Bool.{true}
 use mathlib.Core.List.{List, List·Memᴰ}
 use Rattle.meaning.specs.Outcome.{longestWindow}
+use Rattle.meaning.specs.View.{viewOf}
 use Rattle.meaning.specs.RuleFile.{headAt, bodyAt, bodies, childrenOf, shapeFits, rangeFits}
 use Rattle.meaning.specs.declared.Term.{Term}
 use Rattle.meaning.specs.declared.Term.the-variants.{Variable, Constant}
 use Rattle.meaning.specs.declared.Node.{Node}
 use Rattle.meaning.specs.declared.Node.the-variants.{Atom, And, AndNot, Keep, Or, Exists, Previous, Next, Since, NotSince, Until, NotUntil, Once, Eventually}
+use Rattle.meaning.specs.declared.Times.{Times}
+use Rattle.meaning.specs.declared.Times.the-variants.{Here, Before, After, Past, Future}
 
 -- node x of the file b passes 4 and 5
 pub record NodeFits (b : List ℕ) (x : ℕ) : Type 0 where
@@ -36,22 +39,16 @@ VariablesBelow (NotUntil a b w) = Unit
 VariablesBelow (Once a w) = Unit
 VariablesBelow (Eventually a w) = Unit
 
--- what a node adds to the greatest reach of its children
+-- what a node with a window's end d adds to the greatest reach of its children
+abbrev pub reachBy : ℕ → Times → ℕ
+reachBy d Here = 0
+reachBy d Before = 0
+reachBy d After = 0
+reachBy d Past = 0
+reachBy d Future = d
+
 abbrev pub windowReach : Node → ℕ
-windowReach (Atom r t) = 0
-windowReach (And a b) = 0
-windowReach (AndNot a b) = 0
-windowReach (Keep a c s) = 0
-windowReach (Or a b) = 0
-windowReach (Exists a v) = 0
-windowReach (Previous a w) = 0
-windowReach (Next a w) = 0
-windowReach (Since a b w) = 0
-windowReach (NotSince a b w) = 0
-windowReach (Until a b w) = w .end
-windowReach (NotUntil a b w) = w .end
-windowReach (Once a w) = 0
-windowReach (Eventually a w) = w .end
+windowReach n = reachBy (viewOf n .window .end) (viewOf n .times)
 
 -- the node n, with the number x
 pub record NodeSound (x : ℕ) (n : Node) : Type 0 where
