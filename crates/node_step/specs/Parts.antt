@@ -13,7 +13,7 @@ use Rattle.method.specs.Settle.{Sight, settle}
 use Rattle.method.specs.Step.{newPairs}
 use Rattle.room.specs.Room.{setIn, setAt, Laid, Sets}
 use Rattle.room.specs.declared.Child.{Child}
-use Rattle.shelf.specs.Appended.{Extended}
+use Rattle.shelf.specs.Appended.{Space, Extended}
 use Rattle.shelving.specs.Shelved.{setEntries, agedEntries, Spaces}
 use Rattle.shelving.specs.Blocks.{RoomToKeep, EntriesPut}
 use Rattle.since.specs.Since.{heldIn}
@@ -50,6 +50,20 @@ pub record OwnFigures (f : List ℕ) (x : ℕ) (o : Own) : Type 0 where
   pub end : o .end ≡ endIn f x
 
 -- ---- the newly settled points
+
+module _ (b w rows at times : List ℕ) (base : Point) (oldAges oldValues : List ℕ) (left right : Child) (n : ℕ) (start i : Point) (node : Node) where
+  -- what must stand for point i: n sets, in which it finds what its kind asks for, and room for its set
+  pub record NextReady : Type 0 where
+    pub asks : asked b w rows at oldAges oldValues left right start i node
+    pub space : Space rows at n mostRows
+
+  -- the point's set stands behind the others, or it has too many rows
+  pub record NextSettled (rows' at' : List ℕ) (done : Bool) : Type 0 where
+    pub stay : Extended rows at rows' at' n 0 (λ q. [])
+    pub more : done ≡ true → Extended rows at rows' at' n 1 (λ q. setIn rows' at' n)
+    pub few : done ≡ true → length (setIn rows' at' n) ≤ mostRows
+    pub there : done ≡ true → (v : Sight) → Sees v b w rows at times base left right node → setIn rows' at' n ≡ settle v (heldIn oldAges oldValues) start i node
+    pub crowded : done ≡ false → (v : Sight) → Sees v b w rows at times base left right node → mostRows < length (settle v (heldIn oldAges oldValues) start i node)
 
 module _ (b w rows at times : List ℕ) (base : Point) (oldAges oldValues : List ℕ) (left right : Child) (n : ℕ) (start end : Point) (node : Node) where
   -- a Sight that says of the node's children what stands in any words whose first n sets are these
