@@ -16,7 +16,8 @@ use Rattle.method.specs.Step.{wantedFrom, countBefore, countAfter}
 use Rattle.method.specs.Room.{rowsMost, setsMost}
 use Rattle.method.proofs.Bounds.{before-after, after-most, wanted-before, wanted-after, wanted-grows}
 use Rattle.method.proofs.Room.{entries-rows}
-use Rattle.shelf.specs.Entries.{entriesFrom, Stands}
+use Rattle.rowset.specs.Sets.{Run}
+use Rattle.shelf.specs.Entries.{entriesFrom}
 use Rattle.shelving.specs.Shelved.{setEntries, Spaces}
 use Rattle.node_step.specs.declared.Own.{Own}
 use Rattle.node_step.specs.Figures.{NodeFigures, CallReady}
@@ -123,14 +124,14 @@ module _ {s : Stored} {w os ns vs stamps f : List ℕ} (g : CallReady s w os ns 
     pub rows-most : rowsMost s w x ≡ o .pairs - o .begin + 32 * (o .after - o .before)
     rows-most = rw (rows-kept, after-is, low-is, before-is)
 
+    pub load-rows : Run vs (o .begin) (o .pairs)
+    load-rows =
+        let m = numbers in
+        record { ordered = omega arith; there = omega arith }
+
     module _ {rows at : List ℕ} {n : ℕ} (r : RoomFor rows at n (setsMost s w x) (rowsMost s w x)) where
       pub room-here : RoomFor rows at n (o .after - o .low) (o .pairs - o .begin + 32 * (o .after - o .before))
       room-here = rw (sets-most, rows-most) at r
-
-      pub load-stands : Stands os ns vs (o .pairs)
-      load-stands =
-          let m = numbers in
-          record { ownersThere = omega arith; numbersThere = omega arith; valuesThere = omega arith }
 
       pub load-spaces : Spaces rows at n (o .before - o .low) (o .pairs - o .begin)
       load-spaces =

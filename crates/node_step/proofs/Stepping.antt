@@ -3,7 +3,7 @@ use Prim.Native.Nat.{ℕ, zero, suc, _+_, _-_, _*_, _≤_, _<_}
 use native.Mathlib.Omega.{arith}
 use mathlib.Core.Path.{_≡_, refl, sym, ap, ap₂, _∙_}
 use mathlib.Core.Bool.{Bool, true, false}
-use mathlib.Core.List.{List, [], _++_, map, append-nil}
+use mathlib.Core.List.{List, [], _++_, map}
 use lib.ListN.{length, getD, take, drop}
 use lib.Dec.{ltb}
 use borrow.Author.Tests.{lt-ltb, le-ltb}
@@ -67,8 +67,7 @@ pub record Loads (s : Stored) (w os ns vs stamps f : List ℕ) (x : ℕ) (o : Ow
   pub figures : OwnFigures f x o
   pub decoded : node ≡ nodeAt (s .rule) x
   pub children : ChildSetsAre f (childrenOf node) (spot .left) (spot .right) left right
-  pub next : ℕ
-  pub read : Loaded os ns vs (o .begin) (o .pairs) x (point (o .low)) (o .before - o .low) rows at rows₁ at₁ (spot .sets) next
+  pub read : Loaded ns vs (o .begin) (o .pairs) (point (o .low)) (o .before - o .low) rows at rows₁ at₁ (spot .sets)
 
 module _ {s : Stored} {w os ns vs stamps f : List ℕ} {x : ℕ} {o : Own} {spot : Spot} {rows at : List ℕ} {left right : Child} {node : Node} {rows₁ at₁ : List ℕ}
     (k : Loads s w os ns vs stamps f x o spot rows at left right node rows₁ at₁) where
@@ -126,7 +125,7 @@ module _ {s : Stored} {w os ns vs stamps f : List ℕ} {x : ℕ} {o : Own} {spot
 
   -- its kept sets
   loaded : Extended rows at rows₁ at₁ (spot .sets) (o .before - o .low) (λ k. held (s .entries) x (point (o .low + k)))
-  loaded = k .read .read (held (s .entries) x) [] (entries-here g x l h ∙ sym (append-nil _)) refl .0
+  loaded = k .read .read os x (held (s .entries) x) (entries-here g x l h)
 
   loaded-sets : Sets rows₁ at₁ (spot .sets + (o .before - o .low))
   loaded-sets =
@@ -134,7 +133,7 @@ module _ {s : Stored} {w os ns vs stamps f : List ℕ} {x : ℕ} {o : Own} {spot
       (λ k u. g .formed .sets-few x l (point (o .low + k)) (omega (arith, low-is g x l h)) (omega (arith, before-is g x l h)))
 
   loaded-end : getD at₁ (spot .sets + (o .before - o .low)) 0 ≤ getD at (spot .sets) 0 + (o .pairs - o .begin)
-  loaded-end = omega (arith, k .read .taken .end, k .read .taken .within)
+  loaded-end = k .read .end
 
   pub seen : SeesFirst (s .rule) w rows₁ at₁ stamps base oldAges oldValues left right (spot .sets + (o .before - o .low)) (point (o .before)) (point (o .after)) node (sight s w x)
   seen rows' at' e = rw is (sees g x l rows at (spot .sets) (spot .left) (spot .right) left right (rw is at (k .children)) (k .stand) rows' at' (λ k u. e k (omega arith) ∙ loaded .earlier k u))

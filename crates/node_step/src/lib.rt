@@ -365,12 +365,10 @@ pub fn own_step(
     let old_ages = &numbers[from..to];
     let old_values = &values[from * 4..to * 4];
     shelving::load_sets(
-        owners,
         numbers,
         values,
         own.begin,
         from,
-        x as u32,
         Point(own.low),
         loaded,
         rows,
