@@ -41,10 +41,10 @@ ChildSetsAre f (y ∷ z ∷ zs) first second left right = (left ≡ childIn f y 
 
 -- a node's own figures
 pub record OwnFigures (f : List ℕ) (x : ℕ) (o : Own) : Type 0 where
-  pub low : o .low ≡ lowIn f x
+  pub low : o .low .0 ≡ lowIn f x
   pub before : o .before ≡ beforeIn f x
   pub after : o .after ≡ afterIn f x
-  pub want : o .want ≡ wantIn f x
+  pub want : o .want .0 ≡ wantIn f x
   pub begin : o .begin ≡ beginIn f x
   pub pairs : o .pairs ≡ pairsIn f x
   pub end : o .end ≡ endIn f x
@@ -118,14 +118,14 @@ pub record BlockPut (x : ℕ) (on ov bl on' ov' bl' : List ℕ) (kept kept' : �
 
 -- what must stand for a node's block: its sets from set first on, and what its pairs ask for
 pub record BlockReady (b w rows at times : List ℕ) (base : Point) (oldAges oldValues : List ℕ) (left right : Child) (first : ℕ) (o : Own) (node : Node) (on ov bl : List ℕ) (x kept : ℕ) : Type 0 where
-  pub low-want : o .low ≤ o .want
-  pub want-after : o .want ≤ o .after
+  pub low-want : o .low .0 ≤ o .want .0
+  pub want-after : o .want .0 ≤ o .after
   pub small : o .after < 4294967296
-  pub laid : Laid rows at (first + (o .after - o .low))
+  pub laid : Laid rows at (first + (o .after - o .low .0))
   pub pairs : PairsReady b w rows at times base oldAges oldValues left right (point (o .before)) (point (o .after)) node on ov kept
   pub table : x * 3 + 3 ≤ length bl
 
 -- its rows at the points that are wanted, and then its pairs, are its block
 pub record BlockKept (b w rows at times : List ℕ) (base : Point) (oldAges oldValues : List ℕ) (left right : Child) (first : ℕ) (o : Own) (node : Node) (on ov bl : List ℕ) (x kept : ℕ) (on' ov' bl' : List ℕ) (kept' : ℕ) : Type 0 where
   pub gives : (v : Sight) → Sees v b w rows at times base left right node
-      → BlockPut x on ov bl on' ov' bl' kept kept' (setEntries x (setAt rows at first (point (o .low))) (point (o .want)) (o .after - o .want) ++ agedEntries x (newPairs v node (point (o .before)) (o .after - o .before) (heldIn oldAges oldValues)))
+      → BlockPut x on ov bl on' ov' bl' kept kept' (setEntries x (setAt rows at first (o .low)) (o .want) (o .after - o .want .0) ++ agedEntries x (newPairs v node (point (o .before)) (o .after - o .before) (heldIn oldAges oldValues)))

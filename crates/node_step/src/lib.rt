@@ -31,10 +31,10 @@ pub struct Place {
 
 // A node's own figures: the point of its first set, how many points it had settled and has settled now, the point from which on its rows are kept; and where its entries begin, its pairs among them, and the entry behind them.
 struct Own {
-    low: u32,
+    low: Point,
     before: u32,
     after: u32,
-    want: u32,
+    want: Point,
     begin: usize,
     pairs: usize,
     end: usize,
@@ -53,10 +53,10 @@ fn own_figures(figures: &[u32], x: u8) -> Own
 {
     let k = x as usize * 9;
     Own {
-        low: figures[k + 1],
+        low: Point(figures[k + 1]),
         before: figures[k + 2],
         after: figures[k + 3],
-        want: figures[k + 4],
+        want: Point(figures[k + 4]),
         begin: figures[k + 5] as usize,
         pairs: figures[k + 6] as usize,
         end: figures[k + 7] as usize,
@@ -296,13 +296,13 @@ fn keep_node(
     requires { ⌜ BlockReady (now rule) (now event) (now rows) (now at) (now times) base (now «old_ages») (now «old_values») (children .left) (children .right) (spot .sets) own node (now «out_numbers») (now «out_values») (now blocks) x (spot .kept) ⌝ }
     ensures { λ r. ⌜ BlockKept (now (rule .entry)) (now (event .entry)) (now (rows .entry)) (now (at .entry)) (now (times .entry)) base (now («old_ages» .entry)) (now («old_values» .entry)) (children .left) (children .right) (spot .sets) own node (now («out_numbers» .entry)) (now («out_values» .entry)) (now (blocks .entry)) x (spot .kept) (now («out_numbers» .exit)) (now («out_values» .exit)) (now (blocks .exit)) r ⌝ }
 {
-    let n = (own.after - own.want) as usize;
+    let n = (own.after - own.want.0) as usize;
     let pairs = shelving::keep_sets(
         rows,
         at,
         spot.sets,
-        Point(own.low),
-        Point(own.want),
+        own.low,
+        own.want,
         n,
         out_numbers,
         out_values,
@@ -358,8 +358,8 @@ pub fn own_step(
     let children = children_at(figures, node, spot.left, spot.right);
     let own = own_figures(figures, x);
     let base = Point(points + 1 - stamps.len() as u32);
-    let loaded = (own.before - own.low) as usize;
-    let made = (own.after - own.low) as usize;
+    let loaded = (own.before - own.low.0) as usize;
+    let made = (own.after - own.low.0) as usize;
     let from = own.pairs;
     let to = own.end;
     let old_ages = &numbers[from..to];
@@ -369,7 +369,7 @@ pub fn own_step(
         values,
         own.begin,
         from,
-        Point(own.low),
+        own.low,
         loaded,
         rows,
         at,
