@@ -240,23 +240,23 @@ fn put_node(
     table: &mut [u32],
     at: usize,
     mask: u32,
-    low: u32,
+    low: Point,
     before: u32,
     after: u32,
-    want: u32,
+    want: Point,
     begin: u32,
     pairs: u32,
     end: u32,
     weight: u32,
 )
     requires { ⌜ at + 9 ≤ length (now table) ⌝ }
-    ensures { λ _. ⌜ now (table .exit) ≡ putFrom (now (table .entry)) at 0 (mask ∷ low ∷ before ∷ after ∷ want ∷ begin ∷ pairs ∷ end ∷ weight ∷ []) ⌝ }
+    ensures { λ _. ⌜ now (table .exit) ≡ putFrom (now (table .entry)) at 0 (mask ∷ low .0 ∷ before ∷ after ∷ want .0 ∷ begin ∷ pairs ∷ end ∷ weight ∷ []) ⌝ }
 {
     table[at] = mask;
-    table[at + 1] = low;
+    table[at + 1] = low.0;
     table[at + 2] = before;
     table[at + 3] = after;
-    table[at + 4] = want;
+    table[at + 4] = want.0;
     table[at + 5] = begin;
     table[at + 6] = pairs;
     table[at + 7] = end;
@@ -285,10 +285,10 @@ pub fn fill_table(
             table,
             x * 9,
             wide(masks[x]),
-            lows[x],
+            Point(lows[x]),
             before[x],
             after[x],
-            wants[x],
+            Point(wants[x]),
             begins[x],
             pairs[x],
             begins[x + 1],

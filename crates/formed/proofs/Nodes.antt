@@ -19,7 +19,7 @@ use Rattle.meaning.proofs.Points.{Tested, passed, failed, tested, first}
 use Rattle.meaning.proofs.Rows.{all-points}
 use Rattle.method.specs.WellFormed.{setFits, pairsFit}
 use Rattle.kinds.specs.Kinds.{pairsFrom}
-use Rattle.shelf.specs.Entries.{entryAt, entriesFrom, isOwned, hasOwner}
+use Rattle.shelf.specs.Entries.{entryAt, entriesFrom, isWord, hasOwner}
 use Rattle.formed.specs.Tests.{MaskOf, SetsFit}
 use Rattle.formed.specs.Walk.{behind, setsRest, rowsFound, pairsFound, nodesRest, runsFit, entriesFit}
 use Rattle.formed.specs.Steps.{restAt, OwnFirst, NodeTo}
@@ -32,7 +32,7 @@ use Rattle.formed.proofs.Ordered.{Streaked, sets-ordered}
 
 module _ (os : List ℕ) {ns vs : List ℕ} {count cursor x : ℕ} {low : Point} {n mask : ℕ} {b : List ℕ} (m : MaskOf b x mask) where
   -- rows that aren't in order don't fit
-  pub sets-stuck : {end : Point} {to : ℕ} → cursor ≤ count → Streaked (isOwned os (x * 2)) cursor count to → n ≡ end .0 - low .0 → (SetsFit ns vs cursor to low end mask → ⊥) → OwnFirst b x low n (restAt os ns vs count cursor) → ⊥
+  pub sets-stuck : {end : Point} {to : ℕ} → cursor ≤ count → Streaked (isWord os (x * 2)) cursor count to → n ≡ end .0 - low .0 → (SetsFit ns vs cursor to low end mask → ⊥) → OwnFirst b x low n (restAt os ns vs count cursor) → ⊥
   unfolding runsFit
   sets-stuck {end} {to} l run e wrong o =
       let rows : Point → List (List ℕ) = rowsFound x low (restAt os ns vs count cursor) in

@@ -18,8 +18,9 @@ use Rattle.meaning.proofs.Points.{Tested, passed, failed, tested, first, second
 use Rattle.rowset.specs.Rows.{rowAt, rowsFrom}
 use Rattle.rowset.proofs.Runs.{run-first}
 use Rattle.kinds.specs.Kinds.{pairAt}
-use Rattle.shelf.specs.Entries.{entryAt, entriesFrom, begins, streak, isOf, isOwned, runOf, pairRunOf, hasOwner, isEntry}
+use Rattle.shelf.specs.Entries.{entryAt, entriesFrom, begins, streak, isWord, runOf, hasOwner, isEntry}
 use Rattle.shelf.proofs.Streaks.{streak-within, streak-all}
+use Rattle.shelf.proofs.Walking.{isOf, entryRun}
 use Rattle.formed.specs.Tests.{rowCut, rowsFit, Rising, SetsFit}
 use Rattle.formed.specs.Walk.{behind, setsRest, rowsFound}
 use Rattle.formed.specs.Steps.{restAt}
@@ -55,9 +56,9 @@ streaked q cursor count l {r} e =
     }
 
 -- the entries of an owner from cursor on
-pub own-run : (os : List ℕ) (cursor count owner : ℕ) → cursor ≤ count → {r : ℕ} → r ≡ cursor + pairRunOf os cursor count owner → Streaked (isOwned os owner) cursor count r
-unfolding pairRunOf
-own-run os cursor count owner l e = streaked (isOwned os owner) cursor count l e
+pub own-run : (os : List ℕ) (cursor count owner : ℕ) → cursor ≤ count → {r : ℕ} → r ≡ cursor + runOf os cursor count owner → Streaked (isWord os owner) cursor count r
+unfolding runOf
+own-run os cursor count owner l e = streaked (isWord os owner) cursor count l e
 
 -- ---- pairs of a number and a row, in their order
 
@@ -99,29 +100,29 @@ rises ns vs p from to h i j u l o = let z : i + (j - i) ≡ j = omega arith in r
 
 -- ---- a node's runs, point by point
 
-module _ (os ns vs : List ℕ) (count cursor x to : ℕ) (low : Point) (mask : ℕ) (start : cursor ≤ count) (run : Streaked (isOwned os (x * 2)) cursor count to) where
+module _ (os ns vs : List ℕ) (count cursor x to : ℕ) (low : Point) (mask : ℕ) (start : cursor ≤ count) (run : Streaked (isWord os (x * 2)) cursor count to) where
   abbrev whole : List Entry
   whole = restAt os ns vs count cursor
 
   -- the run at point number that begins at entry a
   record OneRun (a number r : ℕ) : Type 0 where
     found : RunFound os ns vs count a x number r
-    owned : (i : ℕ) → a ≤ i → i < r → isOwned os (x * 2) i ≡ true
+    owned : (i : ℕ) → a ≤ i → i < r → isWord os (x * 2) i ≡ true
     numbered : (i : ℕ) → a ≤ i → i < r → getD ns i 0 ≡ number
-    stops : r < count → isOwned os (x * 2) r ≡ true → getD ns r 0 ≡ number → ⊥
+    stops : r < count → isWord os (x * 2) r ≡ true → getD ns r 0 ≡ number → ⊥
 
   abbrev endOf : ℕ → ℕ → ℕ
-  endOf a number = a + runOf os ns a count (x * 2) number
+  endOf a number = a + entryRun os ns a count (x * 2) number
 
   one-run : (a number : ℕ) → a ≤ count → OneRun a number (endOf a number)
-  unfolding runOf
+  unfolding entryRun
   one-run a number l =
       let s = streaked (isOf os ns (x * 2) number) a count l refl in
       let r : ℕ = endOf a number in
       record {
         found = run-found os ns vs count a x l number refl;
-        owned = λ i u o. first (isOwned os (x * 2) i) (eqb (getD ns i 0) number) (s .each i u o);
-        numbered = λ i u o. eqb-true (getD ns i 0) number (second (isOwned os (x * 2) i) (eqb (getD ns i 0) number) (s .each i u o));
+        owned = λ i u o. first (isWord os (x * 2) i) (eqb (getD ns i 0) number) (s .each i u o);
+        numbered = λ i u o. eqb-true (getD ns i 0) number (second (isWord os (x * 2) i) (eqb (getD ns i 0) number) (s .each i u o));
         stops = λ o w e. true≢false (sym (both w (eq-eqb (getD ns r 0) number e)) ∙ s .stops o);
       }
 
@@ -205,7 +206,7 @@ module _ (os ns vs : List ℕ) (count cursor x to : ℕ) (low : Point) (mask : �
       begun : cursor ≤ a
       within : a ≤ count
       rest : restAt os ns vs count a ≡ setsRest x low k whole
-      owned : (i : ℕ) → cursor ≤ i → i < a → isOwned os (x * 2) i ≡ true
+      owned : (i : ℕ) → cursor ≤ i → i < a → isWord os (x * 2) i ≡ true
       inside : (i : ℕ) → cursor ≤ i → i < a → (low .0 ≤ getD ns i 0) × (getD ns i 0 < low .0 + k)
       rise : Rising (pairAt ns vs) (λ p. rowCut mask (drop 1 p)) cursor a
       few : (i : ℕ) → cursor ≤ i → i + mostRows < a → getD ns i 0 ≡ getD ns (i + mostRows) 0 → ⊥
@@ -266,7 +267,7 @@ module _ (os ns vs : List ℕ) (count cursor x to : ℕ) (low : Point) (mask : �
 
     module _ (end : Point) (many : n ≡ end .0 - low .0) (ended : begins (hasOwner x 0) (setsRest x low n whole) ≡ false) where
       -- an entry of the owner that stands first behind the runs
-      stands-first : (a : ℕ) → a < count → isOwned os (x * 2) a ≡ true → restAt os ns vs count a ≡ setsRest x low n whole → ⊥
+      stands-first : (a : ℕ) → a < count → isWord os (x * 2) a ≡ true → restAt os ns vs count a ≡ setsRest x low n whole → ⊥
       unfolding entriesFrom
       stands-first a l w e =
           let o : getD os a 0 ≡ x * 2 = eqb-true (getD os a 0) (x * 2) w in

@@ -12,8 +12,8 @@ use Rattle.meaning.specs.Kept.{Entry}
 use Rattle.meaning.specs.declared.Point.{Point}
 use Rattle.rowset.specs.Rows.{rowsFrom}
 use Rattle.kinds.specs.Kinds.{pairsFrom}
-use Rattle.shelf.specs.Entries.{entriesFrom, runOf, pairRunOf, hasOwner, isEntry}
-use Rattle.shelf.proofs.Walking.{RunAt, PairsAt, run-walked, pairs-walked}
+use Rattle.shelf.specs.Entries.{entriesFrom, runOf, hasOwner, isEntry}
+use Rattle.shelf.proofs.Walking.{entryRun, RunAt, PairsAt, run-walked, pairs-walked}
 use Rattle.shelving.proofs.Paired.{pairOf, entries-pairs}
 use Rattle.formed.specs.Tests.{rowsFit}
 use Rattle.formed.specs.Walk.{front, behind, setsRest, rowsFound, pairsFound}
@@ -41,18 +41,18 @@ module _ (os ns vs : List ℕ) (count cursor x : ℕ) (l : cursor ≤ count) whe
   abbrev es : List Entry
   es = restAt os ns vs count cursor
 
-  pub run-found : (number : ℕ) {r : ℕ} → r ≡ cursor + runOf os ns cursor count (x * 2) number → RunFound os ns vs count cursor x number r
+  pub run-found : (number : ℕ) {r : ℕ} → r ≡ cursor + entryRun os ns cursor count (x * 2) number → RunFound os ns vs count cursor x number r
   run-found number {r} e =
       let q = isEntry x 0 number in
       let rows : List (List ℕ) = map (λ e. e .values) (front q es) in
       let o : x * 2 + 0 ≡ x * 2 = omega arith in
-      let w : RunAt os ns vs cursor count (x * 2) number rows (behind q es)
+      let w : RunAt os ns vs cursor count (entryRun os ns cursor count (x * 2) number) rows (behind q es)
       = rw o at (run-walked os ns vs cursor count x l 0 number rows (behind q es) (omega arith) (sym (ap (λ ys. ys ++ behind q es) (rows-back x number es) ∙ two-parts q es)) (behind-stops q es)) in
-      let d : r ≡ cursor + length rows = e ∙ ap (λ m. cursor + m) (w .run) in
+      let d : r ≡ cursor + length rows = e ∙ ap (λ m. cursor + m) (w .many) in
       let m : r - cursor ≡ length rows = omega arith in
       record { onward = omega arith; within = omega (arith, w .within); rows = sym (ap (rowsFrom vs cursor) m ∙ w .these); rest = ap (restAt os ns vs count) d ∙ w .behind }
 
-  pub pairs-found : {r : ℕ} → r ≡ cursor + pairRunOf os cursor count (x * 2 + 1) → PairsFound os ns vs count cursor x r
+  pub pairs-found : {r : ℕ} → r ≡ cursor + runOf os cursor count (x * 2 + 1) → PairsFound os ns vs count cursor x r
   pairs-found {r} e =
       let q = hasOwner x 1 in
       let w : PairsAt os ns vs cursor count (x * 2 + 1) (front q es) (behind q es) = pairs-walked os ns vs cursor count x l (front q es) (behind q es) (sym (two-parts q es)) (front-passes q es) (behind-stops q es) in

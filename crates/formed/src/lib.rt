@@ -279,8 +279,8 @@ fn node_end(
     ensures { λ r. ⌜ NodeEnded (now (owners .entry)) (now (numbers .entry)) (now (values .entry)) count cursor (now (rule .entry)) x low (end .0 - low .0) r ⌝ }
 {
     let owner = (x as u32) * 2;
-    let first = shelf::pair_run_end(owners, cursor, count, owner);
-    let to = shelf::pair_run_end(owners, first, count, owner + 1);
+    let first = shelf::run_end(owners, cursor, count, owner);
+    let to = shelf::run_end(owners, first, count, owner + 1);
     if !sets_fit(numbers, values, cursor, first, low, end, mask) {
         return Ended::Stuck;
     }

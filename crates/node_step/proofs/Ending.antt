@@ -120,7 +120,7 @@ module _ {s : Stored} {w : List ℕ} {x : ℕ} where
 
 module _ {s : Stored} {w os ns vs stamps f : List ℕ} {x : ℕ} {o : Own} {spot : Spot} {rows at : List ℕ} {left right : Child} {node : Node} {rows₁ at₁ : List ℕ}
     (k : Loads s w os ns vs stamps f x o spot rows at left right node rows₁ at₁) {rows₂ at₂ : List ℕ} {done : Bool}
-    (p : PointsSettled (s .rule) w rows₁ at₁ stamps (base k) (oldAges k) (oldValues k) left right (spot .sets + (o .before - o .low)) (point (o .before)) (point (o .after)) node rows₂ at₂ done)
+    (p : PointsSettled (s .rule) w rows₁ at₁ stamps (base k) (oldAges k) (oldValues k) left right (spot .sets + (o .before - o .low .0)) (point (o .before)) (point (o .after)) node rows₂ at₂ done)
     {on ov bl : List ℕ} (out : OutThere s w on ov bl (spot .kept)) where
   few-nodes : x < 32
   few-nodes = numbers (k .ready) x (k .here) (k .figures) .node
@@ -129,8 +129,8 @@ module _ {s : Stored} {w os ns vs stamps f : List ℕ} {x : ℕ} {o : Own} {spot
   step-crowded told = walks-crowded few-nodes (k .below) (k .room .stand) (front-stays k p) (out .counted) (crowds k p told)
 
   pub step-kept : done ≡ true → {on' ov' bl' rows₃ at₃ : List ℕ} {kept' : ℕ} → BlockKept (s .rule) w rows₂ at₂ stamps (base k) (oldAges k) (oldValues k) left right (spot .sets) o node on ov bl x (spot .kept) on' ov' bl' kept'
-      → MovedDown rows₂ at₂ rows₃ at₃ (spot .below) (spot .sets - spot .below) (o .after - o .low)
+      → MovedDown rows₂ at₂ rows₃ at₃ (spot .below) (spot .sets - spot .below) (o .after - o .low .0)
       → Walks s w (λ y. y ≡ x) (length (entriesNow s w x)) x (spot .below) rows at rows₃ at₃ on ov bl on' ov' bl' (spot .kept) (record { kept = kept'; low = 32 })
   step-kept told b d =
-      walks-kept (out .counted) (block-now k p told b) (o .after - o .low) (o .pairs - o .begin) (32 * (o .after - o .before)) few-nodes (k .below) (sets-most (k .ready) x (k .here) (k .figures)) (rows-most (k .ready) x (k .here) (k .figures))
+      walks-kept (out .counted) (block-now k p told b) (o .after - o .low .0) (o .pairs - o .begin) (32 * (o .after - o .before)) few-nodes (k .below) (sets-most (k .ready) x (k .here) (k .figures)) (rows-most (k .ready) x (k .here) (k .figures))
       (whole k p told) (whole-sets k p told) (whole-end k p told) d (calm-here k p told)

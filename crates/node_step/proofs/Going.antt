@@ -1,9 +1,10 @@
--- A node's newly settled points, one after the other: what stands before each, and what stands behind the last or at a crowded one.
+-- A node's newly settled points, one after the other: what one gives, what stands before each, and what stands behind the last or at a crowded one.
 use Prim.Native.Nat.{ℕ, _+_, _-_, _*_, _≤_, _<_}
 use native.Mathlib.Omega.{arith}
-use mathlib.Core.Path.{_≡_, sym, ap, _∙_}
-use mathlib.Core.Bool.{true, false, false≢true}
+use mathlib.Core.Path.{_≡_, refl, sym, ap, _∙_}
+use mathlib.Core.Bool.{Bool, true, false, false≢true}
 use mathlib.Core.List.{List, []}
+use lib.ListN.{length}
 use lib.Dec.{ltb}
 use borrow.Author.Tests.{ltb-true, ltb-false}
 use Rattle.meaning.specs.Log.{point}
@@ -18,11 +19,44 @@ use Rattle.room.specs.Room.{setIn, Sets}
 use Rattle.room.specs.declared.Child.{Child}
 use Rattle.room.proofs.Laid.{laid-fewer}
 use Rattle.shelf.specs.Appended.{Space, Extended, Pushed}
-use Rattle.shelf.proofs.Growth.{pushed-set, extended-none, extended-as, extended-next}
+use Rattle.shelf.proofs.Growth.{pushed-set, extended-none, extended-as, extended-then, extended-next}
 use Rattle.since.specs.Since.{heldIn}
 use Rattle.settling.specs.Sights.{asked, SetMade, PointSettled}
-use Rattle.node_step.specs.Parts.{SeesFirst, PointsReady, PointsSettled}
+use Rattle.node_step.specs.Parts.{NextReady, NextSettled, SeesFirst, PointsReady, PointsSettled}
 use Rattle.node_step.proofs.Laying.{run-few, sets-more, extended-front}
+
+-- ---- one point
+
+module _ {b w rows at times : List ℕ} {base : Point} {oldAges oldValues : List ℕ} {left right : Child} {n : ℕ} {start i : Point} {node : Node}
+    (r : NextReady b w rows at times base oldAges oldValues left right n start i node) {out : List ℕ} {k : ℕ} (p : PointSettled b w rows at times base oldAges oldValues left right start i node out k) where
+  pub next-crowded : mostRows < k → NextSettled b w rows at times base oldAges oldValues left right n start i node rows at false
+  next-crowded u =
+      record {
+        stay = extended-none (r .space .laid);
+        more = λ d. absurd (false≢true d);
+        few = λ d. absurd (false≢true d);
+        there = λ d. absurd (false≢true d);
+        crowded = λ d v s. p .gives v s .many u;
+      }
+
+  module _ (u : k ≤ mostRows) where
+    pub next-space : Space rows at n (k - 0)
+    next-space =
+        let s = r .space in
+        record { laid = s .laid; mark = s .mark; words = omega (arith, s .words); small = omega (arith, s .small) }
+
+    pub next-more : {rows' at' : List ℕ} → Pushed rows at rows' at' n (k - 0) (rowsFrom out 0 (k - 0)) → NextSettled b w rows at times base oldAges oldValues left right n start i node rows' at' true
+    next-more h =
+        let f : k - 0 ≡ k = omega arith in
+        record {
+          stay = extended-front (h .more) n (omega arith);
+          more = λ d. extended-as (h .more) (λ q l. sym (pushed-set h));
+          few = λ d. omega (arith, ap length (pushed-set h), rows-length out 0 (k - 0));
+          there = λ d v s. pushed-set h ∙ ap (rowsFrom out 0) f ∙ p .gives v s .few u;
+          crowded = λ d. absurd (false≢true (sym d));
+        }
+
+-- ---- one point after the other
 
 module _ (b w rows at times : List ℕ) (base : Point) (oldAges oldValues : List ℕ) (left right : Child) (n : ℕ) (start end : Point) (node : Node) where
   -- the points from start on before i are settled
@@ -52,66 +86,59 @@ module _ {b w rows at times : List ℕ} {base : Point} {oldAges oldValues : List
     going-front = extended-front (t .more) n (omega arith)
 
     module _ (l : i .0 < end .0) where
-      pub point-asks : asked b w rows' at' oldAges oldValues left right start i node
-      point-asks = r .asks i (t .begun) l rows' at' (laid-fewer (t .more .laid) n (omega arith))
-
-      pub point-space : (k : ℕ) → k ≤ 32 → Space rows' at' (n + (i .0 - start .0)) (k - 0)
-      point-space k u =
+      pub point-ready : NextReady b w rows' at' times base oldAges oldValues left right (n + (i .0 - start .0)) start i node
+      point-ready =
           let s = r .space in
           let m = run-few (t .sets) n (i .0 - start .0) (omega arith) in
           let d : 32 * (i .0 - start .0) + 32 ≤ 32 * (end .0 - start .0) = omega (arith, t .begun) in
           record {
-            laid = t .more .laid;
-            mark = omega (arith, s .marks, t .more .atLong, t .begun);
-            words = omega (arith, s .words, t .more .rowsLong, t .more .marks n (omega arith));
-            small = omega (arith, s .small, t .more .marks n (omega arith));
+            asks = r .asks i (t .begun) l rows' at' (laid-fewer (t .more .laid) n (omega arith));
+            space =
+                record {
+                  laid = t .more .laid;
+                  mark = omega (arith, s .marks, t .more .atLong, t .begun);
+                  words = omega (arith, s .words, t .more .rowsLong, t .more .marks n (omega arith));
+                  small = omega (arith, s .small, t .more .marks n (omega arith));
+                };
           }
 
-      module _ {out : List ℕ} {k : ℕ} (p : PointSettled b w rows' at' times base oldAges oldValues left right start i node out k) where
-        made : (v : Sight) → SeesFirst b w rows at times base oldAges oldValues left right n start end node v → SetMade out k (settle v (heldIn oldAges oldValues) start i node)
-        made v s = p .gives v (s rows' at' (t .more .earlier))
-
-        pub going-crowded : mostRows < k → PointsSettled b w rows at times base oldAges oldValues left right n start end node rows' at' false
-        going-crowded u =
+      module _ {rows'' at'' : List ℕ} {done : Bool} (p : NextSettled b w rows' at' times base oldAges oldValues left right (n + (i .0 - start .0)) start i node rows'' at'' done) where
+        pub going-crowded : done ≡ false → PointsSettled b w rows at times base oldAges oldValues left right n start end node rows'' at'' false
+        going-crowded told =
             record {
-              stay = going-front;
+              stay = extended-front (extended-then (t .more) (extended-as (p .stay) (λ q u. absurd (omega arith)))) n (omega arith);
               more = λ d. absurd (false≢true d);
               sets = λ d. absurd (false≢true d);
               there = λ d. absurd (false≢true d);
-              crowded = λ d v s. (i, t .begun, l, made v s .many u);
+              crowded = λ d v s. (i, t .begun, l, p .crowded told v (s rows' at' (t .more .earlier)));
             }
 
-        pub going-more : {rows'' at'' : List ℕ} → k ≤ mostRows → Pushed rows' at' rows'' at'' (n + (i .0 - start .0)) (k - 0) (rowsFrom out 0 (k - 0))
-            → Going b w rows at times base oldAges oldValues left right n start end node rows'' at'' (point (i .0 + 1))
-        going-more {rows''} {at''} u h =
+        pub going-more : done ≡ true → Going b w rows at times base oldAges oldValues left right n start end node rows'' at'' (point (i .0 + 1))
+        going-more told =
             let g = t .begun in
+            let h = p .more told in
             let e : i .0 + 1 - start .0 ≡ i .0 - start .0 + 1 = omega arith in
             let f : n + (i .0 - start .0 + 1) ≡ n + (i .0 - start .0) + 1 = omega arith in
-            let earlier : Extended rows at rows' at' n (i .0 - start .0) (λ q. setIn rows'' at'' (n + q)) = extended-as (t .more) (λ q m. sym (h .more .earlier (n + q) (omega arith))) in
-            let few : Sets rows'' at'' (n + (i .0 - start .0) + 1) = sets-more (t .sets) (h .more) (λ q m. omega (arith, rows-length out 0 (k - 0))) in
+            let earlier : Extended rows at rows' at' n (i .0 - start .0) (λ q. setIn rows'' at'' (n + q)) = extended-as (t .more) (λ q m. sym (h .earlier (n + q) (omega arith))) in
+            let few : Sets rows'' at'' (n + (i .0 - start .0) + 1) = sets-more (t .sets) h (λ q m. p .few told) in
             record {
               begun = omega arith;
               reached = omega arith;
-              more = rw e (extended-next earlier (h .more) (sym (pushed-set h)));
+              more = rw e (extended-next earlier h refl);
               sets = rw (e, f) few;
               there = λ v s q m. go v s q (rw e at m) (tested (ltb q (i .0 - start .0)));
             }
           where
-            last : (v : Sight) → SeesFirst b w rows at times base oldAges oldValues left right n start end node v → setIn rows'' at'' (n + (i .0 - start .0)) ≡ settle v (heldIn oldAges oldValues) start i node
-            last v s =
-                let f : k - 0 ≡ k = omega arith in
-                pushed-set h ∙ ap (rowsFrom out 0) f ∙ made v s .few u
-
             go : (v : Sight) → SeesFirst b w rows at times base oldAges oldValues left right n start end node v → (q : ℕ) → q < i .0 - start .0 + 1 → Tested (ltb q (i .0 - start .0))
                 → setIn rows'' at'' (n + q) ≡ settle v (heldIn oldAges oldValues) start (point (start .0 + q)) node
             go v s q m (passed d) =
                 let o : q < i .0 - start .0 = ltb-true q (i .0 - start .0) d in
-                h .more .earlier (n + q) (omega arith) ∙ t .there v s q o
+                p .more told .earlier (n + q) (omega arith) ∙ t .there v s q o
             go v s q m (failed d) =
                 let o : q ≡ i .0 - start .0 = omega (arith, ltb-false q (i .0 - start .0) d) in
                 let g = t .begun in
                 let f : start .0 + (i .0 - start .0) ≡ i .0 = omega arith in
-                rw (o, f) (last v s)
+                rw (o, f) (p .there told v (s rows' at' (t .more .earlier)))
 
     pub going-all : end .0 ≤ i .0 → PointsSettled b w rows at times base oldAges oldValues left right n start end node rows' at' true
     going-all l =
@@ -124,3 +151,9 @@ module _ {b w rows at times : List ℕ} {base : Point} {oldAges oldValues : List
           there = λ d. u .there;
           crowded = λ d. absurd (false≢true (sym d));
         }
+
+  -- behind the last point
+  pub going-last : {rows' at' : List ℕ} {i : Point} → Going b w rows at times base oldAges oldValues left right n start end node rows' at' i → i .0 + 1 ≡ end .0 → {rows'' at'' : List ℕ} {done : Bool}
+      → NextSettled b w rows' at' times base oldAges oldValues left right (n + (i .0 - start .0)) start i node rows'' at'' done → PointsSettled b w rows at times base oldAges oldValues left right n start end node rows'' at'' done
+  going-last t e {done = true} p = going-all (going-more t (omega arith) p refl) (omega arith)
+  going-last t e {done = false} p = going-crowded t (omega arith) p refl

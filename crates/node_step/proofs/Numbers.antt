@@ -16,7 +16,8 @@ use Rattle.method.specs.Step.{wantedFrom, countBefore, countAfter}
 use Rattle.method.specs.Room.{rowsMost, setsMost}
 use Rattle.method.proofs.Bounds.{before-after, after-most, wanted-before, wanted-after, wanted-grows}
 use Rattle.method.proofs.Room.{entries-rows}
-use Rattle.shelf.specs.Entries.{entriesFrom, Stands}
+use Rattle.rowset.specs.Sets.{Run}
+use Rattle.shelf.specs.Entries.{entriesFrom}
 use Rattle.shelving.specs.Shelved.{setEntries, Spaces}
 use Rattle.node_step.specs.declared.Own.{Own}
 use Rattle.node_step.specs.Figures.{NodeFigures, CallReady}
@@ -38,10 +39,10 @@ fewer-marks a k m h = omega arith
 pub record Numbers (points x stamps entries numbers values figures : ℕ) (o : Own) : Type 0 where
   pub node : x < 32
   pub figured : x * 9 + 9 ≤ figures
-  pub low-before : o .low ≤ o .before
+  pub low-before : o .low .0 ≤ o .before
   pub before-after : o .before ≤ o .after
-  pub low-want : o .low ≤ o .want
-  pub want-after : o .want ≤ o .after
+  pub low-want : o .low .0 ≤ o .want .0
+  pub want-after : o .want .0 ≤ o .after
   pub after-most : o .after ≤ points + 1
   pub few-points : points < 10000000
   pub begin-pairs : o .begin ≤ o .pairs
@@ -74,7 +75,7 @@ module _ {s : Stored} {w os ns vs stamps f : List ℕ} (g : CallReady s w os ns 
     figures : NodeFigures s w os ns vs f x
     figures = g .each x l
 
-    pub low-is : o .low ≡ wantedFrom (s .rule) (countBefore s) x .0
+    pub low-is : o .low .0 ≡ wantedFrom (s .rule) (countBefore s) x .0
     low-is = h .low ∙ figures .low
 
     pub before-is : o .before ≡ countBefore s x
@@ -83,7 +84,7 @@ module _ {s : Stored} {w os ns vs stamps f : List ℕ} (g : CallReady s w os ns 
     pub after-is : o .after ≡ countAfter s w x
     after-is = h .after ∙ figures .after
 
-    pub want-is : o .want ≡ wantedFrom (s .rule) (countAfter s w) x .0
+    pub want-is : o .want .0 ≡ wantedFrom (s .rule) (countAfter s w) x .0
     want-is = h .want ∙ figures .want
 
     pub numbers : Numbers (s .points) x (length stamps) (length os) (length ns) (length vs) (length f) o
@@ -109,30 +110,30 @@ module _ {s : Stored} {w os ns vs stamps f : List ℕ} (g : CallReady s w os ns 
           few-stamps = omega (arith, stamps-many, many);
         }
 
-    pub entries-here : entriesFrom os ns vs (o .begin) (o .pairs - o .begin) ≡ setEntries x (held (s .entries) x) (point (o .low)) (o .before - o .low)
+    pub entries-here : entriesFrom os ns vs (o .begin) (o .pairs - o .begin) ≡ setEntries x (held (s .entries) x) (o .low) (o .before - o .low .0)
     entries-here = rw (h .begin, h .pairs, low-is, before-is) (figures .sets)
 
-    rows-kept : o .pairs - o .begin ≡ length (gather (held (s .entries) x) (pointsFrom (point (o .low)) (o .before - o .low)))
+    rows-kept : o .pairs - o .begin ≡ length (gather (held (s .entries) x) (pointsFrom (o .low) (o .before - o .low .0)))
     rows-kept =
         sym (entries-many os ns vs (o .begin) (o .pairs - o .begin)) ∙ ap length entries-here
-        ∙ entries-rows (λ j. entryOf x 0 (j .0)) (held (s .entries) x) (pointsFrom (point (o .low)) (o .before - o .low))
+        ∙ entries-rows (λ j. entryOf x 0 (j .0)) (held (s .entries) x) (pointsFrom (o .low) (o .before - o .low .0))
 
-    pub sets-most : setsMost s w x ≡ o .after - o .low
+    pub sets-most : setsMost s w x ≡ o .after - o .low .0
     sets-most = rw (after-is, low-is)
 
     pub rows-most : rowsMost s w x ≡ o .pairs - o .begin + 32 * (o .after - o .before)
     rows-most = rw (rows-kept, after-is, low-is, before-is)
 
+    pub load-rows : Run vs (o .begin) (o .pairs)
+    load-rows =
+        let m = numbers in
+        record { ordered = omega arith; there = omega arith }
+
     module _ {rows at : List ℕ} {n : ℕ} (r : RoomFor rows at n (setsMost s w x) (rowsMost s w x)) where
-      pub room-here : RoomFor rows at n (o .after - o .low) (o .pairs - o .begin + 32 * (o .after - o .before))
+      pub room-here : RoomFor rows at n (o .after - o .low .0) (o .pairs - o .begin + 32 * (o .after - o .before))
       room-here = rw (sets-most, rows-most) at r
 
-      pub load-stands : Stands os ns vs (o .pairs)
-      load-stands =
-          let m = numbers in
-          record { ownersThere = omega arith; numbersThere = omega arith; valuesThere = omega arith }
-
-      pub load-spaces : Spaces rows at n (o .before - o .low) (o .pairs - o .begin)
+      pub load-spaces : Spaces rows at n (o .before - o .low .0) (o .pairs - o .begin)
       load-spaces =
           let q = room-here in
           record {

@@ -3,7 +3,7 @@ use Prim.Native.Nat.{ℕ, zero, suc, _+_, _-_, _*_, _≤_, _<_}
 use native.Mathlib.Omega.{arith}
 use mathlib.Core.Path.{_≡_, refl, sym, ap, ap₂, _∙_}
 use mathlib.Core.Bool.{Bool, true, false}
-use mathlib.Core.List.{List, [], _++_, map, append-nil}
+use mathlib.Core.List.{List, [], _++_, map}
 use lib.ListN.{length, getD, take, drop}
 use lib.Dec.{ltb}
 use borrow.Author.Tests.{lt-ltb, le-ltb}
@@ -67,8 +67,7 @@ pub record Loads (s : Stored) (w os ns vs stamps f : List ℕ) (x : ℕ) (o : Ow
   pub figures : OwnFigures f x o
   pub decoded : node ≡ nodeAt (s .rule) x
   pub children : ChildSetsAre f (childrenOf node) (spot .left) (spot .right) left right
-  pub next : ℕ
-  pub read : Loaded os ns vs (o .begin) (o .pairs) x (point (o .low)) (o .before - o .low) rows at rows₁ at₁ (spot .sets) next
+  pub read : Loaded ns vs (o .begin) (o .pairs) (o .low) (o .before - o .low .0) rows at rows₁ at₁ (spot .sets)
 
 module _ {s : Stored} {w os ns vs stamps f : List ℕ} {x : ℕ} {o : Own} {spot : Spot} {rows at : List ℕ} {left right : Child} {node : Node} {rows₁ at₁ : List ℕ}
     (k : Loads s w os ns vs stamps f x o spot rows at left right node rows₁ at₁) where
@@ -108,44 +107,44 @@ module _ {s : Stored} {w os ns vs stamps f : List ℕ} {x : ℕ} {o : Own} {spot
       ∙ ap (λ es. heldPairs es x) (sym e)
 
   -- what its turn gives at a kept point, at a new one, and at any
-  held-at : (q : ℕ) → q < o .before - o .low → held (s .entries) x (point (o .low + q)) ≡ turnSet s w x q
+  held-at : (q : ℕ) → q < o .before - o .low .0 → held (s .entries) x (point (o .low .0 + q)) ≡ turnSet s w x q
   held-at q u = rw (low-is g x l h) (sym (rows-held s w x l q (rw (before-is g x l h, low-is g x l h) at u)))
 
-  new-at : (q : ℕ) → q < o .after - o .before → settle (sight s w x) (heldIn oldAges oldValues) (point (o .before)) (point (o .before + q)) (nodeAt (s .rule) x) ≡ turnSet s w x (o .before - o .low + q)
+  new-at : (q : ℕ) → q < o .after - o .before → settle (sight s w x) (heldIn oldAges oldValues) (point (o .before)) (point (o .before + q)) (nodeAt (s .rule) x) ≡ turnSet s w x (o .before - o .low .0 + q)
   new-at q u = rw (held-is, before-is g x l h, low-is g x l h) (sym (rows-new s w x l q (rw (after-is g x l h, before-is g x l h) at u)))
 
-  point-rows : (j : Point) → rowsOfTurn (turn s w x) j ≡ turnSet s w x (j .0 - o .low)
+  point-rows : (j : Point) → rowsOfTurn (turn s w x) j ≡ turnSet s w x (j .0 - o .low .0)
   point-rows j = rw (low-is g x l h) (rows-at s w x l j)
 
   new-rows : (j : Point) → o .before ≤ j .0 → j .0 < o .after → settle (sight s w x) (heldIn oldAges oldValues) (point (o .before)) j (nodeAt (s .rule) x) ≡ rowsOfTurn (turn s w x) j
   new-rows j u v =
       let a = nums .low-before in
       let d : o .before + (j .0 - o .before) ≡ j .0 = omega arith in
-      let e : o .before - o .low + (j .0 - o .before) ≡ j .0 - o .low = omega arith in
+      let e : o .before - o .low .0 + (j .0 - o .before) ≡ j .0 - o .low .0 = omega arith in
       (rw (d, e) at (new-at (j .0 - o .before) (omega arith))) ∙ sym (point-rows j)
 
   -- its kept sets
-  loaded : Extended rows at rows₁ at₁ (spot .sets) (o .before - o .low) (λ k. held (s .entries) x (point (o .low + k)))
-  loaded = k .read .read (held (s .entries) x) [] (entries-here g x l h ∙ sym (append-nil _)) refl .0
+  loaded : Extended rows at rows₁ at₁ (spot .sets) (o .before - o .low .0) (λ k. held (s .entries) x (point (o .low .0 + k)))
+  loaded = k .read .read os x (held (s .entries) x) (entries-here g x l h)
 
-  loaded-sets : Sets rows₁ at₁ (spot .sets + (o .before - o .low))
+  loaded-sets : Sets rows₁ at₁ (spot .sets + (o .before - o .low .0))
   loaded-sets =
       sets-more (k .room .stand) loaded
-      (λ k u. g .formed .sets-few x l (point (o .low + k)) (omega (arith, low-is g x l h)) (omega (arith, before-is g x l h)))
+      (λ k u. g .formed .sets-few x l (point (o .low .0 + k)) (omega (arith, low-is g x l h)) (omega (arith, before-is g x l h)))
 
-  loaded-end : getD at₁ (spot .sets + (o .before - o .low)) 0 ≤ getD at (spot .sets) 0 + (o .pairs - o .begin)
-  loaded-end = omega (arith, k .read .taken .end, k .read .taken .within)
+  loaded-end : getD at₁ (spot .sets + (o .before - o .low .0)) 0 ≤ getD at (spot .sets) 0 + (o .pairs - o .begin)
+  loaded-end = k .read .end
 
-  pub seen : SeesFirst (s .rule) w rows₁ at₁ stamps base oldAges oldValues left right (spot .sets + (o .before - o .low)) (point (o .before)) (point (o .after)) node (sight s w x)
+  pub seen : SeesFirst (s .rule) w rows₁ at₁ stamps base oldAges oldValues left right (spot .sets + (o .before - o .low .0)) (point (o .before)) (point (o .after)) node (sight s w x)
   seen rows' at' e = rw is (sees g x l rows at (spot .sets) (spot .left) (spot .right) left right (rw is at (k .children)) (k .stand) rows' at' (λ k u. e k (omega arith) ∙ loaded .earlier k u))
 
-  point-asks : (i : Point) → o .before ≤ i .0 → i .0 < o .after → (rows' at' : List ℕ) → Laid rows' at' (spot .sets + (o .before - o .low))
+  point-asks : (i : Point) → o .before ≤ i .0 → i .0 < o .after → (rows' at' : List ℕ) → Laid rows' at' (spot .sets + (o .before - o .low .0))
       → asked (s .rule) w rows' at' oldAges oldValues left right (point (o .before)) i node
   point-asks i u v rows' at' laid =
       rw (is, before-is g x l h)
-      (asks g x l rows at (spot .sets) (spot .left) (spot .right) left right (rw is at (k .children)) (k .stand) oldAges oldValues old-there (spot .sets + (o .before - o .low)) (omega arith) i (omega (arith, before-is g x l h)) (omega (arith, after-is g x l h)) rows' at' laid)
+      (asks g x l rows at (spot .sets) (spot .left) (spot .right) left right (rw is at (k .children)) (k .stand) oldAges oldValues old-there (spot .sets + (o .before - o .low .0)) (omega arith) i (omega (arith, before-is g x l h)) (omega (arith, after-is g x l h)) rows' at' laid)
 
-  pub points-ready : PointsReady (s .rule) w rows₁ at₁ stamps base oldAges oldValues left right (spot .sets + (o .before - o .low)) (point (o .before)) (point (o .after)) node
+  pub points-ready : PointsReady (s .rule) w rows₁ at₁ stamps base oldAges oldValues left right (spot .sets + (o .before - o .low .0)) (point (o .before)) (point (o .after)) node
   points-ready =
       let q = room-here g x l h (k .room) in
       let a = nums .low-before in
@@ -159,13 +158,13 @@ module _ {s : Stored} {w os ns vs stamps f : List ℕ} {x : ℕ} {o : Own} {spot
             record {
               laid = loaded .laid;
               marks = omega (arith, q .marks, loaded .atLong);
-              words = rw (loaded .rowsLong) (room-words (getD at (spot .sets) 0) (o .pairs - o .begin) (32 * (o .after - o .before)) (length rows) (getD at₁ (spot .sets + (o .before - o .low)) 0) (q .words) loaded-end);
-              small = room-small (getD at (spot .sets) 0) (o .pairs - o .begin) (32 * (o .after - o .before)) (getD at₁ (spot .sets + (o .before - o .low)) 0) (q .small) loaded-end;
+              words = rw (loaded .rowsLong) (room-words (getD at (spot .sets) 0) (o .pairs - o .begin) (32 * (o .after - o .before)) (length rows) (getD at₁ (spot .sets + (o .before - o .low .0)) 0) (q .words) loaded-end);
+              small = room-small (getD at (spot .sets) 0) (o .pairs - o .begin) (32 * (o .after - o .before)) (getD at₁ (spot .sets + (o .before - o .low .0)) 0) (q .small) loaded-end;
             };
       }
 
   module _ {rows₂ at₂ : List ℕ} {done : Bool}
-      (p : PointsSettled (s .rule) w rows₁ at₁ stamps base oldAges oldValues left right (spot .sets + (o .before - o .low)) (point (o .before)) (point (o .after)) node rows₂ at₂ done) where
+      (p : PointsSettled (s .rule) w rows₁ at₁ stamps base oldAges oldValues left right (spot .sets + (o .before - o .low .0)) (point (o .before)) (point (o .after)) node rows₂ at₂ done) where
     -- a crowded point, and what stays then
     crowds-at : (i : Point) → o .before ≤ i .0 → i .0 < o .after → mostRows < length (settle (sight s w x) (heldIn oldAges oldValues) (point (o .before)) i node) → crowdedNow s w x ≡ true
     unfolding crowdedNow
@@ -193,29 +192,29 @@ module _ {s : Stored} {w os ns vs stamps f : List ℕ} {x : ℕ} {o : Own} {spot
         }
 
     module _ (told : done ≡ true) where
-      total : o .before - o .low + (o .after - o .before) ≡ o .after - o .low
+      total : o .before - o .low .0 + (o .after - o .before) ≡ o .after - o .low .0
       total = omega (arith, nums .low-before, nums .before-after)
 
       -- all its sets
-      pub whole : Extended rows at rows₂ at₂ (spot .sets) (o .after - o .low) (turnSet s w x)
+      pub whole : Extended rows at rows₂ at₂ (spot .sets) (o .after - o .low .0) (turnSet s w x)
       whole =
           rw total at
           (extended-then (extended-as loaded held-at)
           (extended-as (p .more told) (λ q u. p .there told (sight s w x) seen q u ∙ rw is (new-at q u))))
 
-      pub whole-sets : Sets rows₂ at₂ (spot .sets + (o .after - o .low))
+      pub whole-sets : Sets rows₂ at₂ (spot .sets + (o .after - o .low .0))
       whole-sets =
-          let e : spot .sets + (o .before - o .low) + (o .after - o .before) ≡ spot .sets + (o .after - o .low) = omega (arith, total) in
+          let e : spot .sets + (o .before - o .low .0) + (o .after - o .before) ≡ spot .sets + (o .after - o .low .0) = omega (arith, total) in
           rw e at (p .sets told)
 
-      pub whole-end : getD at₂ (spot .sets + (o .after - o .low)) 0 ≤ getD at (spot .sets) 0 + (o .pairs - o .begin + 32 * (o .after - o .before))
+      pub whole-end : getD at₂ (spot .sets + (o .after - o .low .0)) 0 ≤ getD at (spot .sets) 0 + (o .pairs - o .begin + 32 * (o .after - o .before))
       whole-end =
-          let e : spot .sets + (o .before - o .low) + (o .after - o .before) ≡ spot .sets + (o .after - o .low) = omega (arith, total) in
-          let m = rw e at (run-few (p .sets told) (spot .sets + (o .before - o .low)) (o .after - o .before) (omega arith)) in
-          ends-most (getD at₂ (spot .sets + (o .after - o .low)) 0) (getD at₂ (spot .sets + (o .before - o .low)) 0) (getD at₁ (spot .sets + (o .before - o .low)) 0) (getD at (spot .sets) 0) (o .pairs - o .begin) (32 * (o .after - o .before)) m (p .more told .marks (spot .sets + (o .before - o .low)) (omega arith)) loaded-end
+          let e : spot .sets + (o .before - o .low .0) + (o .after - o .before) ≡ spot .sets + (o .after - o .low .0) = omega (arith, total) in
+          let m = rw e at (run-few (p .sets told) (spot .sets + (o .before - o .low .0)) (o .after - o .before) (omega arith)) in
+          ends-most (getD at₂ (spot .sets + (o .after - o .low .0)) 0) (getD at₂ (spot .sets + (o .before - o .low .0)) 0) (getD at₁ (spot .sets + (o .before - o .low .0)) 0) (getD at (spot .sets) 0) (o .pairs - o .begin) (32 * (o .after - o .before)) m (p .more told .marks (spot .sets + (o .before - o .low .0)) (omega arith)) loaded-end
 
-      set-there : (j : Point) → o .low ≤ j .0 → j .0 < o .after → setAt rows₂ at₂ (spot .sets) (point (o .low)) j ≡ rowsOfTurn (turn s w x) j
-      set-there j u v = whole .sets (j .0 - o .low) (omega arith) ∙ sym (point-rows j)
+      set-there : (j : Point) → o .low .0 ≤ j .0 → j .0 < o .after → setAt rows₂ at₂ (spot .sets) (o .low) j ≡ rowsOfTurn (turn s w x) j
+      set-there j u v = whole .sets (j .0 - o .low .0) (omega arith) ∙ sym (point-rows j)
 
       pub calm-here : crowdedNow s w x ≡ false
       unfolding crowdedNow
@@ -226,17 +225,17 @@ module _ {s : Stored} {w os ns vs stamps f : List ℕ} {x : ℕ} {o : Own} {spot
           (λ j u v.
           let u' : o .before ≤ j .0 = omega (arith, before-is g x l h) in
           let b : j .0 < o .after = omega (arith, before-is g x l h, after-is g x l h) in
-          le-ltb mostRows (length (rowsOfTurn (turn s w x) j)) (rw (set-there j (omega arith) b) at (set-few whole-sets (spot .sets + (j .0 - o .low)) (omega arith))))
+          le-ltb mostRows (length (rowsOfTurn (turn s w x) j)) (rw (set-there j (omega arith) b) at (set-few whole-sets (spot .sets + (j .0 - o .low .0)) (omega arith))))
 
       -- its block
-      pub entries-now : setEntries x (setAt rows₂ at₂ (spot .sets) (point (o .low))) (point (o .want)) (o .after - o .want) ++ agedEntries x (newPairs (sight s w x) node (point (o .before)) (o .after - o .before) (heldIn oldAges oldValues)) ≡ entriesNow s w x
+      pub entries-now : setEntries x (setAt rows₂ at₂ (spot .sets) (o .low)) (o .want) (o .after - o .want .0) ++ agedEntries x (newPairs (sight s w x) node (point (o .before)) (o .after - o .before) (heldIn oldAges oldValues)) ≡ entriesNow s w x
       unfolding entriesNow
       entries-now =
           let a = nums .low-want in
           let pairs : newPairs (sight s w x) node (point (o .before)) (o .after - o .before) (heldIn oldAges oldValues) ≡ turn s w x .pairs = rw (is, held-is, before-is g x l h, after-is g x l h) (sym (turn-pairs s w x l)) in
-          let rows : setEntries x (setAt rows₂ at₂ (spot .sets) (point (o .low))) (point (o .want)) (o .after - o .want) ≡ gather (λ j. map (entryOf x 0 (j .0)) (rowsOfTurn (turn s w x) j)) (pointsFrom (point (o .want)) (o .after - o .want))
-          = gather-over (λ j. map (entryOf x 0 (j .0)) (setAt rows₂ at₂ (spot .sets) (point (o .low)) j)) (λ j. map (entryOf x 0 (j .0)) (rowsOfTurn (turn s w x) j)) (o .want) (o .after - o .want) (λ j u v. ap (map (entryOf x 0 (j .0))) (set-there j (omega arith) (omega arith))) in
-          let many : o .after - o .want ≡ countAfter s w x - wantedFrom (s .rule) (countAfter s w) x .0 = rw (want-is g x l h, after-is g x l h) in
+          let rows : setEntries x (setAt rows₂ at₂ (spot .sets) (o .low)) (o .want) (o .after - o .want .0) ≡ gather (λ j. map (entryOf x 0 (j .0)) (rowsOfTurn (turn s w x) j)) (pointsFrom (o .want) (o .after - o .want .0))
+          = gather-over (λ j. map (entryOf x 0 (j .0)) (setAt rows₂ at₂ (spot .sets) (o .low) j)) (λ j. map (entryOf x 0 (j .0)) (rowsOfTurn (turn s w x) j)) (o .want .0) (o .after - o .want .0) (λ j u v. ap (map (entryOf x 0 (j .0))) (set-there j (omega arith) (omega arith))) in
+          let many : o .after - o .want .0 ≡ countAfter s w x - wantedFrom (s .rule) (countAfter s w) x .0 = rw (want-is g x l h, after-is g x l h) in
           ap₂ (λ es fs. es ++ fs) (rows ∙ ap₂ (λ a n. gather (λ j. map (entryOf x 0 (j .0)) (rowsOfTurn (turn s w x) j)) (pointsFrom (point a) n)) (want-is g x l h) many) (ap (agedEntries x) pairs)
 
       pub block-ready : {on ov bl : List ℕ} → OutThere s w on ov bl (spot .kept) → BlockReady (s .rule) w rows₂ at₂ stamps base oldAges oldValues left right (spot .sets) o node on ov bl x (spot .kept)
@@ -250,7 +249,7 @@ module _ {s : Stored} {w os ns vs stamps f : List ℕ} {x : ℕ} {o : Own} {spot
             pairs =
                 record {
                   ordered = nums .before-after;
-                  asks = λ u. point-asks (point (o .after - 1)) (omega arith) (omega arith) rows₂ at₂ (laid-fewer (p .more told .laid) (spot .sets + (o .before - o .low)) (omega arith));
+                  asks = λ u. point-asks (point (o .after - 1)) (omega arith) (omega arith) rows₂ at₂ (laid-fewer (p .more told .laid) (spot .sets + (o .before - o .low .0)) (omega arith));
                   sight = sight s w x;
                   sees = seen rows₂ at₂ (p .more told .earlier);
                   held = old-there .valuesThere;
@@ -263,5 +262,5 @@ module _ {s : Stored} {w os ns vs stamps f : List ℕ} {x : ℕ} {o : Own} {spot
           → BlockPut x on ov bl on' ov' bl' (spot .kept) kept' (entriesNow s w x)
       block-now b = rw entries-now at (b .gives (sight s w x) (seen rows₂ at₂ (p .more told .earlier)))
 
-      pub down-laid : Laid rows₂ at₂ (spot .below + (spot .sets - spot .below) + (o .after - o .low))
+      pub down-laid : Laid rows₂ at₂ (spot .below + (spot .sets - spot .below) + (o .after - o .low .0))
       down-laid = let z : spot .below + (spot .sets - spot .below) ≡ spot .sets = omega (arith, k .below) in rw z (whole .laid)

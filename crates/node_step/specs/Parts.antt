@@ -13,7 +13,7 @@ use Rattle.method.specs.Settle.{Sight, settle}
 use Rattle.method.specs.Step.{newPairs}
 use Rattle.room.specs.Room.{setIn, setAt, Laid, Sets}
 use Rattle.room.specs.declared.Child.{Child}
-use Rattle.shelf.specs.Appended.{Extended}
+use Rattle.shelf.specs.Appended.{Space, Extended}
 use Rattle.shelving.specs.Shelved.{setEntries, agedEntries, Spaces}
 use Rattle.shelving.specs.Blocks.{RoomToKeep, EntriesPut}
 use Rattle.since.specs.Since.{heldIn}
@@ -41,15 +41,29 @@ ChildSetsAre f (y ∷ z ∷ zs) first second left right = (left ≡ childIn f y 
 
 -- a node's own figures
 pub record OwnFigures (f : List ℕ) (x : ℕ) (o : Own) : Type 0 where
-  pub low : o .low ≡ lowIn f x
+  pub low : o .low .0 ≡ lowIn f x
   pub before : o .before ≡ beforeIn f x
   pub after : o .after ≡ afterIn f x
-  pub want : o .want ≡ wantIn f x
+  pub want : o .want .0 ≡ wantIn f x
   pub begin : o .begin ≡ beginIn f x
   pub pairs : o .pairs ≡ pairsIn f x
   pub end : o .end ≡ endIn f x
 
 -- ---- the newly settled points
+
+module _ (b w rows at times : List ℕ) (base : Point) (oldAges oldValues : List ℕ) (left right : Child) (n : ℕ) (start i : Point) (node : Node) where
+  -- what must stand for point i: n sets, in which it finds what its kind asks for, and room for its set
+  pub record NextReady : Type 0 where
+    pub asks : asked b w rows at oldAges oldValues left right start i node
+    pub space : Space rows at n mostRows
+
+  -- the point's set stands behind the others, or it has too many rows
+  pub record NextSettled (rows' at' : List ℕ) (done : Bool) : Type 0 where
+    pub stay : Extended rows at rows' at' n 0 (λ q. [])
+    pub more : done ≡ true → Extended rows at rows' at' n 1 (λ q. setIn rows' at' n)
+    pub few : done ≡ true → length (setIn rows' at' n) ≤ mostRows
+    pub there : done ≡ true → (v : Sight) → Sees v b w rows at times base left right node → setIn rows' at' n ≡ settle v (heldIn oldAges oldValues) start i node
+    pub crowded : done ≡ false → (v : Sight) → Sees v b w rows at times base left right node → mostRows < length (settle v (heldIn oldAges oldValues) start i node)
 
 module _ (b w rows at times : List ℕ) (base : Point) (oldAges oldValues : List ℕ) (left right : Child) (n : ℕ) (start end : Point) (node : Node) where
   -- a Sight that says of the node's children what stands in any words whose first n sets are these
@@ -104,14 +118,14 @@ pub record BlockPut (x : ℕ) (on ov bl on' ov' bl' : List ℕ) (kept kept' : �
 
 -- what must stand for a node's block: its sets from set first on, and what its pairs ask for
 pub record BlockReady (b w rows at times : List ℕ) (base : Point) (oldAges oldValues : List ℕ) (left right : Child) (first : ℕ) (o : Own) (node : Node) (on ov bl : List ℕ) (x kept : ℕ) : Type 0 where
-  pub low-want : o .low ≤ o .want
-  pub want-after : o .want ≤ o .after
+  pub low-want : o .low .0 ≤ o .want .0
+  pub want-after : o .want .0 ≤ o .after
   pub small : o .after < 4294967296
-  pub laid : Laid rows at (first + (o .after - o .low))
+  pub laid : Laid rows at (first + (o .after - o .low .0))
   pub pairs : PairsReady b w rows at times base oldAges oldValues left right (point (o .before)) (point (o .after)) node on ov kept
   pub table : x * 3 + 3 ≤ length bl
 
 -- its rows at the points that are wanted, and then its pairs, are its block
 pub record BlockKept (b w rows at times : List ℕ) (base : Point) (oldAges oldValues : List ℕ) (left right : Child) (first : ℕ) (o : Own) (node : Node) (on ov bl : List ℕ) (x kept : ℕ) (on' ov' bl' : List ℕ) (kept' : ℕ) : Type 0 where
   pub gives : (v : Sight) → Sees v b w rows at times base left right node
-      → BlockPut x on ov bl on' ov' bl' kept kept' (setEntries x (setAt rows at first (point (o .low))) (point (o .want)) (o .after - o .want) ++ agedEntries x (newPairs v node (point (o .before)) (o .after - o .before) (heldIn oldAges oldValues)))
+      → BlockPut x on ov bl on' ov' bl' kept kept' (setEntries x (setAt rows at first (o .low)) (o .want) (o .after - o .want .0) ++ agedEntries x (newPairs v node (point (o .before)) (o .after - o .before) (heldIn oldAges oldValues)))

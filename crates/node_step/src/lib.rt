@@ -12,7 +12,7 @@ ghost use Rattle.method.specs.Step.{entriesNow};
 ghost use Rattle.method.specs.Room.{rowsMost, setsMost};
 ghost use Rattle.node_step.specs.Figures.{called, CallReady};
 ghost use Rattle.node_step.specs.Walks.{RoomFor, ChildrenStand, OutThere, Walks};
-ghost use Rattle.node_step.specs.Parts.{childIn, ChildFigures, ChildSetsAre, OwnFigures, PointsReady, PointsSettled, PairsReady, PairsKept, BlockReady, BlockKept};
+ghost use Rattle.node_step.specs.Parts.{childIn, ChildFigures, ChildSetsAre, OwnFigures, NextReady, NextSettled, PointsReady, PointsSettled, PairsReady, PairsKept, BlockReady, BlockKept};
 
 // Where a node's step begins: so many sets are below its children's, so many stand in all, left's and right's begin at these sets, and so many entries are kept.
 pub struct Spot {
@@ -31,10 +31,10 @@ pub struct Place {
 
 // A node's own figures: the point of its first set, how many points it had settled and has settled now, the point from which on its rows are kept; and where its entries begin, its pairs among them, and the entry behind them.
 struct Own {
-    low: u32,
+    low: Point,
     before: u32,
     after: u32,
-    want: u32,
+    want: Point,
     begin: usize,
     pairs: usize,
     end: usize,
@@ -53,10 +53,10 @@ fn own_figures(figures: &[u32], x: u8) -> Own
 {
     let k = x as usize * 9;
     Own {
-        low: figures[k + 1],
+        low: Point(figures[k + 1]),
         before: figures[k + 2],
         after: figures[k + 3],
-        want: figures[k + 4],
+        want: Point(figures[k + 4]),
         begin: figures[k + 5] as usize,
         pairs: figures[k + 6] as usize,
         end: figures[k + 7] as usize,
@@ -108,7 +108,51 @@ fn children_at(figures: &[u32], node: Node, first: usize, second: usize) -> Chil
     }
 }
 
-// Settles the node's points from start on before end, and puts their sets behind `sets` others; false where a point has more than 32 rows. The node's pairs before these points are held in the old slices.
+// Settles the node's point i, and puts its set behind n others; false where it has more than 32 rows. The node's pairs before point start are held in the old slices.
+fn settle_next(
+    node: Node,
+    rule: &[u8],
+    rows: &mut [u32],
+    at: &mut [u32],
+    n: usize,
+    left: Child,
+    right: Child,
+    times: &[u32],
+    base: Point,
+    event: &[u32],
+    old_ages: &[u32],
+    old_values: &[u32],
+    start: Point,
+    i: Point,
+) -> bool
+    requires { ⌜ NextReady (now rule) (now event) (now rows) (now at) (now times) base (now «old_ages») (now «old_values») left right n start i node ⌝ }
+    ensures { λ r. ⌜ NextSettled (now (rule .entry)) (now (event .entry)) (now (rows .entry)) (now (at .entry)) (now (times .entry)) base (now («old_ages» .entry)) (now («old_values» .entry)) left right n start i node (now (rows .exit)) (now (at .exit)) r ⌝ }
+{
+    let mut out = [0u32; 132];
+    let k = settling::settle_point(
+        node,
+        rule,
+        rows,
+        at,
+        left,
+        right,
+        times,
+        base,
+        event,
+        old_ages,
+        old_values,
+        start,
+        i,
+        &mut out,
+    );
+    if 32 < k {
+        return false;
+    }
+    shelf::push(&out, 0, k, rows, at, n);
+    true
+}
+
+// Settles the node's points from start on before end, and puts their sets behind `sets` others; false where a point has more than 32 rows. The node's pairs before these points are held in the old slices. The last point is settled behind the loop: mostly it is the only one.
 fn settle_points(
     node: Node,
     rule: &[u8],
@@ -128,14 +172,17 @@ fn settle_points(
     requires { ⌜ PointsReady (now rule) (now event) (now rows) (now at) (now times) base (now «old_ages») (now «old_values») left right sets start end node ⌝ }
     ensures { λ r. ⌜ PointsSettled (now (rule .entry)) (now (event .entry)) (now (rows .entry)) (now (at .entry)) (now (times .entry)) base (now («old_ages» .entry)) (now («old_values» .entry)) left right sets start end node (now (rows .exit)) (now (at .exit)) r ⌝ }
 {
+    if end.0 == start.0 {
+        return true;
+    }
     let mut i = start.0;
-    while i < end.0 {
-        let mut out = [0u32; 132];
-        let k = settling::settle_point(
+    while i + 1 < end.0 {
+        let done = settle_next(
             node,
             rule,
             rows,
             at,
+            sets + (i - start.0) as usize,
             left,
             right,
             times,
@@ -145,16 +192,28 @@ fn settle_points(
             old_values,
             start,
             Point(i),
-            &mut out,
         );
-        if 32 < k {
+        if !done {
             return false;
         }
-        let q = sets + (i - start.0) as usize;
-        shelf::push(&out, 0, k, rows, at, q);
         i += 1;
     }
-    true
+    settle_next(
+        node,
+        rule,
+        rows,
+        at,
+        sets + (i - start.0) as usize,
+        left,
+        right,
+        times,
+        base,
+        event,
+        old_ages,
+        old_values,
+        start,
+        Point(i),
+    )
 }
 
 // Puts the node's pairs behind the kept entries: those at the last point before end, or the old ones where no point is new; how many entries are then kept, or one more than there is room for.
@@ -237,13 +296,13 @@ fn keep_node(
     requires { ⌜ BlockReady (now rule) (now event) (now rows) (now at) (now times) base (now «old_ages») (now «old_values») (children .left) (children .right) (spot .sets) own node (now «out_numbers») (now «out_values») (now blocks) x (spot .kept) ⌝ }
     ensures { λ r. ⌜ BlockKept (now (rule .entry)) (now (event .entry)) (now (rows .entry)) (now (at .entry)) (now (times .entry)) base (now («old_ages» .entry)) (now («old_values» .entry)) (children .left) (children .right) (spot .sets) own node (now («out_numbers» .entry)) (now («out_values» .entry)) (now (blocks .entry)) x (spot .kept) (now («out_numbers» .exit)) (now («out_values» .exit)) (now (blocks .exit)) r ⌝ }
 {
-    let n = (own.after - own.want) as usize;
+    let n = (own.after - own.want.0) as usize;
     let pairs = shelving::keep_sets(
         rows,
         at,
         spot.sets,
-        Point(own.low),
-        Point(own.want),
+        own.low,
+        own.want,
         n,
         out_numbers,
         out_values,
@@ -299,20 +358,18 @@ pub fn own_step(
     let children = children_at(figures, node, spot.left, spot.right);
     let own = own_figures(figures, x);
     let base = Point(points + 1 - stamps.len() as u32);
-    let loaded = (own.before - own.low) as usize;
-    let made = (own.after - own.low) as usize;
+    let loaded = (own.before - own.low.0) as usize;
+    let made = (own.after - own.low.0) as usize;
     let from = own.pairs;
     let to = own.end;
     let old_ages = &numbers[from..to];
     let old_values = &values[from * 4..to * 4];
     shelving::load_sets(
-        owners,
         numbers,
         values,
         own.begin,
         from,
-        x as u32,
-        Point(own.low),
+        own.low,
         loaded,
         rows,
         at,

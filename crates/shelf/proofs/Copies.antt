@@ -1,4 +1,4 @@
--- Rows copied behind others, one after the other: what has been copied, a row more, and all.
+-- Runs of rows that are the same; and rows copied behind others, one after the other: what has been copied, a row more, and all.
 use Prim.Native.Nat.{ℕ, _+_, _-_, _*_, _≤_, _<_}
 use mathlib.Core.Logic.{_≢_}
 use mathlib.Core.Path.{_≡_, refl, sym, ap, ap₂, _∙_}
@@ -8,9 +8,9 @@ use lib.ListN.{length, getD}
 use lib.Seq.{getD-set-other}
 use Rattle.rowset.specs.declared.Row.{Row}
 use Rattle.rowset.specs.Rows.{wordsOf, rowAt, setRow, rowsFrom}
-use Rattle.rowset.proofs.Runs.{rows-same, put-long, put-same, put-other}
+use Rattle.rowset.proofs.Runs.{rows-same, rows-at, put-long, put-same, put-other}
 use Rattle.shelf.specs.Appended.{Copied}
-use Rattle.shelf.proofs.Listed.{listed-more}
+use Rattle.shelf.proofs.Listed.{listed-more, listed-moved}
 
 pub rows-more : (ws : List ℕ) (a m : ℕ) → rowsFrom ws a (m + 1) ≡ rowsFrom ws a m ++ rowAt ws (a + m) ∷ []
 unfolding rowsFrom
@@ -19,6 +19,22 @@ rows-more ws a m = listed-more (rowAt ws) a m
 pub no-rows : (ws us : List ℕ) (a b : ℕ) → rowsFrom ws a 0 ≡ rowsFrom us b 0
 unfolding rowsFrom
 no-rows ws us a b = refl
+
+-- where two runs of rows are the same, each row is and each part
+pub rows-each : (ws us : List ℕ) (a c m : ℕ) → rowsFrom ws a m ≡ rowsFrom us c m → (j : ℕ) → j < m → rowAt ws (a + j) ≡ rowAt us (c + j)
+rows-each ws us a c m h j l = sym (rows-at ws a m j l) ∙ ap (λ rs. getD rs j []) h ∙ rows-at us c m j l
+
+pub rows-moved : (ws us : List ℕ) (a c m : ℕ) → ((k : ℕ) → k < m → rowAt ws (a + k) ≡ rowAt us (c + k)) → rowsFrom ws a m ≡ rowsFrom us c m
+unfolding rowsFrom
+rows-moved ws us a c m h = listed-moved (rowAt ws) (rowAt us) a c m h
+
+pub rows-part : (ws us : List ℕ) (a c m : ℕ) → rowsFrom ws a m ≡ rowsFrom us c m → (d n : ℕ) → d + n ≤ m → rowsFrom ws (a + d) n ≡ rowsFrom us (c + d) n
+rows-part ws us a c m h d n l =
+    rows-moved ws us (a + d) (c + d) n
+    (λ k o.
+    let e : a + (d + k) ≡ a + d + k = omega arith in
+    let f : c + (d + k) ≡ c + d + k = omega arith in
+    rw (e, f) at (rows-each ws us a c m h (d + k) (omega arith)))
 
 -- a row put in leaves the words before it
 pub word-before : (ws : List ℕ) (k : ℕ) (r : Row) (j : ℕ) → j < k * 4 → getD (setRow ws k r) j 0 ≡ getD ws j 0

@@ -1,10 +1,10 @@
--- Entries in words: by the parts of an owner, in two parts one behind the other, and a run among them.
+-- Entries in words: by the parts of an owner, in two parts one behind the other, and where a run ends.
 use Prim.Native.Nat.{ℕ, _+_, _-_, _*_, _/_, _%_, _≤_, _<_}
 use mathlib.Core.Path.{_≡_, ap₂}
 use mathlib.Core.List.{List, _++_}
 use native.Mathlib.Omega.{arith}
 use Rattle.meaning.specs.Kept.{entryOf}
-use Rattle.shelf.specs.Entries.{ownedBy, entryAt, entriesFrom, isOf, runOf}
+use Rattle.shelf.specs.Entries.{ownedBy, entryAt, entriesFrom, isWord, runOf}
 use Rattle.shelf.proofs.Streaks.{streak-within}
 use Rattle.shelf.proofs.Listed.{listed-append}
 
@@ -20,7 +20,7 @@ pub entries-append : (os ns vs : List ℕ) (a m n : ℕ) → entriesFrom os ns v
 unfolding entriesFrom
 entries-append os ns vs a m n = listed-append (entryAt os ns vs) a m n
 
--- a run ends before the entries do
-pub run-within : (os ns : List ℕ) (cursor count owner number : ℕ) → cursor ≤ count → cursor + runOf os ns cursor count owner number ≤ count
+-- a run ends before the words do
+pub run-within : (words : List ℕ) (cursor count word : ℕ) → cursor ≤ count → cursor + runOf words cursor count word ≤ count
 unfolding runOf
-run-within os ns cursor count owner number l = omega (arith, streak-within (isOf os ns owner number) cursor (count - cursor))
+run-within words cursor count word l = omega (arith, streak-within (isWord words word) cursor (count - cursor))

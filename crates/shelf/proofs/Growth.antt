@@ -27,6 +27,15 @@ row-below old new h k l =
 row-kept : {old : List ℕ} {end : ℕ} {new : List ℕ} {count : ℕ} {rows : List (List ℕ)} → Copied old end new count rows → (k : ℕ) → k < end → rowAt new k ≡ rowAt old k
 row-kept {old} {new = new} h = row-below old new (h .below)
 
+-- rows copied behind n sets leave these, by the same marks
+earlier-stay : {rows at : List ℕ} {n count : ℕ} {rows' : List ℕ} {new : List (List ℕ)} → Laid rows at n → Copied rows (getD at n 0) rows' count new
+    → (at' : List ℕ) → ((q : ℕ) → q ≤ n → getD at' q 0 ≡ getD at q 0) → (q : ℕ) → q < n → setIn rows' at' q ≡ setIn rows at q
+earlier-stay {rows} {at} {n} {rows' = rows'} s h at' same q l =
+    let m = mark-before s (q + 1) (omega arith) in
+    let u = s .steps q l in
+    ap₂ (λ a b. rowsFrom rows' a (b - a)) (same q (omega arith)) (same (q + 1) (omega arith))
+    ∙ rows-same rows' rows (getD at q 0) (getD at (q + 1) 0 - getD at q 0) (λ k a b. row-kept h k (omega arith))
+
 -- rows copied behind n sets, and the mark set behind them
 module _ {rows at : List ℕ} {n count : ℕ} (s : Space rows at n count) {rows' : List ℕ} {new : List (List ℕ)} (h : Copied rows (getD at n 0) rows' count new)
     {at' : List ℕ} (e : at' ≡ set at (n + 1) (getD at n 0 + count)) where
@@ -59,11 +68,7 @@ module _ {rows at : List ℕ} {n count : ℕ} (s : Space rows at n count) {rows'
       }
 
   pushed-earlier : (q : ℕ) → q < n → setIn rows' at' q ≡ setIn rows at q
-  pushed-earlier q l =
-      let m = mark-before (s .laid) (q + 1) (omega arith) in
-      let u = s .laid .steps q l in
-      ap₂ (λ a b. rowsFrom rows' a (b - a)) (pushed-marks q (omega arith)) (pushed-marks (q + 1) (omega arith))
-      ∙ rows-same rows' rows (getD at q 0) (getD at (q + 1) 0 - getD at q 0) (λ k a b. row-kept h k (omega arith))
+  pushed-earlier = earlier-stay (s .laid) h at' pushed-marks
 
   pushed-last : setIn rows' at' n ≡ new
   pushed-last =
@@ -91,6 +96,19 @@ pub extended-none : {rows at : List ℕ} {n : ℕ} {F : ℕ → List (List ℕ)}
 extended-none {n = n} h =
     let e : n + 0 ≡ n = omega arith in
     record { rowsLong = refl; atLong = refl; laid = rw e h; marks = λ q l. refl; earlier = λ q l. refl; sets = λ k l. absurd (omega arith) }
+
+-- rows copied behind n sets, and then more sets made of them
+pub extended-over : {rows at rows' rows'' at' : List ℕ} {n m count : ℕ} {new : List (List ℕ)} {F : ℕ → List (List ℕ)} → Laid rows at n → Copied rows (getD at n 0) rows' count new
+    → Extended rows' at rows'' at' n m F → Extended rows at rows'' at' n m F
+extended-over {at = at} s c h =
+    record {
+      rowsLong = h .rowsLong ∙ c .long;
+      atLong = h .atLong;
+      laid = h .laid;
+      marks = h .marks;
+      earlier = λ q l. h .earlier q l ∙ earlier-stay s c at (λ q l. refl) q l;
+      sets = h .sets;
+    }
 
 -- the new sets, written in another way
 pub extended-as : {rows at rows' at' : List ℕ} {n m : ℕ} {F G : ℕ → List (List ℕ)} → Extended rows at rows' at' n m F → ((k : ℕ) → k < m → F k ≡ G k) → Extended rows at rows' at' n m G

@@ -11,7 +11,7 @@ use Rattle.meaning.specs.Lists.{range, all}
 use Rattle.meaning.specs.Kept.{Entry, entryOf}
 use Rattle.meaning.proofs.Points.{Tested, passed, failed, tested, both, first, second}
 use Rattle.rowset.specs.Rows.{rowsFrom}
-use Rattle.shelf.specs.Entries.{entryAt, entriesFrom, streak, isOf, isOwned, runOf, pairRunOf, hasOwner, isEntry, begins}
+use Rattle.shelf.specs.Entries.{entryAt, entriesFrom, streak, isWord, runOf, hasOwner, isEntry, begins}
 use Rattle.shelf.proofs.Streaks.{streak-same}
 use Rattle.shelf.proofs.Listed.{map-twice}
 
@@ -75,46 +75,77 @@ entries-rows : (os ns vs : List ℕ) (from count : ℕ) → map (λ e. e .values
 unfolding entriesFrom rowsFrom
 entries-rows os ns vs from count = map-twice (λ e. e .values) (entryAt os ns vs) (range from count)
 
--- at the cursor is a run of just these rows, and behind it stands the rest
-pub record RunAt (os ns vs : List ℕ) (cursor count owner number : ℕ) (rows : List (List ℕ)) (rest : List Entry) : Type 0 where
+-- entry k has that owner and number
+abbrev pub isOf : List ℕ → List ℕ → ℕ → ℕ → ℕ → Bool
+isOf owners numbers owner number k = isWord owners owner k && isWord numbers number k
+
+-- how many entries from cursor on, before count, have that owner and number, one after the other
+unfoldable pub entryRun : List ℕ → List ℕ → ℕ → ℕ → ℕ → ℕ → ℕ
+entryRun owners numbers cursor count owner number = streak (isOf owners numbers owner number) cursor (count - cursor)
+
+abbrev pub hasNumber : ℕ → Entry → Bool
+hasNumber number e = eqb (e .number) number
+
+all-number : (x mark number : ℕ) (rows : List (List ℕ)) → all (hasNumber number) (map (entryOf x mark number) rows) ≡ true
+all-number x mark number [] = refl
+all-number x mark number (r ∷ rows) = both (eq-eqb number number refl) (all-number x mark number rows)
+
+-- at the cursor is a run of so many entries: just these rows; and behind it stands the rest
+pub record RunAt (os ns vs : List ℕ) (cursor count run : ℕ) (rows : List (List ℕ)) (rest : List Entry) : Type 0 where
   pub within : cursor + length rows ≤ count
-  pub run : runOf os ns cursor count owner number ≡ length rows
+  pub many : run ≡ length rows
   pub these : rowsFrom vs cursor (length rows) ≡ rows
   pub behind : entriesFrom os ns vs (cursor + length rows) (count - (cursor + length rows)) ≡ rest
 
 -- the same of an owner's pairs
 pub record PairsAt (os ns vs : List ℕ) (cursor count owner : ℕ) (pairs rest : List Entry) : Type 0 where
   pub within : cursor + length pairs ≤ count
-  pub run : pairRunOf os cursor count owner ≡ length pairs
+  pub run : runOf os cursor count owner ≡ length pairs
   pub these : entriesFrom os ns vs cursor (length pairs) ≡ pairs
   pub behind : entriesFrom os ns vs (cursor + length pairs) (count - (cursor + length pairs)) ≡ rest
 
 module _ (os ns vs : List ℕ) (cursor count x : ℕ) (ordered : cursor ≤ count) where
-  pub run-walked : (mark number : ℕ) (rows : List (List ℕ)) (rest : List Entry) → mark < 2
-      → entriesFrom os ns vs cursor (count - cursor) ≡ map (entryOf x mark number) rows ++ rest → begins (isEntry x mark number) rest ≡ false
-      → RunAt os ns vs cursor count (x * 2 + mark) number rows rest
-  unfolding entriesFrom runOf
-  run-walked mark number rows rest l h b =
-      let w = walked (entryAt os ns vs) (isEntry x mark number) (map (entryOf x mark number) rows) rest cursor (count - cursor) h (all-are x mark number rows) b in
+  -- a run by any test of its entries
+  run-by : (q : Entry → Bool) {run : ℕ} → run ≡ streak (λ k. q (entryAt os ns vs k)) cursor (count - cursor) → (mark number : ℕ) (rows : List (List ℕ)) (rest : List Entry)
+      → entriesFrom os ns vs cursor (count - cursor) ≡ map (entryOf x mark number) rows ++ rest → all q (map (entryOf x mark number) rows) ≡ true → begins q rest ≡ false → RunAt os ns vs cursor count run rows rest
+  unfolding entriesFrom
+  run-by q e mark number rows rest h a b =
+      let w = walked (entryAt os ns vs) q (map (entryOf x mark number) rows) rest cursor (count - cursor) h a b in
       let n : length (map (entryOf x mark number) rows) ≡ length rows = length-map rows (entryOf x mark number) in
       let d : count - cursor - length rows ≡ count - (cursor + length rows) = omega arith in
       let t : entriesFrom os ns vs cursor (length rows) ≡ map (entryOf x mark number) rows = rw n at (w .these) in
       record {
         within = omega (arith, w .fits);
-        run = streak-same (isOf os ns (x * 2 + mark) number) (λ k. isEntry x mark number (entryAt os ns vs k)) (λ k. ap (λ t. t && eqb (getD ns k 0) number) (owner-parts (getD os k 0) x mark l)) cursor (count - cursor) ∙ w .run ∙ n;
+        many = e ∙ w .run ∙ n;
         these = sym (entries-rows os ns vs cursor (length rows)) ∙ ap (map (λ e. e .values)) t ∙ values-of x mark number rows;
         behind = rw (n, d) at (w .behind);
       }
 
+  -- by owner and number
+  pub run-walked : (mark number : ℕ) (rows : List (List ℕ)) (rest : List Entry) → mark < 2
+      → entriesFrom os ns vs cursor (count - cursor) ≡ map (entryOf x mark number) rows ++ rest → begins (isEntry x mark number) rest ≡ false
+      → RunAt os ns vs cursor count (entryRun os ns cursor count (x * 2 + mark) number) rows rest
+  unfolding entryRun
+  run-walked mark number rows rest l h b =
+      run-by (isEntry x mark number)
+      (streak-same (isOf os ns (x * 2 + mark) number) (λ k. isEntry x mark number (entryAt os ns vs k)) (λ k. ap (λ t. t && eqb (getD ns k 0) number) (owner-parts (getD os k 0) x mark l)) cursor (count - cursor))
+      mark number rows rest h (all-are x mark number rows) b
+
+  -- by number alone
+  pub number-walked : (mark number : ℕ) (rows : List (List ℕ)) (rest : List Entry) → entriesFrom os ns vs cursor (count - cursor) ≡ map (entryOf x mark number) rows ++ rest → begins (hasNumber number) rest ≡ false
+      → RunAt os ns vs cursor count (runOf ns cursor count number) rows rest
+  unfolding runOf
+  number-walked mark number rows rest h b = run-by (hasNumber number) refl mark number rows rest h (all-number x mark number rows) b
+
   pub pairs-walked : (pairs rest : List Entry) → entriesFrom os ns vs cursor (count - cursor) ≡ pairs ++ rest → all (hasOwner x 1) pairs ≡ true → begins (hasOwner x 1) rest ≡ false
       → PairsAt os ns vs cursor count (x * 2 + 1) pairs rest
-  unfolding entriesFrom pairRunOf
+  unfolding entriesFrom runOf
   pairs-walked pairs rest h a b =
       let w = walked (entryAt os ns vs) (hasOwner x 1) pairs rest cursor (count - cursor) h a b in
       let d : count - cursor - length pairs ≡ count - (cursor + length pairs) = omega arith in
       record {
         within = omega (arith, w .fits);
-        run = streak-same (isOwned os (x * 2 + 1)) (λ k. hasOwner x 1 (entryAt os ns vs k)) (λ k. owner-parts (getD os k 0) x 1 (omega arith)) cursor (count - cursor) ∙ w .run;
+        run = streak-same (isWord os (x * 2 + 1)) (λ k. hasOwner x 1 (entryAt os ns vs k)) (λ k. owner-parts (getD os k 0) x 1 (omega arith)) cursor (count - cursor) ∙ w .run;
         these = w .these;
         behind = rw d at (w .behind);
       }

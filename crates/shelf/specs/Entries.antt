@@ -25,20 +25,13 @@ abbrev pub streak : (ℕ → Bool) → ℕ → ℕ → ℕ
 streak p i zero = 0
 streak p i (suc left) = cond (p i) (suc (streak p (suc i) left)) 0
 
--- entry k has that owner and number
-abbrev pub isOf : List ℕ → List ℕ → ℕ → ℕ → ℕ → Bool
-isOf owners numbers owner number k = eqb (getD owners k 0) owner && eqb (getD numbers k 0) number
+-- word k is that word
+abbrev pub isWord : List ℕ → ℕ → ℕ → Bool
+isWord words word k = eqb (getD words k 0) word
 
-abbrev pub isOwned : List ℕ → ℕ → ℕ → Bool
-isOwned owners owner k = eqb (getD owners k 0) owner
-
--- how many entries from cursor on, before count, have that owner and number, one after the other
-unfoldable pub runOf : List ℕ → List ℕ → ℕ → ℕ → ℕ → ℕ → ℕ
-runOf owners numbers cursor count owner number = streak (isOf owners numbers owner number) cursor (count - cursor)
-
--- the same of an owner with any number
-unfoldable pub pairRunOf : List ℕ → ℕ → ℕ → ℕ → ℕ
-pairRunOf owners cursor count owner = streak (isOwned owners owner) cursor (count - cursor)
+-- how many words from cursor on, before count, are that word, one after the other
+unfoldable pub runOf : List ℕ → ℕ → ℕ → ℕ → ℕ
+runOf words cursor count word = streak (isWord words word) cursor (count - cursor)
 
 -- an entry has that owner, and number
 abbrev pub hasOwner : ℕ → ℕ → Entry → Bool

@@ -13,6 +13,7 @@ use Rattle.meaning.specs.declared.Point.{Point}
 use Rattle.meaning.proofs.Lists.{gather-append}
 use Rattle.meaning.proofs.Points.{pointsFrom-append}
 use Rattle.shelf.specs.Entries.{begins, hasOwner, isEntry}
+use Rattle.shelf.proofs.Walking.{hasNumber}
 use Rattle.shelving.specs.Shelved.{setEntries}
 
 module _ (x : ℕ) (S : Point → List (List ℕ)) where
@@ -22,15 +23,28 @@ module _ (x : ℕ) (S : Point → List (List ℕ)) where
       let f : Point → List Entry = λ j. map (entryOf x 0 (j .0)) (S j) in
       ap (gather f) (pointsFrom-append a m 1) ∙ gather-append f (pointsFrom a m) (pointsFrom (point (a .0 + m)) 1) ∙ ap (λ es. setEntries x S a m ++ es) (append-nil (f (point (a .0 + m))))
 
+  -- the first point apart from the others
+  pub sets-apart : (a : Point) (k n : ℕ) → k < n → setEntries x S (point (a .0 + k)) (n - k) ≡ map (entryOf x 0 (a .0 + k)) (S (point (a .0 + k))) ++ setEntries x S (point (a .0 + (k + 1))) (n - (k + 1))
+  sets-apart a k n l =
+      let e : n - k ≡ suc (n - (k + 1)) = omega arith in
+      let f : suc (a .0 + k) ≡ a .0 + (k + 1) = omega arith in
+      ap (setEntries x S (point (a .0 + k))) e ∙ ap (λ b. map (entryOf x 0 (a .0 + k)) (S (point (a .0 + k))) ++ setEntries x S (point b) (n - (k + 1))) f
+
+  -- later points don't begin with an entry that has an earlier point's number
+  pub numbers-later : (i a : Point) (m : ℕ) → i .0 < a .0 → begins (hasNumber (i .0)) (setEntries x S a m) ≡ false
+  numbers-later i a zero l = refl
+  numbers-later i a (suc m) l = go (S a) (numbers-later i (pointAfter a) m (omega arith))
+    where
+      go : (rows : List (List ℕ)) → begins (hasNumber (i .0)) (setEntries x S (pointAfter a) m) ≡ false → begins (hasNumber (i .0)) (map (entryOf x 0 (a .0)) rows ++ setEntries x S (pointAfter a) m) ≡ false
+      go [] h = h
+      go (r ∷ rows) h = ne-eqb (a .0) (i .0) (omega arith)
+
   module _ (rest : List Entry) where
-    -- the first point apart from the others
+    -- the same before a rest
     pub sets-first : (a : Point) (k n : ℕ) → k < n
         → setEntries x S (point (a .0 + k)) (n - k) ++ rest ≡ map (entryOf x 0 (a .0 + k)) (S (point (a .0 + k))) ++ (setEntries x S (point (a .0 + (k + 1))) (n - (k + 1)) ++ rest)
     sets-first a k n l =
-        let e : n - k ≡ suc (n - (k + 1)) = omega arith in
-        let f : suc (a .0 + k) ≡ a .0 + (k + 1) = omega arith in
-        ap (λ m. setEntries x S (point (a .0 + k)) m ++ rest) e ∙ append-assoc (map (entryOf x 0 (a .0 + k)) (S (point (a .0 + k)))) (setEntries x S (point (suc (a .0 + k))) (n - (k + 1))) rest
-        ∙ ap (λ b. map (entryOf x 0 (a .0 + k)) (S (point (a .0 + k))) ++ (setEntries x S (point b) (n - (k + 1)) ++ rest)) f
+        ap (λ es. es ++ rest) (sets-apart a k n l) ∙ append-assoc (map (entryOf x 0 (a .0 + k)) (S (point (a .0 + k)))) (setEntries x S (point (a .0 + (k + 1))) (n - (k + 1))) rest
 
     -- later points, and then a rest of other owners, don't begin with an entry of an earlier point
     pub sets-later : begins (hasOwner x 0) rest ≡ false → (i a : Point) (m : ℕ) → i .0 < a .0 → begins (isEntry x 0 (i .0)) (setEntries x S a m ++ rest) ≡ false

@@ -11,12 +11,11 @@ use Rattle.meaning.proofs.Points.{Tested, passed, failed, tested}
 use Rattle.rowset.specs.declared.Row.{Row}
 use Rattle.rowset.specs.Rows.{wordsOf, rowAt, setRow, rowsFrom}
 use Rattle.rowset.specs.Sets.{Run}
-use Rattle.rowset.proofs.Runs.{rows-same, rows-at, put-long, put-same, put-other}
+use Rattle.rowset.proofs.Runs.{rows-same, put-long, put-same, put-other}
 use Rattle.room.specs.Room.{setIn, Laid}
 use Rattle.room.proofs.Laid.{marks-rise}
-use Rattle.shelf.proofs.Copies.{rows-more, no-rows, word-before}
+use Rattle.shelf.proofs.Copies.{rows-each, rows-moved, rows-more, no-rows, word-before}
 use Rattle.shelf.proofs.Growth.{row-below}
-use Rattle.shelf.proofs.Listed.{listed-moved}
 use Rattle.shelving.specs.Blocks.{MovedDown}
 use Rattle.shelving.specs.Parts.{Moved, MarksLowered}
 
@@ -129,14 +128,6 @@ module _ (N D X Y M : ℕ) {P Q : ℕ} (a : P ≡ X - (D - N)) (c : Q ≡ Y - (D
   inside : (j : ℕ) → j < Y - X → X - D + j < M - D
   inside j o = omega arith
 
-rows-moved : (ws us : List ℕ) (a c m : ℕ) → ((k : ℕ) → k < m → rowAt ws (a + k) ≡ rowAt us (c + k)) → rowsFrom ws a m ≡ rowsFrom us c m
-unfolding rowsFrom
-rows-moved ws us a c m h = listed-moved (rowAt ws) (rowAt us) a c m h
-
--- one of the rows that were moved
-moved-row : {old : List ℕ} {end : ℕ} {new : List ℕ} {from count : ℕ} → Moved old end new from count → (j : ℕ) → j < count → rowAt new (end + j) ≡ rowAt old (from + j)
-moved-row {old} {end} {new} {from} {count} t j i = sym (rows-at new end count j i) ∙ ap (λ rs. getD rs j []) (t .there) ∙ rows-at old from count j i
-
 module _ {rows at : List ℕ} (n d m : ℕ) (l : Laid rows at (n + d + m)) where
   rise : (a c : ℕ) → a + c ≤ n + d + m → getD at a 0 ≤ getD at (a + c) 0
   rise a c o = marks-rise at a c (λ s u. l .steps s (omega arith))
@@ -190,7 +181,7 @@ module _ {rows at : List ℕ} (n d m : ℕ) (l : Laid rows at (n + d + m)) where
         ∙ rows-moved rows' rows (getD at' (n + q) 0) (getD at (n + d + q) 0) (getD at (n + d + q + 1) 0 - getD at (n + d + q) 0)
         (λ j i.
         rw (place-new _ _ _ _ _ a c u1 u2 u3 u4 j, place-old _ _ _ _ _ a c u1 u2 u3 u4 j) at
-        (moved-row h (getD at (n + d + q) 0 - getD at (n + d) 0 + j) (inside _ _ _ _ _ a c u1 u2 u3 u4 j i)))
+        (rows-each rows' rows (getD at n 0) (getD at (n + d) 0) (getD at (n + d + m) 0 - getD at (n + d) 0) (h .there) (getD at (n + d + q) 0 - getD at (n + d) 0 + j) (inside _ _ _ _ _ a c u1 u2 u3 u4 j i)))
 
     pub down : MovedDown rows at rows' at' n d m
     down =

@@ -5,47 +5,34 @@ ghost use lib.ListN.{length, getD};
 ghost use Rattle.rowset.specs.Sets.{Run};
 ghost use Rattle.kinds.specs.Kinds.{pairsFrom};
 ghost use Rattle.room.specs.Room.{setAt, Laid};
-ghost use Rattle.shelf.specs.Entries.{Stands};
 ghost use Rattle.shelving.specs.Shelved.{setEntries, agedEntries, Spaces, Loaded};
 ghost use Rattle.shelving.specs.Blocks.{MovedDown, RoomToKeep, EntriesPut};
 ghost use Rattle.shelving.specs.Parts.{Moved, MarksLowered, PointsPut};
 
-// Appends the node's sets at n points, from low on, behind `sets` others; the entry behind those of the sets.
+// Appends a node's sets at n points, from low on, behind `sets` others: the rows of its entries from cursor on before count, all at once, and a mark behind those of each point.
 pub fn load_sets(
-    owners: &[u32],
     numbers: &[u32],
     values: &[u32],
     cursor: usize,
     count: usize,
-    x: u32,
     low: Point,
     n: usize,
     rows: &mut [u32],
     at: &mut [u32],
     sets: usize,
-) -> usize
-    requires { ⌜ (cursor ≤ count) × Stands (now owners) (now numbers) (now values) count × Spaces (now rows) (now at) sets n (count - cursor) × (x < 2147483648) × (low .0 + n < 4294967296) ⌝ }
-    ensures { λ r. ⌜ Loaded (now (owners .entry)) (now (numbers .entry)) (now (values .entry)) cursor count x low n (now (rows .entry)) (now (at .entry)) (now (rows .exit)) (now (at .exit)) sets r ⌝ }
+)
+    requires { ⌜ (count ≤ length (now numbers)) × Run (now values) cursor count × Spaces (now rows) (now at) sets n (count - cursor) × (low .0 + n < 4294967296) ⌝ }
+    ensures { λ _. ⌜ Loaded (now (numbers .entry)) (now (values .entry)) cursor count low n (now (rows .entry)) (now (at .entry)) (now (rows .exit)) (now (at .exit)) sets ⌝ }
 {
+    let end = at[sets] as usize;
+    shelf::copy_rows(values, cursor, count, rows, end);
     let mut next = cursor;
     let mut k = 0;
     while k < n {
-        let i = Point(low.0 + k as u32);
-        next = shelf::load(
-            owners,
-            numbers,
-            values,
-            next,
-            count,
-            x * 2,
-            i,
-            rows,
-            at,
-            sets + k,
-        );
+        next = shelf::run_end(numbers, next, count, low.0 + k as u32);
         k += 1;
+        at[sets + k] = (end + (next - cursor)) as u32;
     }
-    next
 }
 
 // Copies rows from..to to row end and on, which isn't behind them.

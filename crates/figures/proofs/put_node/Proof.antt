@@ -37,7 +37,7 @@ same-length c = simp length-set
 returns : tie.Need-returns
 returns c =
     let w = c .args in
-    put-first (w .table .now) (w .at) (w .mask) (w .low ∷ w .before ∷ w .after ∷ w .want ∷ w .begin ∷ w .pairs ∷ w .end ∷ w .weight ∷ [])
+    put-first (w .table .now) (w .at) (w .mask) (w .low .0 ∷ w .before ∷ w .after ∷ w .want .0 ∷ w .begin ∷ w .pairs ∷ w .end ∷ w .weight ∷ [])
 
 pub put-node-spec : {M : Type 1} → statement M
 put-node-spec =

@@ -4,7 +4,7 @@ use native.Mathlib.Omega.{arith}
 use mathlib.Core.Path.{refl, sym, _∙_}
 use borrow.Author.Tests.{not-true, not-false}
 use borrow.Author.Needs.{needs}
-use Rattle.shelf.specs.Entries.{isOwned}
+use Rattle.shelf.specs.Entries.{isWord}
 use Rattle.formed.proofs.Runs.{PairsFound, pairs-found, SetsTo}
 use Rattle.formed.proofs.Ordered.{Streaked, own-run, sets-fit}
 use Rattle.formed.proofs.Climbs.{said-so, said-not}
@@ -13,16 +13,16 @@ use Rattle.formed.proofs.node_end.Statement.{statement}
 use Rattle.formed.proofs.node_end.Tie as tie
 
 -- where its rows end
-rows-run : (c : tie.After-pair-run-end) → let a = c .before .before .before .before .before .args in Streaked (isOwned (a .owners .now) (a .x * 2)) (a .cursor) (a .count) (c .pair-run-end .result)
-rows-run c = let s = c .before .before .before .before .before in own-run (s .args .owners .now) (s .args .cursor) (s .args .count) (s .args .x * 2) (s .pre .1 .0) (c .pair-run-end .ensures)
+rows-run : (c : tie.After-run-end) → let a = c .before .before .before .before .before .args in Streaked (isWord (a .owners .now) (a .x * 2)) (a .cursor) (a .count) (c .run-end .result)
+rows-run c = let s = c .before .before .before .before .before in own-run (s .args .owners .now) (s .args .cursor) (s .args .count) (s .args .x * 2) (s .pre .1 .0) (c .run-end .ensures)
 
 -- and the pairs there
-pairs : (c : tie.After-pair-run-end2) →
+pairs : (c : tie.After-run-end2) →
     let a = c .before .before .before .before .before .before .args in
-    PairsFound (a .owners .now) (a .numbers .now) (a .values .now) (a .count) (c .before .pair-run-end .result) (a .x) (c .pair-run-end2 .result)
+    PairsFound (a .owners .now) (a .numbers .now) (a .values .now) (a .count) (c .before .run-end .result) (a .x) (c .run-end2 .result)
 pairs c =
     let a = c .before .before .before .before .before .before .args in
-    pairs-found (a .owners .now) (a .numbers .now) (a .values .now) (a .count) (c .before .pair-run-end .result) (a .x) (rows-run (c .before) .within) (c .pair-run-end2 .ensures)
+    pairs-found (a .owners .now) (a .numbers .now) (a .values .now) (a .count) (c .before .run-end .result) (a .x) (rows-run (c .before) .within) (c .run-end2 .ensures)
 
 sets-fit-requires : tie.Need-sets-fit-requires
 sets-fit-requires c κs =
@@ -40,11 +40,11 @@ returns c =
 -- the rows fit
 sets : (c : tie.Else1) →
     let a = c .before .before .before .before .before .before .before .before .args in
-    SetsTo (a .owners .now) (a .numbers .now) (a .values .now) (a .count) (a .cursor) (a .x) (a .low) (a .end .0 - a .low .0) (a .mask) (c .before .before .before .pair-run-end .result)
+    SetsTo (a .owners .now) (a .numbers .now) (a .values .now) (a .count) (a .cursor) (a .x) (a .low) (a .end .0 - a .low .0) (a .mask) (c .before .before .before .run-end .result)
 sets c =
     let s = c .before .before .before .before .before .before .before .before in
     let a = s .args in
-    let first = c .before .before .before .pair-run-end .result in
+    let first = c .before .before .before .run-end .result in
     sets-fit (a .owners .now) (a .numbers .now) (a .values .now) (a .count) (a .cursor) (a .x) first (a .low) (a .mask) (s .pre .1 .0) (rows-run (c .before .before .before)) (a .end)
     (said-so (c .before .sets-fit .result) (c .if1 .left) (c .before .sets-fit .ensures))
 

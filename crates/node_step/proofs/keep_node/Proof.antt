@@ -11,7 +11,7 @@ keep-sets-requires : tie.Need-keep-sets-requires
 keep-sets-requires c κs =
     let p = c .before .before .before .before .before .before .before .before .before .before .before .before .before .pre in
     let o = c .before .before .before .before .before .before .before .before .before .before .before .before .before .args .own in
-    let e : o .want + (o .after - o .want) ≡ o .after = omega (arith, p .want-after) in
+    let e : o .want .0 + (o .after - o .want .0) ≡ o .after = omega (arith, p .want-after) in
     (p .low-want, rw e (p .laid), omega (arith, p .small, p .want-after), p .pairs .room)
 
 keep-pairs-at-requires : tie.Need-keep-pairs-at-requires

@@ -7,7 +7,7 @@ use borrow.Author.Needs.{needs}
 use borrow.Author.Tests.{not-true, not-false}
 use Rattle.meaning.proofs.Accepted.{accepted}
 use Rattle.node_step.specs.Figures.{called}
-use Rattle.node_step.proofs.Numbers.{Numbers, numbers, load-stands, load-spaces}
+use Rattle.node_step.proofs.Numbers.{Numbers, numbers, load-rows, load-spaces}
 use Rattle.node_step.proofs.Seeing.{children-figures}
 use Rattle.node_step.proofs.Stepping.{Loads, points-ready, block-ready, down-laid}
 use Rattle.node_step.proofs.Ending.{step-crowded, step-kept}
@@ -32,7 +32,7 @@ numbers-at c = numbers (entry c .pre .0) (entry c .args .x) (entry c .pre .1 .0 
 loads-at : (c : tie.After-load-sets)
     → Loads (called (entry (figured c) .args .rule .now) (entry (figured c) .args .points) (entry (figured c) .args .stamps .now) (entry (figured c) .args .owners .now) (entry (figured c) .args .numbers .now) (entry (figured c) .args .values .now))
     (entry (figured c) .args .event .now) (entry (figured c) .args .owners .now) (entry (figured c) .args .numbers .now) (entry (figured c) .args .values .now) (entry (figured c) .args .stamps .now) (entry (figured c) .args .figures .now) (entry (figured c) .args .x)
-    (figured c .own-figures .result) (entry (figured c) .args .spot) (entry (figured c) .args .rows .now) (entry (figured c) .args .at .now) (c .before .before .before .before .before .before .before .before .children-at .result .left) (c .before .before .before .before .before .before .before .before .children-at .result .right) (c .before .before .before .before .before .before .before .before .before .node-at .result) (c .load-sets .last .1 .1 .1 .1 .1 .1 .1 .1 .0) (c .load-sets .last .1 .1 .1 .1 .1 .1 .1 .1 .1 .0)
+    (figured c .own-figures .result) (entry (figured c) .args .spot) (entry (figured c) .args .rows .now) (entry (figured c) .args .at .now) (c .before .before .before .before .before .before .before .before .children-at .result .left) (c .before .before .before .before .before .before .before .before .children-at .result .right) (c .before .before .before .before .before .before .before .before .before .node-at .result) (c .load-sets .last .1 .1 .1 .1 .1 .1 .0) (c .load-sets .last .1 .1 .1 .1 .1 .1 .1 .0)
 loads-at c =
     let s = entry (figured c) in
     record {
@@ -44,7 +44,6 @@ loads-at c =
       figures = figured c .own-figures .ensures;
       decoded = c .before .before .before .before .before .before .before .before .before .node-at .ensures;
       children = c .before .before .before .before .before .before .before .before .children-at .ensures;
-      next = c .load-sets .result;
       read = c .load-sets .ensures;
     }
 
@@ -62,10 +61,9 @@ load-sets-requires c κs =
     let d = c .before .before .before .before .before .before in
     let s = entry d in
     let m = numbers-at d in (
-      m .begin-pairs,
-      load-stands (s .pre .0) (s .args .x) (s .pre .1 .0 .0) (d .own-figures .ensures) (s .pre .1 .1 .0),
+      omega (arith, m .pairs-end, m .end-there, m .numbers-there),
+      load-rows (s .pre .0) (s .args .x) (s .pre .1 .0 .0) (d .own-figures .ensures),
       load-spaces (s .pre .0) (s .args .x) (s .pre .1 .0 .0) (d .own-figures .ensures) (s .pre .1 .1 .0),
-      omega (arith, m .node),
       omega (arith, m .low-before, m .before-after, m .after-most, m .few-points),
     )
 
@@ -116,14 +114,14 @@ own-step-spec =
     load-sets-requires
     (λ c. omega (arith, points-ready (loads-at (c .before .before .before .before .before .before .before)) .small))
     (λ c κs. points-ready (loads-at (c .before .before .before .before .before .before .before)))
-    (λ c. c .before .before .before .before .before .settle-points .ensures .stay .rowsLong ∙ c .before .before .before .before .before .before .before .before .before .before .before .before .before .load-sets .ensures .taken .more .rowsLong)
-    (λ c. c .before .before .before .before .before .settle-points .ensures .stay .atLong ∙ c .before .before .before .before .before .before .before .before .before .before .before .before .before .load-sets .ensures .taken .more .atLong)
+    (λ c. c .before .before .before .before .before .settle-points .ensures .stay .rowsLong ∙ c .before .before .before .before .before .before .before .before .before .before .before .before .before .load-sets .ensures .more .rowsLong)
+    (λ c. c .before .before .before .before .before .settle-points .ensures .stay .atLong ∙ c .before .before .before .before .before .before .before .before .before .before .before .before .before .load-sets .ensures .more .atLong)
     returns
     keep-node-requires
     (λ c. c .before .before .before .before .before .before .before .before .before .before .before .before .before .before .before .before .before .before .before .before .before .before .before .before .before .before .before .before .before .before .before .before .before .before .before .before .before .before .before .before .before .before .before .before .before .before .before .before .before .before .pre .1 .0 .1)
     move-down-requires
-    (λ c. c .before .before .before .before .move-down .ensures .more .rowsLong ∙ c .before .before .before .before .before .before .before .before .before .before .before .before .before .before .before .before .before .before .before .before .before .before .before .before .before .settle-points .ensures .stay .rowsLong ∙ c .before .before .before .before .before .before .before .before .before .before .before .before .before .before .before .before .before .before .before .before .before .before .before .before .before .before .before .before .before .before .before .before .before .load-sets .ensures .taken .more .rowsLong)
-    (λ c. c .before .before .before .before .move-down .ensures .more .atLong ∙ c .before .before .before .before .before .before .before .before .before .before .before .before .before .before .before .before .before .before .before .before .before .before .before .before .before .settle-points .ensures .stay .atLong ∙ c .before .before .before .before .before .before .before .before .before .before .before .before .before .before .before .before .before .before .before .before .before .before .before .before .before .before .before .before .before .before .before .before .before .load-sets .ensures .taken .more .atLong)
+    (λ c. c .before .before .before .before .move-down .ensures .more .rowsLong ∙ c .before .before .before .before .before .before .before .before .before .before .before .before .before .before .before .before .before .before .before .before .before .before .before .before .before .settle-points .ensures .stay .rowsLong ∙ c .before .before .before .before .before .before .before .before .before .before .before .before .before .before .before .before .before .before .before .before .before .before .before .before .before .before .before .before .before .before .before .before .before .load-sets .ensures .more .rowsLong)
+    (λ c. c .before .before .before .before .move-down .ensures .more .atLong ∙ c .before .before .before .before .before .before .before .before .before .before .before .before .before .before .before .before .before .before .before .before .before .before .before .before .before .settle-points .ensures .stay .atLong ∙ c .before .before .before .before .before .before .before .before .before .before .before .before .before .before .before .before .before .before .before .before .before .before .before .before .before .before .before .before .before .before .before .before .before .load-sets .ensures .more .atLong)
     (λ c. search needs)
     (λ c. search needs)
     (λ c. search needs)
