@@ -45,10 +45,15 @@ use Rattle.workspace.specs.Stores.{EntriesStored, Storable}
 use Rattle.workspace.specs.Blocks.{lastPoints, LastReady}
 use Rattle.workspace.specs.Rooms.{largestRows}
 use Rattle.workspace.specs.Settles.{callIn, ReadyIn, weighedNow, SettledCall}
+use Rattle.workspace.specs.declared.Settled.the-variants.{Done, Full}
 
 pub either-way : {A B C : Type 0} → (A → C) → (B → C) → A ⊎ B → C
 either-way f g (inl x) = f x
 either-way f g (inr y) = g y
+
+-- a call that is settled has not come out full
+pub not-full : {A : Type 0} {r : Weighed} → Done r ≡ Full → A
+not-full d = let q : _≡_ {A = ℕ} 0 1 = cc in absurd (omega arith)
 
 -- ---- the crowded nodes
 

@@ -1,4 +1,4 @@
--- The sizes of the rooms, in rows, and the entries that the two smallest have room for.
+-- The sizes of the rooms, in rows.
 use Prim.Native.Nat.{ℕ, _+_, _*_}
 use Rattle.meaning.specs.Outcome.{mostRows, mostKept}
 use Rattle.method.specs.Room.{mostSets}
@@ -18,9 +18,3 @@ largeRows = 2688
 -- all kept rows and the most new sets of 32 rows each, 8,512: enough for every well-formed state
 abbrev pub largestRows : ℕ
 largestRows = mostKept + mostRows * mostSets
-
-abbrev pub smallKept : ℕ
-smallKept = 128
-
-abbrev pub mediumKept : ℕ
-mediumKept = 256

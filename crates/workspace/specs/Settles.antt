@@ -29,6 +29,10 @@ pub record ReadyIn (b : List ℕ) (points : ℕ) (stamps os ns vs : List ℕ) (c
   pub numbers-long : length ns ≡ 512
   pub values-long : length vs ≡ 2048
 
+-- what is lent for the entries that are kept: words for them, and a table of blocks for every node
+abbrev pub RoomToKeep : List ℕ → List ℕ → List ℕ → List ℕ → Type 0
+RoomToKeep b on ov bl = (length on ≤ mostKept) × (length on * 4 ≤ length ov) × (nodeCount b * 3 ≤ length bl)
+
 -- what follows 9 to 12
 unfoldable pub weighedNow : Stored → List ℕ → ℕ → Outcome ℕ
 weighedNow s w room =
@@ -41,7 +45,7 @@ pub record SettledCall (s : Stored) (w buffer buffer' os ns vs os' ns' vs' : Lis
   pub stored : (words kept : ℕ) → r ≡ Written words kept → (kept ≡ length (storedNow s w .entries)) × (kept ≤ mostKept) × EntriesStored os ns vs os' ns' vs' (storedNow s w .entries)
   pub stays : (e : Refusal) → r ≡ Refused e → (os' ≡ os) × (ns' ≡ ns) × (vs' ≡ vs)
 
--- the call tried with room for so many entries: settled; or there are more, and every word is as it was
-abbrev pub Tried : Stored → List ℕ → ℕ → List ℕ → List ℕ → List ℕ → List ℕ → List ℕ → List ℕ → List ℕ → List ℕ → Settled → Type 0
-Tried s w room buffer buffer' os ns vs os' ns' vs' (Done r) = SettledCall s w buffer buffer' os ns vs os' ns' vs' r
-Tried s w room buffer buffer' os ns vs os' ns' vs' Full = (room < mostKept) × (buffer' ≡ buffer) × (os' ≡ os) × (ns' ≡ ns) × (vs' ≡ vs)
+-- the call tried: settled; or more entries would be kept than there is room for, and every word is as it was
+abbrev pub Tried : Stored → List ℕ → List ℕ → List ℕ → List ℕ → List ℕ → List ℕ → List ℕ → List ℕ → List ℕ → Settled → Type 0
+Tried s w buffer buffer' os ns vs os' ns' vs' (Done r) = SettledCall s w buffer buffer' os ns vs os' ns' vs' r
+Tried s w buffer buffer' os ns vs os' ns' vs' Full = (buffer' ≡ buffer) × (os' ≡ os) × (ns' ≡ ns) × (vs' ≡ vs)

@@ -1,4 +1,4 @@
-// The room of a call, chosen by how many rows it needs: the walk over the tree, refusals 13 to 16, the report, and the entries that are then kept, stored.
+// The room of a call, chosen by how many rows it needs and how many entries it may keep: the walk over the tree, refusals 13 to 16, the report, and the entries that are then kept, stored.
 use meaning::Point;
 use weighing::Refusal;
 use weighing::Weighed;
@@ -7,8 +7,8 @@ ghost use mathlib.Core.Path.{_≡_};
 ghost use Prim.Native.Nat.{_+_, _-_, _*_, _≤_, _<_};
 ghost use lib.ListN.{length};
 ghost use Rattle.meaning.specs.Lists.{range, gather};
-ghost use Rattle.meaning.specs.Outcome.{mostKept};
-ghost use Rattle.meaning.specs.RuleFile.{nodeCount, lastNode};
+ghost use Rattle.meaning.specs.Outcome.{mostKept, mostPoints};
+ghost use Rattle.meaning.specs.RuleFile.{lastNode};
 ghost use Rattle.method.specs.Room.{rowsNeeded, marksNeeded};
 ghost use Rattle.node_step.specs.Figures.{afterIn};
 ghost use Rattle.node_step.specs.Walks.{blockIn};
@@ -16,8 +16,8 @@ ghost use Rattle.writer.specs.Words.{words};
 ghost use Rattle.weighing.specs.Weighs.{Weighs};
 ghost use Rattle.workspace.specs.Stores.{EntriesStored, Storable};
 ghost use Rattle.workspace.specs.Blocks.{EntriesPut, BlockStorable, lastPoints, LastReady};
-ghost use Rattle.workspace.specs.Settles.{callIn, ReadyIn, SettledCall, Tried};
-ghost use Rattle.workspace.specs.Rooms.{smallRows, mediumRows, usualRows, largeRows, largestRows, smallKept, mediumKept};
+ghost use Rattle.workspace.specs.Settles.{callIn, ReadyIn, RoomToKeep, SettledCall, Tried};
+ghost use Rattle.workspace.specs.Rooms.{smallRows, mediumRows, usualRows, largeRows, largestRows};
 ghost use Rattle.workspace.specs.declared.Settled.the-variants.{Done, Full};
 
 // How many rows each room has. The largest is enough for every well-formed state: all kept rows, and 250 new sets of 32 rows each.
@@ -31,16 +31,17 @@ const LARGE_ROWS: usize = 2688;
 
 const LARGEST_ROWS: usize = 8512;
 
-// How many entries the small and the medium room have space for, and with how many a call is tried there: a few may come in the call.
-const SMALL_KEPT: usize = 128;
+// For how many entries that are kept there is room, where it is less than for all that may be.
+const FEW_KEPT: usize = 128;
 
-const MEDIUM_KEPT: usize = 256;
+const SOME_KEPT: usize = 256;
 
-const FEW_ENTRIES: usize = 96;
+const MANY_KEPT: usize = 384;
 
-const SOME_ENTRIES: usize = 224;
+// So many words of its event have an entry to spare where a call is tried: a row has five, and few nodes keep it.
+const WORDS_TO_SPARE: usize = 3;
 
-// The marks in each room, one more than the most sets that stand at once, and the words of its table of blocks, three to a node.
+// The marks beside the rows, one more than the most sets that stand at once, and the words of the table of blocks, three to a node.
 const MARKS: usize = 391;
 
 const TABLE: usize = 96;
@@ -163,8 +164,9 @@ fn settle(
 ) -> Settled
     requires { ⌜ ReadyIn (now rule) points (now stamps) (now owners) (now numbers) (now values) count (now event) (now figures) ⌝ }
     requires { ⌜ (rowsNeeded (callIn (now rule) points (now stamps) (now owners) (now numbers) (now values) count) (now event) * 4 ≤ length (now rows)) × (marksNeeded (callIn (now rule) points (now stamps) (now owners) (now numbers) (now values) count) (now event) < length (now at)) ⌝ }
-    requires { ⌜ (length (now «out_numbers») ≤ mostKept) × (length (now «out_numbers») * 4 ≤ length (now «out_values»)) × (nodeCount (now rule) * 3 ≤ length (now blocks)) ⌝ }
-    ensures { λ r. ⌜ Tried (callIn (now (rule .entry)) points (now (stamps .entry)) (now (owners .entry)) (now (numbers .entry)) (now (values .entry)) count) (now (event .entry)) (length (now («out_numbers» .entry))) (now (report .entry)) (now (report .exit)) (now (owners .entry)) (now (numbers .entry)) (now (values .entry)) (now (owners .exit)) (now (numbers .exit)) (now (values .exit)) r ⌝ }
+    requires { ⌜ RoomToKeep (now rule) (now «out_numbers») (now «out_values») (now blocks) ⌝ }
+    ensures tried { λ r. ⌜ Tried (callIn (now (rule .entry)) points (now (stamps .entry)) (now (owners .entry)) (now (numbers .entry)) (now (values .entry)) count) (now (event .entry)) (now (report .entry)) (now (report .exit)) (now (owners .entry)) (now (numbers .entry)) (now (values .entry)) (now (owners .exit)) (now (numbers .exit)) (now (values .exit)) r ⌝ }
+    ensures full { λ r. ⌜ (r ≡ Full → length (now («out_numbers» .entry)) < mostKept) ⌝ }
 {
     let place = tree_walk::walk(
         rule,
@@ -210,18 +212,15 @@ fn settle(
     }
 }
 
-// What a call gives that was tried with room for all entries that may be kept.
-fn done(settled: Settled) -> Weighed
-    requires { ⌜ (settled ≡ Full → ⊥) ⌝ }
-    ensures { λ r. ⌜ settled ≡ Done r ⌝ }
+// How often a room's function calls itself: never, which the compiler can't tell. It merges a function that is called in one place into its caller, and then every event would take the frame of the largest room; one that calls itself stays apart. A log has at most 10,000,000 points.
+fn never(points: u32) -> u32
+    requires { ⌜ points < mostPoints ⌝ }
+    ensures { λ r. ⌜ r ≡ 0 ⌝ }
 {
-    match settled {
-        Settled::Done(weighed) => weighed,
-        Settled::Full => Weighed::Refused(Refusal::KeptOver),
-    }
+    points / 4_000_000_000
 }
 
-// A call tried in the small room. Like the other rooms' functions it calls itself `again` times first, which is never (see `settle_in_room`).
+// A call in the small room for rows. Like the other rooms' functions it calls itself `again` times first, which is never (see `never`).
 fn settle_small(
     again: u32,
     rule: &[u8],
@@ -234,11 +233,16 @@ fn settle_small(
     values: &mut [u32],
     count: usize,
     report: &mut [u32],
+    out_numbers: &mut [u32],
+    out_values: &mut [u32],
+    blocks: &mut [u32],
 ) -> Settled
     requires { ⌜ again ≡ 0 ⌝ }
     requires { ⌜ ReadyIn (now rule) points (now stamps) (now owners) (now numbers) (now values) count (now event) (now figures) ⌝ }
     requires { ⌜ rowsNeeded (callIn (now rule) points (now stamps) (now owners) (now numbers) (now values) count) (now event) ≤ smallRows ⌝ }
-    ensures { λ r. ⌜ Tried (callIn (now (rule .entry)) points (now (stamps .entry)) (now (owners .entry)) (now (numbers .entry)) (now (values .entry)) count) (now (event .entry)) smallKept (now (report .entry)) (now (report .exit)) (now (owners .entry)) (now (numbers .entry)) (now (values .entry)) (now (owners .exit)) (now (numbers .exit)) (now (values .exit)) r ⌝ }
+    requires { ⌜ RoomToKeep (now rule) (now «out_numbers») (now «out_values») (now blocks) ⌝ }
+    ensures tried { λ r. ⌜ Tried (callIn (now (rule .entry)) points (now (stamps .entry)) (now (owners .entry)) (now (numbers .entry)) (now (values .entry)) count) (now (event .entry)) (now (report .entry)) (now (report .exit)) (now (owners .entry)) (now (numbers .entry)) (now (values .entry)) (now (owners .exit)) (now (numbers .exit)) (now (values .exit)) r ⌝ }
+    ensures full { λ r. ⌜ (r ≡ Full → length (now («out_numbers» .entry)) < mostKept) ⌝ }
 {
     if 0 < again {
         return settle_small(
@@ -253,13 +257,13 @@ fn settle_small(
             values,
             count,
             report,
+            out_numbers,
+            out_values,
+            blocks,
         );
     }
     let mut rows = [0u32; SMALL_ROWS * 4];
     let mut at = [0u32; MARKS];
-    let mut out_numbers = [0u32; SMALL_KEPT];
-    let mut out_values = [0u32; SMALL_KEPT * 4];
-    let mut blocks = [0u32; TABLE];
     settle(
         rule,
         figures,
@@ -273,13 +277,13 @@ fn settle_small(
         report,
         &mut rows,
         &mut at,
-        &mut out_numbers,
-        &mut out_values,
-        &mut blocks,
+        out_numbers,
+        out_values,
+        blocks,
     )
 }
 
-// A call tried in the medium room.
+// A call in the medium room.
 fn settle_medium(
     again: u32,
     rule: &[u8],
@@ -292,11 +296,16 @@ fn settle_medium(
     values: &mut [u32],
     count: usize,
     report: &mut [u32],
+    out_numbers: &mut [u32],
+    out_values: &mut [u32],
+    blocks: &mut [u32],
 ) -> Settled
     requires { ⌜ again ≡ 0 ⌝ }
     requires { ⌜ ReadyIn (now rule) points (now stamps) (now owners) (now numbers) (now values) count (now event) (now figures) ⌝ }
     requires { ⌜ rowsNeeded (callIn (now rule) points (now stamps) (now owners) (now numbers) (now values) count) (now event) ≤ mediumRows ⌝ }
-    ensures { λ r. ⌜ Tried (callIn (now (rule .entry)) points (now (stamps .entry)) (now (owners .entry)) (now (numbers .entry)) (now (values .entry)) count) (now (event .entry)) mediumKept (now (report .entry)) (now (report .exit)) (now (owners .entry)) (now (numbers .entry)) (now (values .entry)) (now (owners .exit)) (now (numbers .exit)) (now (values .exit)) r ⌝ }
+    requires { ⌜ RoomToKeep (now rule) (now «out_numbers») (now «out_values») (now blocks) ⌝ }
+    ensures tried { λ r. ⌜ Tried (callIn (now (rule .entry)) points (now (stamps .entry)) (now (owners .entry)) (now (numbers .entry)) (now (values .entry)) count) (now (event .entry)) (now (report .entry)) (now (report .exit)) (now (owners .entry)) (now (numbers .entry)) (now (values .entry)) (now (owners .exit)) (now (numbers .exit)) (now (values .exit)) r ⌝ }
+    ensures full { λ r. ⌜ (r ≡ Full → length (now («out_numbers» .entry)) < mostKept) ⌝ }
 {
     if 0 < again {
         return settle_medium(
@@ -311,13 +320,13 @@ fn settle_medium(
             values,
             count,
             report,
+            out_numbers,
+            out_values,
+            blocks,
         );
     }
     let mut rows = [0u32; MEDIUM_ROWS * 4];
     let mut at = [0u32; MARKS];
-    let mut out_numbers = [0u32; MEDIUM_KEPT];
-    let mut out_values = [0u32; MEDIUM_KEPT * 4];
-    let mut blocks = [0u32; TABLE];
     settle(
         rule,
         figures,
@@ -331,13 +340,13 @@ fn settle_medium(
         report,
         &mut rows,
         &mut at,
-        &mut out_numbers,
-        &mut out_values,
-        &mut blocks,
+        out_numbers,
+        out_values,
+        blocks,
     )
 }
 
-// A call in the usual room, which has space for all entries that may be kept; and so have the larger ones.
+// A call in the usual room.
 fn settle_usual(
     again: u32,
     rule: &[u8],
@@ -350,11 +359,16 @@ fn settle_usual(
     values: &mut [u32],
     count: usize,
     report: &mut [u32],
-) -> Weighed
+    out_numbers: &mut [u32],
+    out_values: &mut [u32],
+    blocks: &mut [u32],
+) -> Settled
     requires { ⌜ again ≡ 0 ⌝ }
     requires { ⌜ ReadyIn (now rule) points (now stamps) (now owners) (now numbers) (now values) count (now event) (now figures) ⌝ }
     requires { ⌜ rowsNeeded (callIn (now rule) points (now stamps) (now owners) (now numbers) (now values) count) (now event) ≤ usualRows ⌝ }
-    ensures { λ r. ⌜ SettledCall (callIn (now (rule .entry)) points (now (stamps .entry)) (now (owners .entry)) (now (numbers .entry)) (now (values .entry)) count) (now (event .entry)) (now (report .entry)) (now (report .exit)) (now (owners .entry)) (now (numbers .entry)) (now (values .entry)) (now (owners .exit)) (now (numbers .exit)) (now (values .exit)) r ⌝ }
+    requires { ⌜ RoomToKeep (now rule) (now «out_numbers») (now «out_values») (now blocks) ⌝ }
+    ensures tried { λ r. ⌜ Tried (callIn (now (rule .entry)) points (now (stamps .entry)) (now (owners .entry)) (now (numbers .entry)) (now (values .entry)) count) (now (event .entry)) (now (report .entry)) (now (report .exit)) (now (owners .entry)) (now (numbers .entry)) (now (values .entry)) (now (owners .exit)) (now (numbers .exit)) (now (values .exit)) r ⌝ }
+    ensures full { λ r. ⌜ (r ≡ Full → length (now («out_numbers» .entry)) < mostKept) ⌝ }
 {
     if 0 < again {
         return settle_usual(
@@ -369,14 +383,14 @@ fn settle_usual(
             values,
             count,
             report,
+            out_numbers,
+            out_values,
+            blocks,
         );
     }
     let mut rows = [0u32; USUAL_ROWS * 4];
     let mut at = [0u32; MARKS];
-    let mut out_numbers = [0u32; meaning::MOST_KEPT];
-    let mut out_values = [0u32; meaning::MOST_KEPT * 4];
-    let mut blocks = [0u32; TABLE];
-    let settled = settle(
+    settle(
         rule,
         figures,
         stamps,
@@ -389,11 +403,10 @@ fn settle_usual(
         report,
         &mut rows,
         &mut at,
-        &mut out_numbers,
-        &mut out_values,
-        &mut blocks,
-    );
-    done(settled)
+        out_numbers,
+        out_values,
+        blocks,
+    )
 }
 
 // A call in the large room.
@@ -409,11 +422,16 @@ fn settle_large(
     values: &mut [u32],
     count: usize,
     report: &mut [u32],
-) -> Weighed
+    out_numbers: &mut [u32],
+    out_values: &mut [u32],
+    blocks: &mut [u32],
+) -> Settled
     requires { ⌜ again ≡ 0 ⌝ }
     requires { ⌜ ReadyIn (now rule) points (now stamps) (now owners) (now numbers) (now values) count (now event) (now figures) ⌝ }
     requires { ⌜ rowsNeeded (callIn (now rule) points (now stamps) (now owners) (now numbers) (now values) count) (now event) ≤ largeRows ⌝ }
-    ensures { λ r. ⌜ SettledCall (callIn (now (rule .entry)) points (now (stamps .entry)) (now (owners .entry)) (now (numbers .entry)) (now (values .entry)) count) (now (event .entry)) (now (report .entry)) (now (report .exit)) (now (owners .entry)) (now (numbers .entry)) (now (values .entry)) (now (owners .exit)) (now (numbers .exit)) (now (values .exit)) r ⌝ }
+    requires { ⌜ RoomToKeep (now rule) (now «out_numbers») (now «out_values») (now blocks) ⌝ }
+    ensures tried { λ r. ⌜ Tried (callIn (now (rule .entry)) points (now (stamps .entry)) (now (owners .entry)) (now (numbers .entry)) (now (values .entry)) count) (now (event .entry)) (now (report .entry)) (now (report .exit)) (now (owners .entry)) (now (numbers .entry)) (now (values .entry)) (now (owners .exit)) (now (numbers .exit)) (now (values .exit)) r ⌝ }
+    ensures full { λ r. ⌜ (r ≡ Full → length (now («out_numbers» .entry)) < mostKept) ⌝ }
 {
     if 0 < again {
         return settle_large(
@@ -428,14 +446,14 @@ fn settle_large(
             values,
             count,
             report,
+            out_numbers,
+            out_values,
+            blocks,
         );
     }
     let mut rows = [0u32; LARGE_ROWS * 4];
     let mut at = [0u32; MARKS];
-    let mut out_numbers = [0u32; meaning::MOST_KEPT];
-    let mut out_values = [0u32; meaning::MOST_KEPT * 4];
-    let mut blocks = [0u32; TABLE];
-    let settled = settle(
+    settle(
         rule,
         figures,
         stamps,
@@ -448,11 +466,10 @@ fn settle_large(
         report,
         &mut rows,
         &mut at,
-        &mut out_numbers,
-        &mut out_values,
-        &mut blocks,
-    );
-    done(settled)
+        out_numbers,
+        out_values,
+        blocks,
+    )
 }
 
 // A call in the largest room.
@@ -468,11 +485,16 @@ fn settle_largest(
     values: &mut [u32],
     count: usize,
     report: &mut [u32],
-) -> Weighed
+    out_numbers: &mut [u32],
+    out_values: &mut [u32],
+    blocks: &mut [u32],
+) -> Settled
     requires { ⌜ again ≡ 0 ⌝ }
     requires { ⌜ ReadyIn (now rule) points (now stamps) (now owners) (now numbers) (now values) count (now event) (now figures) ⌝ }
     requires { ⌜ rowsNeeded (callIn (now rule) points (now stamps) (now owners) (now numbers) (now values) count) (now event) ≤ largestRows ⌝ }
-    ensures { λ r. ⌜ SettledCall (callIn (now (rule .entry)) points (now (stamps .entry)) (now (owners .entry)) (now (numbers .entry)) (now (values .entry)) count) (now (event .entry)) (now (report .entry)) (now (report .exit)) (now (owners .entry)) (now (numbers .entry)) (now (values .entry)) (now (owners .exit)) (now (numbers .exit)) (now (values .exit)) r ⌝ }
+    requires { ⌜ RoomToKeep (now rule) (now «out_numbers») (now «out_values») (now blocks) ⌝ }
+    ensures tried { λ r. ⌜ Tried (callIn (now (rule .entry)) points (now (stamps .entry)) (now (owners .entry)) (now (numbers .entry)) (now (values .entry)) count) (now (event .entry)) (now (report .entry)) (now (report .exit)) (now (owners .entry)) (now (numbers .entry)) (now (values .entry)) (now (owners .exit)) (now (numbers .exit)) (now (values .exit)) r ⌝ }
+    ensures full { λ r. ⌜ (r ≡ Full → length (now («out_numbers» .entry)) < mostKept) ⌝ }
 {
     if 0 < again {
         return settle_largest(
@@ -487,14 +509,14 @@ fn settle_largest(
             values,
             count,
             report,
+            out_numbers,
+            out_values,
+            blocks,
         );
     }
     let mut rows = [0u32; LARGEST_ROWS * 4];
     let mut at = [0u32; MARKS];
-    let mut out_numbers = [0u32; meaning::MOST_KEPT];
-    let mut out_values = [0u32; meaning::MOST_KEPT * 4];
-    let mut blocks = [0u32; TABLE];
-    let settled = settle(
+    settle(
         rule,
         figures,
         stamps,
@@ -507,16 +529,14 @@ fn settle_largest(
         report,
         &mut rows,
         &mut at,
-        &mut out_numbers,
-        &mut out_values,
-        &mut blocks,
-    );
-    done(settled)
+        out_numbers,
+        out_values,
+        blocks,
+    )
 }
 
-// A call in the smallest of the rooms that have space for all entries, where it needs so many rows.
-fn settle_whole(
-    again: u32,
+// A call in the smallest room for rows that has as many as it needs.
+fn settle_in_rows(
     rule: &[u8],
     figures: &[u32],
     stamps: &[u32],
@@ -527,13 +547,54 @@ fn settle_whole(
     values: &mut [u32],
     count: usize,
     report: &mut [u32],
+    out_numbers: &mut [u32],
+    out_values: &mut [u32],
+    blocks: &mut [u32],
     rows: usize,
-) -> Weighed
-    requires { ⌜ again ≡ 0 ⌝ }
+) -> Settled
     requires { ⌜ ReadyIn (now rule) points (now stamps) (now owners) (now numbers) (now values) count (now event) (now figures) ⌝ }
     requires { ⌜ rowsNeeded (callIn (now rule) points (now stamps) (now owners) (now numbers) (now values) count) (now event) ≤ rows ⌝ }
-    ensures { λ r. ⌜ SettledCall (callIn (now (rule .entry)) points (now (stamps .entry)) (now (owners .entry)) (now (numbers .entry)) (now (values .entry)) count) (now (event .entry)) (now (report .entry)) (now (report .exit)) (now (owners .entry)) (now (numbers .entry)) (now (values .entry)) (now (owners .exit)) (now (numbers .exit)) (now (values .exit)) r ⌝ }
+    requires { ⌜ RoomToKeep (now rule) (now «out_numbers») (now «out_values») (now blocks) ⌝ }
+    ensures tried { λ r. ⌜ Tried (callIn (now (rule .entry)) points (now (stamps .entry)) (now (owners .entry)) (now (numbers .entry)) (now (values .entry)) count) (now (event .entry)) (now (report .entry)) (now (report .exit)) (now (owners .entry)) (now (numbers .entry)) (now (values .entry)) (now (owners .exit)) (now (numbers .exit)) (now (values .exit)) r ⌝ }
+    ensures full { λ r. ⌜ (r ≡ Full → length (now («out_numbers» .entry)) < mostKept) ⌝ }
 {
+    let again = never(points);
+    if rows <= SMALL_ROWS {
+        return settle_small(
+            again,
+            rule,
+            figures,
+            stamps,
+            points,
+            event,
+            owners,
+            numbers,
+            values,
+            count,
+            report,
+            out_numbers,
+            out_values,
+            blocks,
+        );
+    }
+    if rows <= MEDIUM_ROWS {
+        return settle_medium(
+            again,
+            rule,
+            figures,
+            stamps,
+            points,
+            event,
+            owners,
+            numbers,
+            values,
+            count,
+            report,
+            out_numbers,
+            out_values,
+            blocks,
+        );
+    }
     if rows <= USUAL_ROWS {
         return settle_usual(
             again,
@@ -547,6 +608,9 @@ fn settle_whole(
             values,
             count,
             report,
+            out_numbers,
+            out_values,
+            blocks,
         );
     }
     if rows <= LARGE_ROWS {
@@ -562,6 +626,9 @@ fn settle_whole(
             values,
             count,
             report,
+            out_numbers,
+            out_values,
+            blocks,
         );
     }
     settle_largest(
@@ -576,11 +643,268 @@ fn settle_whole(
         values,
         count,
         report,
+        out_numbers,
+        out_values,
+        blocks,
     )
 }
 
-// A call for which the small room is too small: in the medium one, or where that is too small in one that has space for all entries.
-fn settle_more(
+// A call tried with room for a few kept entries.
+fn keep_few(
+    again: u32,
+    rule: &[u8],
+    figures: &[u32],
+    stamps: &[u32],
+    points: u32,
+    event: &[u32],
+    owners: &mut [u32],
+    numbers: &mut [u32],
+    values: &mut [u32],
+    count: usize,
+    report: &mut [u32],
+    rows: usize,
+) -> Settled
+    requires { ⌜ again ≡ 0 ⌝ }
+    requires { ⌜ ReadyIn (now rule) points (now stamps) (now owners) (now numbers) (now values) count (now event) (now figures) ⌝ }
+    requires { ⌜ rowsNeeded (callIn (now rule) points (now stamps) (now owners) (now numbers) (now values) count) (now event) ≤ rows ⌝ }
+    ensures { λ r. ⌜ Tried (callIn (now (rule .entry)) points (now (stamps .entry)) (now (owners .entry)) (now (numbers .entry)) (now (values .entry)) count) (now (event .entry)) (now (report .entry)) (now (report .exit)) (now (owners .entry)) (now (numbers .entry)) (now (values .entry)) (now (owners .exit)) (now (numbers .exit)) (now (values .exit)) r ⌝ }
+{
+    if 0 < again {
+        return keep_few(
+            again - 1,
+            rule,
+            figures,
+            stamps,
+            points,
+            event,
+            owners,
+            numbers,
+            values,
+            count,
+            report,
+            rows,
+        );
+    }
+    let mut out_numbers = [0u32; FEW_KEPT];
+    let mut out_values = [0u32; FEW_KEPT * 4];
+    let mut blocks = [0u32; TABLE];
+    settle_in_rows(
+        rule,
+        figures,
+        stamps,
+        points,
+        event,
+        owners,
+        numbers,
+        values,
+        count,
+        report,
+        &mut out_numbers,
+        &mut out_values,
+        &mut blocks,
+        rows,
+    )
+}
+
+// A call tried with room for some.
+fn keep_some(
+    again: u32,
+    rule: &[u8],
+    figures: &[u32],
+    stamps: &[u32],
+    points: u32,
+    event: &[u32],
+    owners: &mut [u32],
+    numbers: &mut [u32],
+    values: &mut [u32],
+    count: usize,
+    report: &mut [u32],
+    rows: usize,
+) -> Settled
+    requires { ⌜ again ≡ 0 ⌝ }
+    requires { ⌜ ReadyIn (now rule) points (now stamps) (now owners) (now numbers) (now values) count (now event) (now figures) ⌝ }
+    requires { ⌜ rowsNeeded (callIn (now rule) points (now stamps) (now owners) (now numbers) (now values) count) (now event) ≤ rows ⌝ }
+    ensures { λ r. ⌜ Tried (callIn (now (rule .entry)) points (now (stamps .entry)) (now (owners .entry)) (now (numbers .entry)) (now (values .entry)) count) (now (event .entry)) (now (report .entry)) (now (report .exit)) (now (owners .entry)) (now (numbers .entry)) (now (values .entry)) (now (owners .exit)) (now (numbers .exit)) (now (values .exit)) r ⌝ }
+{
+    if 0 < again {
+        return keep_some(
+            again - 1,
+            rule,
+            figures,
+            stamps,
+            points,
+            event,
+            owners,
+            numbers,
+            values,
+            count,
+            report,
+            rows,
+        );
+    }
+    let mut out_numbers = [0u32; SOME_KEPT];
+    let mut out_values = [0u32; SOME_KEPT * 4];
+    let mut blocks = [0u32; TABLE];
+    settle_in_rows(
+        rule,
+        figures,
+        stamps,
+        points,
+        event,
+        owners,
+        numbers,
+        values,
+        count,
+        report,
+        &mut out_numbers,
+        &mut out_values,
+        &mut blocks,
+        rows,
+    )
+}
+
+// A call tried with room for many.
+fn keep_many(
+    again: u32,
+    rule: &[u8],
+    figures: &[u32],
+    stamps: &[u32],
+    points: u32,
+    event: &[u32],
+    owners: &mut [u32],
+    numbers: &mut [u32],
+    values: &mut [u32],
+    count: usize,
+    report: &mut [u32],
+    rows: usize,
+) -> Settled
+    requires { ⌜ again ≡ 0 ⌝ }
+    requires { ⌜ ReadyIn (now rule) points (now stamps) (now owners) (now numbers) (now values) count (now event) (now figures) ⌝ }
+    requires { ⌜ rowsNeeded (callIn (now rule) points (now stamps) (now owners) (now numbers) (now values) count) (now event) ≤ rows ⌝ }
+    ensures { λ r. ⌜ Tried (callIn (now (rule .entry)) points (now (stamps .entry)) (now (owners .entry)) (now (numbers .entry)) (now (values .entry)) count) (now (event .entry)) (now (report .entry)) (now (report .exit)) (now (owners .entry)) (now (numbers .entry)) (now (values .entry)) (now (owners .exit)) (now (numbers .exit)) (now (values .exit)) r ⌝ }
+{
+    if 0 < again {
+        return keep_many(
+            again - 1,
+            rule,
+            figures,
+            stamps,
+            points,
+            event,
+            owners,
+            numbers,
+            values,
+            count,
+            report,
+            rows,
+        );
+    }
+    let mut out_numbers = [0u32; MANY_KEPT];
+    let mut out_values = [0u32; MANY_KEPT * 4];
+    let mut blocks = [0u32; TABLE];
+    settle_in_rows(
+        rule,
+        figures,
+        stamps,
+        points,
+        event,
+        owners,
+        numbers,
+        values,
+        count,
+        report,
+        &mut out_numbers,
+        &mut out_values,
+        &mut blocks,
+        rows,
+    )
+}
+
+// A call tried with the least room that has space for so many entries, and full where only room for all that may be kept has.
+fn keep_fewer(
+    again: u32,
+    rule: &[u8],
+    figures: &[u32],
+    stamps: &[u32],
+    points: u32,
+    event: &[u32],
+    owners: &mut [u32],
+    numbers: &mut [u32],
+    values: &mut [u32],
+    count: usize,
+    report: &mut [u32],
+    rows: usize,
+    entries: usize,
+) -> Settled
+    requires { ⌜ again ≡ 0 ⌝ }
+    requires { ⌜ ReadyIn (now rule) points (now stamps) (now owners) (now numbers) (now values) count (now event) (now figures) ⌝ }
+    requires { ⌜ rowsNeeded (callIn (now rule) points (now stamps) (now owners) (now numbers) (now values) count) (now event) ≤ rows ⌝ }
+    ensures { λ r. ⌜ Tried (callIn (now (rule .entry)) points (now (stamps .entry)) (now (owners .entry)) (now (numbers .entry)) (now (values .entry)) count) (now (event .entry)) (now (report .entry)) (now (report .exit)) (now (owners .entry)) (now (numbers .entry)) (now (values .entry)) (now (owners .exit)) (now (numbers .exit)) (now (values .exit)) r ⌝ }
+{
+    if entries <= FEW_KEPT {
+        return keep_few(
+            again,
+            rule,
+            figures,
+            stamps,
+            points,
+            event,
+            owners,
+            numbers,
+            values,
+            count,
+            report,
+            rows,
+        );
+    }
+    if entries <= SOME_KEPT {
+        return keep_some(
+            again,
+            rule,
+            figures,
+            stamps,
+            points,
+            event,
+            owners,
+            numbers,
+            values,
+            count,
+            report,
+            rows,
+        );
+    }
+    if entries <= MANY_KEPT {
+        return keep_many(
+            again,
+            rule,
+            figures,
+            stamps,
+            points,
+            event,
+            owners,
+            numbers,
+            values,
+            count,
+            report,
+            rows,
+        );
+    }
+    Settled::Full
+}
+
+// What a call gives that was tried with room for all entries that may be kept.
+fn done(settled: Settled) -> Weighed
+    requires { ⌜ (settled ≡ Full → ⊥) ⌝ }
+    ensures { λ r. ⌜ settled ≡ Done r ⌝ }
+{
+    match settled {
+        Settled::Done(weighed) => weighed,
+        Settled::Full => Weighed::Refused(Refusal::KeptOver),
+    }
+}
+
+// A call with room for all entries that may be kept.
+fn keep_all(
     again: u32,
     rule: &[u8],
     figures: &[u32],
@@ -599,42 +923,26 @@ fn settle_more(
     requires { ⌜ rowsNeeded (callIn (now rule) points (now stamps) (now owners) (now numbers) (now values) count) (now event) ≤ rows ⌝ }
     ensures { λ r. ⌜ SettledCall (callIn (now (rule .entry)) points (now (stamps .entry)) (now (owners .entry)) (now (numbers .entry)) (now (values .entry)) count) (now (event .entry)) (now (report .entry)) (now (report .exit)) (now (owners .entry)) (now (numbers .entry)) (now (values .entry)) (now (owners .exit)) (now (numbers .exit)) (now (values .exit)) r ⌝ }
 {
-    if rows <= MEDIUM_ROWS {
-        if count <= SOME_ENTRIES {
-            let settled = settle_medium(
-                again,
-                rule,
-                figures,
-                stamps,
-                points,
-                event,
-                owners,
-                numbers,
-                values,
-                count,
-                report,
-            );
-            return match settled {
-                Settled::Done(weighed) => weighed,
-                Settled::Full => settle_whole(
-                    again,
-                    rule,
-                    figures,
-                    stamps,
-                    points,
-                    event,
-                    owners,
-                    numbers,
-                    values,
-                    count,
-                    report,
-                    rows,
-                ),
-            };
-        }
+    if 0 < again {
+        return keep_all(
+            again - 1,
+            rule,
+            figures,
+            stamps,
+            points,
+            event,
+            owners,
+            numbers,
+            values,
+            count,
+            report,
+            rows,
+        );
     }
-    settle_whole(
-        again,
+    let mut out_numbers = [0u32; meaning::MOST_KEPT];
+    let mut out_values = [0u32; meaning::MOST_KEPT * 4];
+    let mut blocks = [0u32; TABLE];
+    let settled = settle_in_rows(
         rule,
         figures,
         stamps,
@@ -645,8 +953,12 @@ fn settle_more(
         values,
         count,
         report,
+        &mut out_numbers,
+        &mut out_values,
+        &mut blocks,
         rows,
-    )
+    );
+    done(settled)
 }
 
 // A call in the room that it needs: so many rows.
@@ -667,44 +979,10 @@ pub fn settle_in_room(
     requires { ⌜ rowsNeeded (callIn (now rule) points (now stamps) (now owners) (now numbers) (now values) count) (now event) ≤ needed ⌝ }
     ensures { λ r. ⌜ SettledCall (callIn (now (rule .entry)) points (now (stamps .entry)) (now (owners .entry)) (now (numbers .entry)) (now (values .entry)) count) (now (event .entry)) (now (report .entry)) (now (report .exit)) (now (owners .entry)) (now (numbers .entry)) (now (values .entry)) (now (owners .exit)) (now (numbers .exit)) (now (values .exit)) r ⌝ }
 {
-    // The compiler merges a function that is called in one place into its caller, and then every event would take the frame of the largest room. A function that calls itself stays apart. So each room's function does, `again` times, where the compiler can't tell that this is 0: a log has at most 10,000,000 points.
-    let again = points / 4_000_000_000;
+    let again = never(points);
     let rows = needed as usize;
-    if rows <= SMALL_ROWS {
-        if count <= FEW_ENTRIES {
-            let settled = settle_small(
-                again,
-                rule,
-                figures,
-                stamps,
-                points,
-                event,
-                owners,
-                numbers,
-                values,
-                count,
-                report,
-            );
-            return match settled {
-                Settled::Done(weighed) => weighed,
-                Settled::Full => settle_more(
-                    again,
-                    rule,
-                    figures,
-                    stamps,
-                    points,
-                    event,
-                    owners,
-                    numbers,
-                    values,
-                    count,
-                    report,
-                    rows,
-                ),
-            };
-        }
-    }
-    settle_more(
+    let entries = count + event.len() / WORDS_TO_SPARE;
+    let tried = keep_fewer(
         again,
         rule,
         figures,
@@ -717,5 +995,23 @@ pub fn settle_in_room(
         count,
         report,
         rows,
-    )
+        entries,
+    );
+    match tried {
+        Settled::Done(weighed) => weighed,
+        Settled::Full => keep_all(
+            again,
+            rule,
+            figures,
+            stamps,
+            points,
+            event,
+            owners,
+            numbers,
+            values,
+            count,
+            report,
+            rows,
+        ),
+    }
 }
