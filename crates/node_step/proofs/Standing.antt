@@ -2,21 +2,27 @@
 use Prim.Native.Nat.{ℕ, _+_, _-_, _≤_, _<_, min}
 use native.Mathlib.Omega.{arith}
 use mathlib.Core.Path.{_≡_, refl}
+use mathlib.Core.Bool.{true}
 use mathlib.Core.List.{List, [], _∷_}
 use lib.ListN.{length}
+use Rattle.meaning.specs.Lists.{all}
 use Rattle.meaning.specs.Log.{point, pointBefore}
+use Rattle.meaning.specs.Order.{ascending}
 use Rattle.meaning.specs.RuleFile.{arity, childrenOf}
 use Rattle.meaning.specs.declared.Point.{Point}
 use Rattle.meaning.specs.declared.Terms.{Terms}
 use Rattle.meaning.specs.declared.Node.{Node}
 use Rattle.meaning.specs.declared.Node.the-variants.{Atom, And, AndNot, Keep, Or, Exists, Previous, Next, Since, NotSince, Until, NotUntil, Once, Eventually}
 use Rattle.method.specs.Counts.{Consults}
+use Rattle.meaning.proofs.Points.{first}
 use Rattle.method.specs.Step.{firstWanted}
+use Rattle.method.specs.WellFormed.{pairFits, pairsFit}
 use Rattle.kinds.specs.Kinds.{EventThere, PairsThere}
 use Rattle.room.specs.Room.{Laid}
 use Rattle.room.specs.declared.Child.{Child}
 use Rattle.room.proofs.Laid.{laid-fewer}
 use Rattle.untils.specs.Until.{Stand}
+use Rattle.since.specs.Since.{heldIn}
 use Rattle.settling.specs.Sights.{asked, untilThere, sinceThere}
 
 -- a child that has settled count points has its sets among the first n, from a point on that is at most `wanted`
@@ -49,23 +55,23 @@ module _ (b w : List ℕ) {rows at : List ℕ} (oldAges oldValues : List ℕ) (l
       rw e
       (child-stands laid g i (min (counts x) (counts y)) l (omega arith) (omega arith), child-stands laid h i (min (counts x) (counts y)) l (omega arith) (omega arith))
 
-  both-since : {x y : ℕ} {c d : Child} → Reaches n (start .0) (counts x) c → Reaches n (start .0) (counts y) d → i .0 < counts x → i .0 < counts y → sinceThere b w rows at oldAges oldValues left right start i c d
-  both-since g h o u =
-      (child-stands laid g start (i .0 + 1) (omega arith) (omega arith) (omega arith), child-stands laid h start (i .0 + 1) (omega arith) (omega arith) (omega arith), omega (arith, g .counted), omega (arith, h .counted), pairs)
+  both-since : {x y : ℕ} {c d : Child} → Reaches n (start .0) (counts x) c → Reaches n (start .0) (counts y) d → i .0 < counts x → i .0 < counts y → ascending (heldIn oldAges oldValues) ≡ true → sinceThere b w rows at oldAges oldValues left right start i c d
+  both-since g h o u up =
+      (child-stands laid g start (i .0 + 1) (omega arith) (omega arith) (omega arith), child-stands laid h start (i .0 + 1) (omega arith) (omega arith) (omega arith), omega (arith, g .counted), omega (arith, h .counted), pairs, up)
 
-  pub point-asks : (node : Node) → ((r : ℕ) (t : Terms) → node ≡ Atom r t → arity b r ≡ t .count) → ChildrenReach n (firstWanted node (start .0) .0) counts (childrenOf node) left right → Consults counts i node
+  pub point-asks : (x : ℕ) (node : Node) → ((r : ℕ) (t : Terms) → node ≡ Atom r t → arity b r ≡ t .count) → ChildrenReach n (firstWanted node (start .0) .0) counts (childrenOf node) left right → Consults counts i node → pairsFit b x node (heldIn oldAges oldValues) ≡ true
       → asked b w rows at oldAges oldValues left right start i node
-  point-asks (Atom r t) a s u = (event, a r t refl)
-  point-asks (And x y) a s u = (child-at laid (s .0) i l (u .0), child-at laid (s .1) i l (u .1), omega (arith, s .0 .counted, u), omega (arith, s .1 .counted, u))
-  point-asks (AndNot x y) a s u = (child-at laid (s .0) i l (u .0), child-at laid (s .1) i l (u .1), omega (arith, s .0 .counted, u), omega (arith, s .1 .counted, u))
-  point-asks (Keep x c t) a s u = (child-at laid s i l u, omega (arith, s .counted))
-  point-asks (Or x y) a s u = (child-at laid (s .0) i l (u .0), child-at laid (s .1) i l (u .1), omega (arith, s .0 .counted, u), omega (arith, s .1 .counted, u))
-  point-asks (Exists x v) a s u = (child-at laid s i l u, omega (arith, s .counted))
-  point-asks (Previous x v) a s u = λ o. (child-at laid s (pointBefore i) (omega arith) (u o), omega (arith, s .counted, u o))
-  point-asks (Next x v) a s u = (omega (arith, s .counted, u), child-at laid s (point (i .0 + 1)) (omega arith) u)
-  point-asks (Since x y v) a s u = both-since (s .0) (s .1) (u .0) (u .1)
-  point-asks (NotSince x y v) a s u = both-since (s .0) (s .1) (u .0) (u .1)
-  point-asks (Until x y v) a s u = both-until (s .0) (s .1) u
-  point-asks (NotUntil x y v) a s u = both-until (s .0) (s .1) u
-  point-asks (Once x v) a s u = both-since s s u u
-  point-asks (Eventually x v) a s u = both-until s s (omega (arith, u))
+  point-asks z (Atom r t) a s u f = (event, a r t refl)
+  point-asks z (And x y) a s u f = (child-at laid (s .0) i l (u .0), child-at laid (s .1) i l (u .1), omega (arith, s .0 .counted, u), omega (arith, s .1 .counted, u))
+  point-asks z (AndNot x y) a s u f = (child-at laid (s .0) i l (u .0), child-at laid (s .1) i l (u .1), omega (arith, s .0 .counted, u), omega (arith, s .1 .counted, u))
+  point-asks z (Keep x c t) a s u f = (child-at laid s i l u, omega (arith, s .counted))
+  point-asks z (Or x y) a s u f = (child-at laid (s .0) i l (u .0), child-at laid (s .1) i l (u .1), omega (arith, s .0 .counted, u), omega (arith, s .1 .counted, u))
+  point-asks z (Exists x v) a s u f = (child-at laid s i l u, omega (arith, s .counted))
+  point-asks z (Previous x v) a s u f = λ o. (child-at laid s (pointBefore i) (omega arith) (u o), omega (arith, s .counted, u o))
+  point-asks z (Next x v) a s u f = (omega (arith, s .counted, u), child-at laid s (point (i .0 + 1)) (omega arith) u)
+  point-asks z (Since x y v) a s u f = both-since (s .0) (s .1) (u .0) (u .1) (first (ascending (heldIn oldAges oldValues)) (all (pairFits b z v) (heldIn oldAges oldValues)) f)
+  point-asks z (NotSince x y v) a s u f = both-since (s .0) (s .1) (u .0) (u .1) (first (ascending (heldIn oldAges oldValues)) (all (pairFits b z v) (heldIn oldAges oldValues)) f)
+  point-asks z (Until x y v) a s u f = both-until (s .0) (s .1) u
+  point-asks z (NotUntil x y v) a s u f = both-until (s .0) (s .1) u
+  point-asks z (Once x v) a s u f = both-since s s u u (first (ascending (heldIn oldAges oldValues)) (all (pairFits b z v) (heldIn oldAges oldValues)) f)
+  point-asks z (Eventually x v) a s u f = both-until s s (omega (arith, u))

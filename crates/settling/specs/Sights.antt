@@ -1,11 +1,13 @@
 -- What a node's evaluation at a newly settled point reads, as it stands in slices, what must stand there for the node's kind, and what it gives.
 use Prim.Native.Nat.{ℕ, _+_, _≤_, _<_, min}
 use mathlib.Core.Path.{_≡_}
+use mathlib.Core.Bool.{true}
 use mathlib.Core.List.{List, [], _∷_, map}
 use lib.ListN.{length}
 use Rattle.meaning.specs.Lists.{range}
 use Rattle.meaning.specs.Outcome.{mostRows}
 use Rattle.meaning.specs.Log.{point, pointBefore}
+use Rattle.meaning.specs.Order.{ascending}
 use Rattle.meaning.specs.Event.{rowCount, rowOf}
 use Rattle.meaning.specs.RuleFile.{arity, childrenOf}
 use Rattle.meaning.specs.declared.Point.{Point}
@@ -44,9 +46,9 @@ module _ (b w rows at oldAges oldValues : List ℕ) (left right : Child) (start 
   abbrev pub setThere : Child → Point → Type 0
   setThere c j = Stand rows at (c .first) (c .low) j (j .0 + 1)
 
-  -- the sets of both from point start on up to i, no more than the children have settled, and the pairs
+  -- the sets of both from point start on up to i, no more than the children have settled, and the pairs, which ascend strictly
   abbrev pub sinceThere : Child → Child → Type 0
-  sinceThere c d = Stand rows at (c .first) (c .low) start (i .0 + 1) × Stand rows at (d .first) (d .low) start (i .0 + 1) × (i .0 < c .count) × (i .0 < d .count) × PairsThere oldAges oldValues (length oldAges)
+  sinceThere c d = Stand rows at (c .first) (c .low) start (i .0 + 1) × Stand rows at (d .first) (d .low) start (i .0 + 1) × (i .0 < c .count) × (i .0 < d .count) × PairsThere oldAges oldValues (length oldAges) × (ascending (heldIn oldAges oldValues) ≡ true)
 
   -- the sets of both at the points from i on that both have settled
   abbrev pub untilThere : Child → Child → Type 0

@@ -5,7 +5,7 @@ use meaning::Stamp;
 use meaning::Window;
 use room::Child;
 use rowset::Row;
-ghost use Prim.Native.Nat.{_+_, _-_, _*_, _≤_, min};
+ghost use Prim.Native.Nat.{_+_, _-_, _*_, _≤_, _<_, min};
 ghost use mathlib.Core.Path.{_≡_};
 ghost use mathlib.Core.Bool.{true, not, cond, _&&_};
 ghost use mathlib.Core.List.{[], _∷_, _++_, map};
@@ -323,9 +323,10 @@ pub fn rows_at(
     i: Point,
     out: &mut [u32],
 ) -> usize
+    requires { ⌜ i .0 + 1 < 4294967296 ⌝ }
     requires { ⌜ Stand (now rows) (now at) (a .first) (a .low) start (i .0 + 1) ⌝ }
     requires { ⌜ Stand (now rows) (now at) (b .first) (b .low) start (i .0 + 1) ⌝ }
-    requires { ⌜ PairsThere (now «old_ages») (now «old_values») (length (now «old_ages»)) ⌝ }
+    requires { ⌜ PairsThere (now «old_ages») (now «old_values») (length (now «old_ages»)) × (ascending (heldIn (now «old_ages») (now «old_values»)) ≡ true) ⌝ }
     requires { ⌜ Room (now out) 0 ⌝ }
     ensures { λ k. ⌜ Added (now (out .entry)) 0 (now (out .exit)) k (rowsIn left (now (rows .entry)) (now (at .entry)) (now (times .entry)) base w a b (heldIn (now («old_ages» .entry)) (now («old_values» .entry))) start i) ⌝ }
 {
@@ -767,9 +768,10 @@ pub fn pairs_at(
     ages: &mut [u32],
     values: &mut [u32],
 ) -> usize
+    requires { ⌜ i .0 + 1 < 4294967296 ⌝ }
     requires { ⌜ Stand (now rows) (now at) (a .first) (a .low) start (i .0 + 1) ⌝ }
     requires { ⌜ Stand (now rows) (now at) (b .first) (b .low) start (i .0 + 1) ⌝ }
-    requires { ⌜ PairsThere (now «old_ages») (now «old_values») (length (now «old_ages»)) ⌝ }
+    requires { ⌜ PairsThere (now «old_ages») (now «old_values») (length (now «old_ages»)) × (ascending (heldIn (now «old_ages») (now «old_values»)) ≡ true) ⌝ }
     requires { ⌜ PairsThere (now ages) (now values) (length (now ages)) ⌝ }
     ensures { λ k. ⌜ PairsPut (now (ages .entry)) (now (values .entry)) (now (ages .exit)) (now (values .exit)) k (setOf (pairsIn left (now (rows .entry)) (now (at .entry)) (now (times .entry)) base w a b (heldIn (now («old_ages» .entry)) (now («old_values» .entry))) start i)) ⌝ }
 {

@@ -1,5 +1,6 @@
 -- `settle_pairs` meets its contract, kind by kind: a since kind's pairs are put in, and the other kinds have none.
 use Prim.Native.Nat.{ℕ}
+use native.Mathlib.Omega.{arith}
 use mathlib.Core.Path.{_≡_, subst}
 use mathlib.Core.List.{List}
 use borrow.Author.Needs.{needs}
@@ -50,19 +51,19 @@ pairs-at-requires : tie.Need-pairs-at-requires
 pairs-at-requires c κs =
     let s = c .before .before .before .before .before .before .before .before .before .before .before .before .before .before in
     let t = told s (c .before .before .before .node .given .1) in
-    (t .0, (t .1, (t .4, s .pre .1)))
+    (omega (arith, t .2, s .good .1 .1 .1 .1 .0), (t .0, (t .1, ((t .4, t .5), s .pre .1))))
 
 pairs-at-requires-2 : tie.Need-pairs-at-requires-2
 pairs-at-requires-2 c κs =
     let s = c .before .before .before .before .before .before .before .before .before .before .before .before .before .before in
     let t = told s (c .before .before .before .node2 .given .1) in
-    (t .0, (t .1, (t .4, s .pre .1)))
+    (omega (arith, t .2, s .good .1 .1 .1 .1 .0), (t .0, (t .1, ((t .4, t .5), s .pre .1))))
 
 pairs-at-requires-3 : tie.Need-pairs-at-requires-3
 pairs-at-requires-3 c κs =
     let s = c .before .before .before .before .before .before .before .before .before .before .before .before .before .before in
     let t = told s (c .before .before .before .node3 .given .1) in
-    (t .0, (t .1, (t .4, s .pre .1)))
+    (omega (arith, t .2, s .good .1 .1 .1 .1 .0), (t .0, (t .1, ((t .4, t .5), s .pre .1))))
 
 returns : tie.Need-returns
 returns c =

@@ -15,13 +15,13 @@ use Rattle.since.proofs.pairs_at.Statement.{statement}
 use Rattle.since.proofs.pairs_at.Tie as tie
 
 add-fresh-requires : tie.Need-add-fresh-requires
-add-fresh-requires c κs = let s = c .before .before .before .before .before .before .before .before .before .before in (s .pre .0, (s .pre .1 .0, room-from-none (s .pre .1 .1 .1)))
+add-fresh-requires c κs = let s = c .before .before .before .before .before .before .before .before .before .before in (s .pre .1 .0, (s .pre .1 .1 .0, room-from-none (s .pre .1 .1 .1 .1)))
 
 add-all-aged-requires : tie.Need-add-all-aged-requires
-add-all-aged-requires c κs = (c .before .before .before .before .before .before .before .before .before .before .before .before .before .before .before .before .before .before .before .pre .1 .1 .0, c .before .before .before .before .before .before .before .before .add-fresh .ensures .room)
+add-all-aged-requires c κs = (c .before .before .before .before .before .before .before .before .before .before .before .before .before .before .before .before .before .before .before .pre .1 .1 .1 .0 .0, c .before .before .before .before .before .before .before .before .add-fresh .ensures .room)
 
 add-all-older-requires : tie.Need-add-all-older-requires
-add-all-older-requires c κs = let s = c .before .before .before .before .before .before .before .before .before .before .before .before .before .before .before .before .before .before in (s .pre .0, (s .pre .1 .1 .0, c .before .before .before .before .before .before .before .add-fresh .ensures .room))
+add-all-older-requires c κs = let s = c .before .before .before .before .before .before .before .before .before .before .before .before .before .before .before .before .before .before in (s .pre .1 .0, (s .pre .1 .1 .1 .0 .0, c .before .before .before .before .before .before .before .add-fresh .ensures .room))
 
 returns : tie.Need-returns
 returns c =

@@ -20,13 +20,13 @@ put-aged-requires : tie.Need-put-aged-requires
 put-aged-requires c κs =
     let s = c .before .before .before .before .before .before .before .before .before .before .before .before .before .before in
     let f = c .before .before .before .before .before .put-fresh .ensures in
-    (s .pre .1 .1 .0, (record { most = f .most; there = omega (arith, f .long, s .pre .1 .1 .1 .there) }, added-ascends f (ap ascending (rows-none (s .args .out .now)))))
+    (s .pre .1 .1 .1 .0 .0, (record { most = f .most; there = omega (arith, f .long, s .pre .1 .1 .1 .1 .there) }, added-ascends f (ap ascending (rows-none (s .args .out .now)))))
 
 put-older-requires : tie.Need-put-older-requires
 put-older-requires c κs =
     let s = c .before .before .before .before .before .before .before .before .before .before .before .before .before in
     let f = c .before .before .before .before .put-fresh .ensures in
-    (s .pre .0, (s .pre .1 .1 .0, (record { most = f .most; there = omega (arith, f .long, s .pre .1 .1 .1 .there) }, added-ascends f (ap ascending (rows-none (s .args .out .now))))))
+    (s .pre .1 .0, (s .pre .1 .1 .1 .0 .0, (record { most = f .most; there = omega (arith, f .long, s .pre .1 .1 .1 .1 .there) }, added-ascends f (ap ascending (rows-none (s .args .out .now))))))
 
 returns : tie.Need-returns
 returns c =
