@@ -14,7 +14,7 @@ use Rattle.meaning.specs.declared.Node.the-variants.{Atom, And, AndNot, Keep, O
 use Rattle.meaning.proofs.Node.{the-type}
 use Rattle.method.specs.WellFormed.{pairsFit}
 use Rattle.kinds.specs.Kinds.{pairsFrom}
-use Rattle.since.proofs.Runs.{pairs-length}
+use Rattle.pairs.proofs.Runs.{pairs-length}
 
 none-fit : (b : List ℕ) (x : ℕ) (n : Node) → pairsFit b x n [] ≡ true
 none-fit b x (Atom r t) = refl
