@@ -12,7 +12,7 @@ use Rattle.method.specs.Settle.{hasPairs}
 use Rattle.method.specs.WellFormed.{pairsFit}
 use Rattle.method.proofs.Reached.{no-pairs-fit}
 use Rattle.kinds.specs.Kinds.{pairsFrom}
-use Rattle.since.proofs.Runs.{pairs-length}
+use Rattle.pairs.proofs.Runs.{pairs-length}
 
 module _ (b : List ℕ) (x : ℕ) (v : View) (ns vs : List ℕ) (from to : ℕ) where
   pub pairs-none : from ≡ to → true ≡ pairsFit b x v (pairsFrom ns vs from (to - from))

@@ -108,7 +108,7 @@ fn is_behind(numbers: &[u32], values: &[u32], i: usize) -> bool
     requires { ⌜ (0 < i) × (i < length (now numbers)) × (i * 4 + 4 ≤ length (now values)) ⌝ }
     ensures { λ t. ⌜ t ≡ before (pairAt (now (numbers .entry)) (now (values .entry)) (i - 1)) (pairAt (now (numbers .entry)) (now (values .entry)) i) ⌝ }
 {
-    since::pair_before(
+    pairs::pair_before(
         numbers[i - 1],
         rowset::row_at(values, i - 1),
         numbers[i],

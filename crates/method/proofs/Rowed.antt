@@ -1,10 +1,10 @@
 -- An entry of what is well formed is a row of a node or a pair: its mark is 0 or 1, and it has four values.
 use Prim.Native.Nat.{ℕ, _-_, _<_}
 use native.Mathlib.Omega.{arith}
-use mathlib.Core.Path.{_≡_, ap}
+use mathlib.Core.Path.{_≡_, refl, ap}
 use mathlib.Core.Bool.{Bool, true, false, cond, _&&_}
 use mathlib.Core.Logic.{_⊎_, inl, inr}
-use mathlib.Core.List.{List, [], _∷_, map, List·Memᴰ, List·Memᴰ·not-nil, List·Memᴰ·append-cases, Memᴰ·of-map}
+use mathlib.Core.List.{List, [], _∷_, map, List·Memᴰ, List·Memᴰ·append-cases, Memᴰ·of-map}
 use lib.ListN.{length, getD, drop}
 use lib.Dec.{eqb}
 use borrow.Author.Tests.{eqb-true}
@@ -34,22 +34,19 @@ module _ (b : List ℕ) (x : ℕ) where
   four-values : (u : List ℕ) → rowOfNode b x u ≡ true → length u ≡ 4
   four-values u t = ap length (same-row u (cutTo (free (formulaAt b x)) (valuationOf u)) .0 t)
 
-  none : (ps : List (List ℕ)) {p : List ℕ} → List·Memᴰ p ps → eqb (length ps) 0 ≡ true → length (drop 1 p) ≡ 4
-  none [] m t = absurd (List·Memᴰ·not-nil m)
-  none (q ∷ ps) m t = absurd (omega (arith, eqb-true (length (q ∷ ps)) 0 t))
-
-  some : (w : Window) (ps : List (List ℕ)) {p : List ℕ} → List·Memᴰ p ps → (ascending ps && all (pairFits b x w) ps) ≡ true → length (drop 1 p) ≡ 4
-  some w ps {p} m t =
-      let all-fit : all (pairFits b x w) ps ≡ true = search second in
-      let fits : pairFits b x w p ≡ true = all-at (pairFits b x w) m all-fit in
-      four-values (drop 1 p) (search second)
+  -- pairs that fit ascend, and each fits; a node that has none has only such
+  pub pairs-each : (v : View) (ps : List (List ℕ)) → pairsFit b x v ps ≡ true → (ascending ps ≡ true) × (all (pairFits b x (v .window)) ps ≡ true)
+  pairs-each v ps = go (hasPairs (v .times)) ps
+    where
+      go : (t : Bool) (ps : List (List ℕ)) → cond t (ascending ps && all (pairFits b x (v .window)) ps) (eqb (length ps) 0) ≡ true → (ascending ps ≡ true) × (all (pairFits b x (v .window)) ps ≡ true)
+      go true ps e = (first (ascending ps) (all (pairFits b x (v .window)) ps) e, second (ascending ps) (all (pairFits b x (v .window)) ps) e)
+      go false [] e = (refl, refl)
+      go false (q ∷ ps) e = absurd (omega (arith, eqb-true (length (q ∷ ps)) 0 e))
 
   pair-values : (v : View) (ps : List (List ℕ)) {p : List ℕ} → List·Memᴰ p ps → pairsFit b x v ps ≡ true → length (drop 1 p) ≡ 4
-  pair-values v ps {p} m = go (hasPairs (v .times))
-    where
-      go : (t : Bool) → cond t (ascending ps && all (pairFits b x (v .window)) ps) (eqb (length ps) 0) ≡ true → length (drop 1 p) ≡ 4
-      go true = some (v .window) ps m
-      go false = none ps m
+  pair-values v ps {p} m e =
+      let fits : pairFits b x (v .window) p ≡ true = all-at (pairFits b x (v .window)) m (pairs-each v ps e .1) in
+      four-values (drop 1 p) (search second)
 
 module _ (s : Stored) (x : ℕ) where
   abbrev rowsAt : Point → List Entry

@@ -32,6 +32,7 @@ use Rattle.method.specs.Stored.{Stored, held, heldPairs}
 use Rattle.method.specs.Settle.{Sight, fresh, rowsSince, candidates, settle, hasPairs, rowsOfTurn}
 use Rattle.method.specs.Step.{wantedFrom, newRows, turnOf, sightOf, turnsTo, stampsNow, countBefore, countAfter, turn}
 use Rattle.method.specs.WellFormed.{rowOfNode, setFits, pairFits, pairsFit, nodeFits, Formed}
+use Rattle.method.proofs.Rowed.{pairs-each}
 use Rattle.method.proofs.Bounds.{by-children}
 use Rattle.method.proofs.Seen.{one, two}
 use Rattle.method.proofs.Turns.{turns-at, turns-seen}
@@ -115,19 +116,8 @@ module _ (F : ℕ → Formula) (v : Sight) (same : v .free ≡ (λ y. free (F y)
 -- ---- what is held
 
 module _ (b : List ℕ) (x : ℕ) where
-  none-held : (ps : List (List ℕ)) → eqb (length ps) 0 ≡ true → PairsOf (free (formulaAt b x)) ps
-  none-held [] e = no-pairs _
-  none-held (q ∷ ps) e = absurd (let z : length (q ∷ ps) ≡ 0 = eqb-true (length (q ∷ ps)) 0 e in omega arith)
-
-  some-held : (w : Window) (ps : List (List ℕ)) → (ascending ps && all (pairFits b x w) ps) ≡ true → PairsOf (free (formulaAt b x)) ps
-  some-held w ps e = record { cut = λ p m. let t : pairFits b x w p ≡ true = all-at (pairFits b x w) m (second (ascending ps) _ e) in same-row (drop 1 p) _ .0 (search second) }
-
   pairs-held : (v : View) (ps : List (List ℕ)) → pairsFit b x v ps ≡ true → PairsOf (free (formulaAt b x)) ps
-  pairs-held v ps = go (hasPairs (v .times))
-    where
-      go : (t : Bool) → cond t (ascending ps && all (pairFits b x (v .window)) ps) (eqb (length ps) 0) ≡ true → PairsOf (free (formulaAt b x)) ps
-      go true = some-held (v .window) ps
-      go false = none-held ps
+  pairs-held v ps e = record { cut = λ p m. let t : pairFits b x (v .window) p ≡ true = all-at (pairFits b x (v .window)) m (pairs-each b x v ps e .1) in same-row (drop 1 p) _ .0 (search second) }
 
   rows-held : (rows : List (List ℕ)) → setFits b x rows ≡ true → RowsOf (free (formulaAt b x)) rows
   rows-held rows e = record { ascends = search (first, second); cut = λ u m. same-row u _ .0 (all-at (rowOfNode b x) m (search second)) }

@@ -2,6 +2,7 @@
 use Prim.Native.Nat.{ℕ, _+_, _-_, _≤_, _<_}
 use native.Mathlib.Omega.{arith}
 use mathlib.Core.Path.{_≡_, refl, sym, ap, ap₂, _∙_}
+use mathlib.Core.Bool.{true}
 use mathlib.Core.List.{List, [], _∷_, List·Memᴰ}
 use lib.ListN.{length, getD}
 use Rattle.meaning.specs.Log.{point}
@@ -13,11 +14,13 @@ use Rattle.meaning.specs.declared.Node.{Node}
 use Rattle.meaning.proofs.Accepted.{accepted}
 use Rattle.method.specs.Stored.{Stored, stampIn}
 use Rattle.method.specs.Step.{firstWanted, countBefore, countAfter, stampsNow, turn}
+use Rattle.method.specs.WellFormed.{pairsFit}
 use Rattle.method.proofs.Bounds.{below, wanted-child, after-step, consults}
 use Rattle.method.proofs.Seen.{one, two}
 use Rattle.kinds.specs.Kinds.{PairsThere}
 use Rattle.room.specs.Room.{setIn, Laid}
 use Rattle.room.specs.declared.Child.{Child}
+use Rattle.since.specs.Since.{heldIn}
 use Rattle.settling.specs.Sights.{Seen, SeenAll, Sees, asked}
 use Rattle.node_step.specs.Figures.{CallReady, lowIn}
 use Rattle.node_step.specs.Walks.{ChildStands, ChildrenStand}
@@ -86,9 +89,9 @@ module _ {s : Stored} {w os ns vs stamps f : List ℕ} (g : CallReady s w os ns 
             children = seen-all (childrenOf (nodeAt (s .rule) x)) (below (s .rule) (a g) (ok g) x l) p q left right e c rows' at' t;
           }
 
-      pub asks : (oldAges oldValues : List ℕ) → PairsThere oldAges oldValues (length oldAges) → (m : ℕ) → n ≤ m → (i : Point) → countBefore s x ≤ i .0 → i .0 < countAfter s w x → (rows' at' : List ℕ) → Laid rows' at' m
+      pub asks : (oldAges oldValues : List ℕ) → PairsThere oldAges oldValues (length oldAges) → pairsFit (s .rule) x (viewOf (nodeAt (s .rule) x)) (heldIn oldAges oldValues) ≡ true → (m : ℕ) → n ≤ m → (i : Point) → countBefore s x ≤ i .0 → i .0 < countAfter s w x → (rows' at' : List ℕ) → Laid rows' at' m
           → asked (s .rule) w rows' at' oldAges oldValues left right (point (countBefore s x)) i (nodeAt (s .rule) x)
-      asks oldAges oldValues h m o i u v rows' at' laid =
-          point-asks (s .rule) w oldAges oldValues left right (point (countBefore s x)) i (countAfter s w) laid h (g .event) u (nodeAt (s .rule) x) (as-many (s .rule) x (accepted (s .rule) (a g) (ok g) .each x l))
+      asks oldAges oldValues h fit m o i u v rows' at' laid =
+          point-asks (s .rule) w oldAges oldValues left right (point (countBefore s x)) i (countAfter s w) laid h (g .event) u x (nodeAt (s .rule) x) (as-many (s .rule) x (accepted (s .rule) (a g) (ok g) .each x l))
           (reach-all (childrenOf (nodeAt (s .rule) x)) (λ y k. k) p q left right e c m o)
-          (consults (stampsNow s w) (s .points + 1) (countAfter s w) (countBefore s x) (viewOf (nodeAt (s .rule) x)) i u (rw (after-step s (a g) (ok g) (g .formed .few-times) (g .formed .times-many) w x l) at v))
+          (consults (stampsNow s w) (s .points + 1) (countAfter s w) (countBefore s x) (viewOf (nodeAt (s .rule) x)) i u (rw (after-step s (a g) (ok g) (g .formed .few-times) (g .formed .times-many) w x l) at v)) fit

@@ -2,6 +2,7 @@
 use Prim.Native.Nat.{ℕ, _+_, _-_, _≤_, _<_}
 use native.Mathlib.Omega.{arith}
 use mathlib.Core.Path.{_≡_}
+use mathlib.Core.Bool.{true}
 use mathlib.Core.List.{List, [], _∷_, List·Memᴰ}
 use lib.ListN.{length}
 use Rattle.meaning.specs.Log.{point, pointBefore}
@@ -17,12 +18,15 @@ use Rattle.meaning.specs.declared.Times.{Times}
 use Rattle.meaning.specs.declared.Times.the-variants.{Here, Before, After, Past, Future}
 use Rattle.method.specs.Counts.{ConsultsBy, Consults}
 use Rattle.method.specs.Step.{firstWanted}
+use Rattle.method.specs.WellFormed.{pairsFit}
 use Rattle.method.proofs.Seen.{one, two}
+use Rattle.method.proofs.Rowed.{pairs-each}
 use Rattle.kinds.specs.Kinds.{EventThere, PairsThere}
 use Rattle.room.specs.Room.{Laid}
 use Rattle.room.specs.declared.Child.{Child}
 use Rattle.room.proofs.Laid.{laid-fewer}
 use Rattle.untils.specs.Until.{Stand}
+use Rattle.since.specs.Since.{heldIn}
 use Rattle.settling.specs.Sights.{ChildThere, ChildrenThere, asked}
 
 -- a child that has settled count points has its sets among the first n, from a point on that is at most `wanted`
@@ -62,6 +66,6 @@ module _ (b w : List ℕ) {rows at : List ℕ} (oldAges oldValues : List ℕ) (l
   children-there t (One x) s u = child-there t s (u x one)
   children-there t (Two x y) s u = (child-there t (s .0) (u x one), child-there t (s .1) (u y two))
 
-  pub point-asks : (node : Node) → ((r : ℕ) (t : Terms) → node ≡ Atom r t → arity b r ≡ t .count) → ChildrenReach n (firstWanted (viewOf node .times) (start .0) .0) counts (childrenOf node) left right → Consults counts i (viewOf node)
-      → asked b w rows at oldAges oldValues left right start i node
-  point-asks node a s u = record { event = event; terms = a; pairs = pairs; children = children-there (viewOf node .times) (viewOf node .children) s u }
+  pub point-asks : (x : ℕ) (node : Node) → ((r : ℕ) (t : Terms) → node ≡ Atom r t → arity b r ≡ t .count) → ChildrenReach n (firstWanted (viewOf node .times) (start .0) .0) counts (childrenOf node) left right → Consults counts i (viewOf node)
+      → pairsFit b x (viewOf node) (heldIn oldAges oldValues) ≡ true → asked b w rows at oldAges oldValues left right start i node
+  point-asks x node a s u fit = record { event = event; terms = a; pairs = pairs; ascends = pairs-each b x (viewOf node) (heldIn oldAges oldValues) fit .0; children = children-there (viewOf node .times) (viewOf node .children) s u }

@@ -7,17 +7,20 @@ use mathlib.Core.List.{List, [], _++_, map}
 use lib.ListN.{length, getD, take, drop}
 use lib.Dec.{ltb}
 use borrow.Author.Tests.{lt-ltb, le-ltb}
-use Rattle.meaning.specs.Lists.{any, gather}
+use Rattle.meaning.specs.View.{viewOf}
+use Rattle.meaning.specs.Lists.{all, any, gather}
 use Rattle.meaning.specs.Outcome.{mostRows}
 use Rattle.meaning.specs.Log.{point, pointsFrom}
 use Rattle.meaning.specs.RuleFile.{nodeCount, nodeAt, childrenOf}
 use Rattle.meaning.specs.Kept.{entryOf}
 use Rattle.meaning.specs.declared.Point.{Point}
 use Rattle.meaning.specs.declared.Node.{Node}
+use Rattle.meaning.proofs.Points.{second}
 use Rattle.meaning.proofs.Rows.{any-of, points-of}
 use Rattle.method.specs.Stored.{Stored, held, heldPairs}
 use Rattle.method.specs.Settle.{settle, rowsOfTurn}
 use Rattle.method.specs.Step.{newPairs, wantedFrom, countBefore, countAfter, turn, entriesNow, crowdedNow}
+use Rattle.method.specs.WellFormed.{setFits, pairsFit, nodeFits}
 use Rattle.method.specs.Room.{rowsMost, setsMost}
 use Rattle.method.proofs.Turns.{gather-over}
 use Rattle.room.specs.Room.{setAt, Laid, Sets}
@@ -106,6 +109,13 @@ module _ {s : Stored} {w os ns vs stamps f : List ℕ} {x : ℕ} {o : Own} {spot
       held-part ns vs (o .pairs) (o .end) (nums .pairs-end) (omega (arith, nums .end-there, nums .numbers-there)) (omega (arith, nums .end-there, nums .values-there)) os (length os) x (here ∙ ap (λ es. agedEntries x (heldPairs es x)) e)
       ∙ ap (λ es. heldPairs es x) (sym e)
 
+  pairs-fit : pairsFit (s .rule) x (viewOf (nodeAt (s .rule) x)) (heldIn oldAges oldValues) ≡ true
+  unfolding nodeFits
+  pairs-fit =
+      rw held-is
+      (second (all (λ j. setFits (s .rule) x (held (s .entries) x j)) (pointsFrom (wantedFrom (s .rule) (countBefore s) x) (countBefore s x - wantedFrom (s .rule) (countBefore s) x .0)))
+      (pairsFit (s .rule) x (viewOf (nodeAt (s .rule) x)) (heldPairs (s .entries) x)) (g .formed .nodes-fit x l))
+
   -- what its turn gives at a kept point, at a new one, and at any
   held-at : (q : ℕ) → q < o .before - o .low .0 → held (s .entries) x (point (o .low .0 + q)) ≡ turnSet s w x q
   held-at q u = rw (low-is g x l h) (sym (rows-held s w x l q (rw (before-is g x l h, low-is g x l h) at u)))
@@ -142,7 +152,7 @@ module _ {s : Stored} {w os ns vs stamps f : List ℕ} {x : ℕ} {o : Own} {spot
       → asked (s .rule) w rows' at' oldAges oldValues left right (point (o .before)) i node
   point-asks i u v rows' at' laid =
       rw (is, before-is g x l h)
-      (asks g x l rows at (spot .sets) (spot .left) (spot .right) left right (rw is at (k .children)) (k .stand) oldAges oldValues old-there (spot .sets + (o .before - o .low .0)) (omega arith) i (omega (arith, before-is g x l h)) (omega (arith, after-is g x l h)) rows' at' laid)
+      (asks g x l rows at (spot .sets) (spot .left) (spot .right) left right (rw is at (k .children)) (k .stand) oldAges oldValues old-there pairs-fit (spot .sets + (o .before - o .low .0)) (omega arith) i (omega (arith, before-is g x l h)) (omega (arith, after-is g x l h)) rows' at' laid)
 
   pub points-ready : PointsReady (s .rule) w rows₁ at₁ stamps base oldAges oldValues left right (spot .sets + (o .before - o .low .0)) (point (o .before)) (point (o .after)) node
   points-ready =

@@ -16,7 +16,7 @@ use Rattle.meaning.proofs.LookUp.{look-member}
 use Rattle.rowset.specs.declared.Row.{Row}
 use Rattle.rowset.specs.Rows.{wordsOf, rowAt, rowsFrom, mostHeld, addCapped, addAllCapped}
 use Rattle.rowset.specs.Sets.{Room, Added}
-use Rattle.rowset.proofs.Saturation.{addAll-append, whole, crowded}
+use Rattle.rowset.proofs.Saturation.{in-turn, whole, crowded}
 use Rattle.rowset.proofs.Ascending.{addAll-ascends}
 use Rattle.rowset.proofs.Places.{insert-found}
 use Rattle.rowset.proofs.Runs.{any-listed, run-first, run-end, rows-none, rows-length, rows-sized}
@@ -60,7 +60,7 @@ added-none h = record { most = h .most; long = refl; set = refl }
 
 pub added-then : {old : List ℕ} {n : ℕ} {mid : List ℕ} {m : ℕ} {new : List ℕ} {k : ℕ} {xs ys : List (List ℕ)} → Added old n mid m xs → Added mid m new k ys → Added old n new k (xs ++ ys)
 added-then {old} {n} {xs = xs} {ys = ys} g h =
-    record { most = h .most; long = h .long ∙ g .long; set = h .set ∙ ap (λ s. addAllCapped s ys) (g .set) ∙ sym (addAll-append (rowsFrom old 0 n) xs ys) }
+    record { most = h .most; long = h .long ∙ g .long; set = h .set ∙ ap (λ s. addAllCapped s ys) (g .set) ∙ sym (in-turn addAllCapped addCapped (λ s. refl) (λ s x xs. refl) (rowsFrom old 0 n) xs ys) }
 
 -- a loop that puts rows into a set of n, which now has k
 abbrev pub Through : {A : Type 0} → (ℕ → A) → (List A → List (List ℕ)) → ℕ → List ℕ → ℕ → List (List ℕ) → List ℕ → ℕ → ℕ → Type 0

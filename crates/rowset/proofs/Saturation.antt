@@ -1,6 +1,6 @@
 -- A set that takes rows up to 33: rows put in one list after another, and when it is the whole set.
 use Prim.Native.Nat.{ℕ, suc, _≤_, _<_}
-use mathlib.Core.Path.{_≡_, refl, ap, _∙_}
+use mathlib.Core.Path.{_≡_, refl, sym, ap, _∙_}
 use mathlib.Core.Bool.{Bool, true, false, cond}
 use mathlib.Core.List.{List, [], _∷_, _++_}
 use native.Mathlib.Omega.{arith}
@@ -12,9 +12,10 @@ use Rattle.meaning.specs.Evaluator.{insert, insertAll, setOf}
 use Rattle.meaning.proofs.Points.{Tested, passed, failed, tested}
 use Rattle.rowset.specs.Rows.{mostHeld, addCapped, addAllCapped}
 
-pub addAll-append : (set xs ys : List (List ℕ)) → addAllCapped set (xs ++ ys) ≡ addAllCapped (addAllCapped set xs) ys
-addAll-append set [] ys = refl
-addAll-append set (x ∷ xs) ys = addAll-append (addCapped set x) xs ys
+-- items put into something one by one: one list after another
+pub in-turn : {S A : Type 0} (all : S → List A → S) (one : S → A → S) → ((s : S) → all s [] ≡ s) → ((s : S) (x : A) (xs : List A) → all s (x ∷ xs) ≡ all (one s x) xs) → (s : S) (xs ys : List A) → all s (xs ++ ys) ≡ all (all s xs) ys
+in-turn all one none more s [] ys = ap (λ t. all t ys) (sym (none s))
+in-turn all one none more s (x ∷ xs) ys = more s x (xs ++ ys) ∙ in-turn all one none more (one s x) xs ys ∙ ap (λ t. all t ys) (sym (more s x xs))
 
 -- a set with room, and a full one
 pub with-room : (set : List (List ℕ)) (r : List ℕ) → length set < mostHeld → addCapped set r ≡ insert r set

@@ -198,17 +198,11 @@ fn before_in_turn(p: usize, n: usize) -> usize {
     0
 }
 
-// Puts a row into an ascending set of n rows as `add` does. It is looked for first at the row `near`: rows that come round in turn, youngest first, stand one before the other.
-fn add_near(out: &mut [u32], n: usize, near: usize, r: Row) -> Gathered
+// Puts a row into an ascending set of n rows as `add` does, where it is mostly there already.
+fn add_sought(out: &mut [u32], n: usize, r: Row) -> Gathered
     requires { ⌜ Room (now out) n × (ascending (rowsFrom (now out) 0 n) ≡ true) ⌝ }
     ensures { λ g. ⌜ Added (now (out .entry)) n (now (out .exit)) (g .count) (wordsOf r ∷ []) ⌝ }
 {
-    if is_at(out, n, near, r) {
-        return Gathered {
-            count: n,
-            near: before_in_turn(near, n),
-        };
-    }
     let p = find(out, 0, n, r);
     if p < n {
         return Gathered {
@@ -222,6 +216,20 @@ fn add_near(out: &mut [u32], n: usize, near: usize, r: Row) -> Gathered
     }
 }
 
+// Puts a row into an ascending set of n rows as `add` does. It is looked for first at the row `near`: rows that come round in turn, youngest first, stand one before the other.
+fn add_near(out: &mut [u32], n: usize, near: usize, r: Row) -> Gathered
+    requires { ⌜ Room (now out) n × (ascending (rowsFrom (now out) 0 n) ≡ true) ⌝ }
+    ensures { λ g. ⌜ Added (now (out .entry)) n (now (out .exit)) (g .count) (wordsOf r ∷ []) ⌝ }
+{
+    if is_at(out, n, near, r) {
+        return Gathered {
+            count: n,
+            near: before_in_turn(near, n),
+        };
+    }
+    add_sought(out, n, r)
+}
+
 // The same where the test passed.
 pub fn add_near_if(ok: bool, out: &mut [u32], n: usize, near: usize, r: Row) -> Gathered
     requires { ⌜ Room (now out) n × (ascending (rowsFrom (now out) 0 n) ≡ true) ⌝ }
@@ -231,4 +239,28 @@ pub fn add_near_if(ok: bool, out: &mut [u32], n: usize, near: usize, r: Row) -> 
         return add_near(out, n, near, r);
     }
     Gathered { count: n, near }
+}
+
+// Puts the rows from..to into an ascending set of n rows, each looked for as `add_near` does; nothing is called for a row that stands near.
+pub fn add_rows(rows: &[u32], from: usize, to: usize, out: &mut [u32], n: usize) -> usize
+    requires { ⌜ Run (now rows) from to ⌝ }
+    requires { ⌜ Room (now out) n × (ascending (rowsFrom (now out) 0 n) ≡ true) ⌝ }
+    ensures { λ k. ⌜ Added (now (out .entry)) n (now (out .exit)) k (rowsFrom (now (rows .entry)) from (to - from)) ⌝ }
+{
+    let mut k = n;
+    let mut near = 0;
+    let mut i = from;
+    while i < to {
+        let r = row_at(rows, i);
+        if is_at(out, k, near, r) {
+            near = before_in_turn(near, k);
+            i += 1;
+            continue;
+        }
+        let sought = add_sought(out, k, r);
+        k = sought.count;
+        near = sought.near;
+        i += 1;
+    }
+    k
 }

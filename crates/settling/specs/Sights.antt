@@ -1,11 +1,13 @@
 -- What a node's evaluation at a newly settled point reads, as it stands in slices, what must stand there for the node, and what it gives.
 use Prim.Native.Nat.{ℕ, _+_, _≤_, _<_}
 use mathlib.Core.Path.{_≡_}
+use mathlib.Core.Bool.{true}
 use mathlib.Core.List.{List, [], _∷_, map}
 use lib.ListN.{length}
 use Rattle.meaning.specs.Lists.{range}
 use Rattle.meaning.specs.Outcome.{mostRows}
 use Rattle.meaning.specs.Log.{point, pointBefore}
+use Rattle.meaning.specs.Order.{ascending}
 use Rattle.meaning.specs.Event.{rowCount, rowOf}
 use Rattle.meaning.specs.View.{viewOf}
 use Rattle.meaning.specs.RuleFile.{arity, childrenOf}
@@ -65,11 +67,12 @@ module _ (rows at : List ℕ) (start i : Point) where
   ChildrenThere t left right (One x) = ChildThere t left
   ChildrenThere t left right (Two x y) = ChildThere t left × ChildThere t right
 
--- what must stand for a node at point i; its pairs before point start are held in the old words
+-- what must stand for a node at point i; its pairs before point start are held in the old words, and ascend strictly
 pub record asked (b w rows at oldAges oldValues : List ℕ) (left right : Child) (start i : Point) (node : Node) : Type 0 where
   pub event : EventThere w
   pub terms : (r : ℕ) (t : Terms) → node ≡ Atom r t → arity b r ≡ t .count
   pub pairs : PairsThere oldAges oldValues (length oldAges)
+  pub ascends : ascending (heldIn oldAges oldValues) ≡ true
   pub children : ChildrenThere rows at start i (viewOf node .times) left right (viewOf node .children)
 
 -- the sets of right of since and until: those of the one child where there is one

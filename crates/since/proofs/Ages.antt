@@ -10,7 +10,7 @@ use Rattle.meaning.specs.Formula.{inWindow}
 use Rattle.meaning.specs.Kept.{belowEnd, countedAge}
 use Rattle.meaning.specs.declared.Window.{Window}
 use Rattle.meaning.proofs.Points.{Tested, passed, failed, tested}
-use Rattle.since.specs.Pairs.{belowOf, mostOf}
+use Rattle.since.specs.Parts.{belowOf, mostOf}
 
 module _ (w : Window) (age : ℕ) (few : age < 8589934592) where
   pub below-end : ltb age (belowOf w) ≡ belowEnd w age

@@ -15,9 +15,9 @@ use Rattle.meaning.specs.declared.Stamp.{Stamp}
 use Rattle.meaning.specs.declared.Window.{Window}
 use Rattle.method.specs.Settle.{backFrom}
 use Rattle.meaning.specs.declared.Left.{Left}
-use Rattle.untils.specs.Until.{leftTest}
+use Rattle.untils.specs.Until.{leftTest, leads}
 use Rattle.untils.proofs.Passing.{gather-one}
-use Rattle.since.specs.Pairs.{passesOver, freshRows, freshPairs}
+use Rattle.since.specs.Parts.{freshRows, freshPairs}
 
 back-run : (i x count : ℕ) → backFrom (point (i - x)) count ≡ map (λ y. point (i - y)) (range x count)
 back-run i x zero = refl
@@ -33,17 +33,17 @@ fresh-points start i =
 
 module _ (left : Left) (mask : ℕ) (sets right : Point → List (List ℕ)) where
   -- right's rows at point j for which left passes at every point after j and before end
-  abbrev pub lastingTo : ℕ → Point → List (List ℕ)
-  lastingTo end j = select (passesOver left mask sets (j .0 + 1) end) (right j)
+  abbrev pub lastingTo : Point → Point → List (List ℕ)
+  lastingTo end j = select (leads left mask sets (point (j .0 + 1)) end) (right j)
 
-  lasting-is : (i : Point) → lastingTo (i .0 + 1) ≡ lasting (leftTest left mask sets) right i
+  lasting-is : (i : Point) → lastingTo (point (i .0 + 1)) ≡ lasting (leftTest left mask sets) right i
   lasting-is i =
       fun-ext
       (λ j.
       let e : i .0 + 1 - (j .0 + 1) ≡ i .0 - j .0 = omega arith in
       ap₂ (λ from count. select (λ u. all (leftTest left mask sets u) (pointsFrom (point from) count)) (right j)) (add-one (j .0)) e)
 
-  module _ (τ : Point → Stamp) (w : Window) (here : Stamp) (end : ℕ) where
+  module _ (τ : Point → Stamp) (w : Window) (here : Stamp) (end : Point) where
     -- the rows of some points, and of one
     abbrev pub rowsOver : List Point → List (List ℕ)
     rowsOver js = gather (lastingTo end) (select (λ j. inWindow w (elapsed (τ j) here)) js)
@@ -69,12 +69,12 @@ module _ (left : Left) (mask : ℕ) (sets right : Point → List (List ℕ)) whe
 
   -- over all points from start on, they are what the definitions say
   module _ (τ : Point → Stamp) (w : Window) (start i : Point) {here : Stamp} (is : here ≡ τ i) where
-    pub rows-fresh : rowsOver τ w here (i .0 + 1) (map (λ x. point (i .0 - x)) (range 0 (i .0 + 1 - start .0))) ≡ freshRows τ w (leftTest left mask sets) right start i
+    pub rows-fresh : rowsOver τ w here (point (i .0 + 1)) (map (λ x. point (i .0 - x)) (range 0 (i .0 + 1 - start .0))) ≡ freshRows τ w (leftTest left mask sets) right start i
     rows-fresh =
-        ap (rowsOver τ w here (i .0 + 1)) (fresh-points start i)
+        ap (rowsOver τ w here (point (i .0 + 1))) (fresh-points start i)
         ∙ ap₂ (λ one s. gather one (select (λ j. inWindow w (elapsed (τ j) s)) (backFrom i (suc (i .0) - start .0)))) (lasting-is i) is
 
-    pub pairs-fresh : pairsOver τ w here (i .0 + 1) (map (λ x. point (i .0 - x)) (range 0 (i .0 + 1 - start .0))) ≡ freshPairs τ w (leftTest left mask sets) right start i
+    pub pairs-fresh : pairsOver τ w here (point (i .0 + 1)) (map (λ x. point (i .0 - x)) (range 0 (i .0 + 1 - start .0))) ≡ freshPairs τ w (leftTest left mask sets) right start i
     pairs-fresh =
-        ap (pairsOver τ w here (i .0 + 1)) (fresh-points start i)
+        ap (pairsOver τ w here (point (i .0 + 1))) (fresh-points start i)
         ∙ ap₂ (λ (one : Point → List (List ℕ)) s. gather (λ j. map (λ u. countedAge w (elapsed (τ j) s) ∷ u) (one j)) (select (λ j. belowEnd w (elapsed (τ j) s)) (backFrom i (suc (i .0) - start .0)))) (lasting-is i) is

@@ -2,26 +2,38 @@
 use Prim.Native.Nat.{ℕ, _+_}
 use mathlib.Core.Path.{_≡_, ap, ap₂, _∙_}
 use mathlib.Core.Bool.{Bool}
-use mathlib.Core.List.{List, _++_}
+use mathlib.Core.List.{List, [], _++_}
 use native.Mathlib.Numerals.{add-one}
+use native.Mathlib.Omega.{arith}
+use Rattle.meaning.specs.Log.{point}
+use Rattle.meaning.specs.Evaluator.{setOf}
 use Rattle.meaning.specs.declared.Point.{Point}
 use Rattle.meaning.specs.declared.Stamp.{Stamp}
 use Rattle.meaning.specs.declared.Window.{Window}
 use Rattle.method.specs.Settle.{rowsSince, pairsSince}
 use Rattle.meaning.specs.declared.Left.{Left}
-use Rattle.untils.specs.Until.{leftTest}
-use Rattle.since.specs.Pairs.{passesOver, freshRows, freshPairs, grownBy, olderRows, olderPairs}
+use Rattle.untils.specs.Until.{leftTest, leads}
+use Rattle.pairs.specs.Pairs.{PairsStand, PairsAdded}
+use Rattle.pairs.proofs.Runs.{pairs-none}
+use Rattle.since.specs.Since.{PairsPut}
+use Rattle.since.specs.Parts.{freshRows, freshPairs, grownBy, olderRows, olderPairs}
 
 module _ (left : Left) (mask : ℕ) (sets right : Point → List (List ℕ)) (τ : Point → Stamp) (w : Window) (held : List (List ℕ)) (start i : Point) where
-  module _ {by : ℕ} {passed : List ℕ → Bool} (e : by ≡ grownBy τ start i) (f : passed ≡ passesOver left mask sets (start .0) (i .0 + 1)) where
+  module _ {by : ℕ} {passed : List ℕ → Bool} (e : by ≡ grownBy τ start i) (f : passed ≡ leads left mask sets start (point (i .0 + 1))) where
     pub rows-whole : freshRows τ w (leftTest left mask sets) right start i ++ olderRows w by passed held ≡ rowsSince τ w (leftTest left mask sets) right held start i
     unfolding rowsSince
     rows-whole =
         ap (λ us. freshRows τ w (leftTest left mask sets) right start i ++ us)
-        (ap₂ (λ b p. olderRows w b p held) e (f ∙ ap (λ end. passesOver left mask sets (start .0) end) (add-one (i .0))))
+        (ap₂ (λ b p. olderRows w b p held) e (f ∙ ap (λ end. leads left mask sets start (point end)) (add-one (i .0))))
 
     pub pairs-whole : freshPairs τ w (leftTest left mask sets) right start i ++ olderPairs w by passed held ≡ pairsSince τ w (leftTest left mask sets) right held start i
     unfolding pairsSince
     pairs-whole =
         ap (λ us. freshPairs τ w (leftTest left mask sets) right start i ++ us)
-        (ap₂ (λ b p. olderPairs w b p held) e (f ∙ ap (λ end. passesOver left mask sets (start .0) end) (add-one (i .0))))
+        (ap₂ (λ b p. olderPairs w b p held) e (f ∙ ap (λ end. leads left mask sets start (point end)) (add-one (i .0))))
+
+-- pairs put into none are the set of them
+pub put-all : {ages values ages' values' : List ℕ} {k : ℕ} {xs : List (List ℕ)} → PairsAdded ages values 0 ages' values' k xs → PairsPut ages values ages' values' k (setOf xs)
+put-all {ages} {values} {ages'} {values'} {k} {xs} g =
+    let s : PairsStand ages' values' k (setOf xs) = g .put [] (record { counted = omega arith; set = λ _. pairs-none ages values }) in
+    record { agesLong = g .agesLong; valuesLong = g .valuesLong; counted = omega (arith, s .counted, g .agesLong); set = λ l. s .set (omega (arith, g .agesLong)) }

@@ -1,3 +1,3 @@
--- What the contracts of this crate cite beside the definitions of `meaning`, `method`, `room`, `kinds` and `untils`.
+-- What the contracts of this crate cite beside the definitions of `meaning`, `method`, `room`, `kinds`, `untils` and `pairs`.
 pub mod Since
-pub mod Pairs
+pub mod Parts

@@ -1,5 +1,6 @@
 -- `settle_pairs` meets its contract, by the node's times: since's pairs are put in, and other nodes have none.
 use Prim.Native.Nat.{ℕ}
+use native.Mathlib.Omega.{arith}
 use mathlib.Core.Path.{_≡_, refl, sym, ap, subst, _∙_}
 use mathlib.Core.Bool.{false}
 use mathlib.Core.List.{List}
@@ -44,7 +45,7 @@ pairs-at-requires : tie.Need-pairs-at-requires
 pairs-at-requires c κs =
     let s = c .before .before .before .before .before .before .before .before .before .before .before .before .before .before .before in
     let (h, k) = there s (c .before .before .before .before .before .view-of .ensures) (c .before .before .before .enum-told4 .given .1) (c .before .before .right-of .ensures) in
-    (h .sets, (k .sets, (s .pre .0 .pairs, s .pre .1)))
+    (omega (arith, h .settled, s .good .1 .1 .1 .1 .0), (h .sets, (k .sets, ((s .pre .0 .pairs, s .pre .0 .ascends), s .pre .1))))
 
 returns-4 : tie.Need-returns-4
 returns-4 c = gives-some (c .before .before .before .before .before .before .before .before .before .before .before .before .before .before .before .before .before .before .before .before) (c .before .before .before .before .before .before .before .before .before .before .view-of .ensures) (c .before .before .before .before .before .before .before .before .enum-told4 .given .1) (c .before .before .before .before .before .before .before .right-of .ensures) (c .before .before .before .before .pairs-at .ensures)

@@ -1,5 +1,6 @@
 -- `settle_point` meets its contract, kind by kind: what is asked for the node is asked for its kind, and what the kind gives the node gives.
 use Prim.Native.Nat.{ℕ}
+use native.Mathlib.Omega.{arith}
 use mathlib.Core.Path.{_≡_, refl, subst}
 use mathlib.Core.List.{List}
 use borrow.Author.Needs.{needs}
@@ -80,13 +81,13 @@ rows-at-requires : tie.Need-rows-at-requires
 rows-at-requires c κs =
     let s = c .before .before .before .before .before .before .before .before .before .before .before .before in
     let t = told s (c .before .before .node6 .given .1) in
-    (t .children .0 .sets, (t .children .1 .sets, (t .pairs, s .pre .1)))
+    (omega (arith, t .children .0 .settled), (t .children .0 .sets, (t .children .1 .sets, ((t .pairs, t .ascends), s .pre .1))))
 
 rows-at-requires-2 : tie.Need-rows-at-requires-2
 rows-at-requires-2 c κs =
     let s = c .before .before .before .before .before .before .before .before .before .before .before .before in
     let t = told s (c .before .before .node7 .given .1) in
-    (t .children .0 .sets, (t .children .1 .sets, (t .pairs, s .pre .1)))
+    (omega (arith, t .children .0 .settled), (t .children .0 .sets, (t .children .1 .sets, ((t .pairs, t .ascends), s .pre .1))))
 
 until-at-requires : tie.Need-until-at-requires
 until-at-requires c κs =
@@ -106,7 +107,7 @@ rows-at-requires-3 : tie.Need-rows-at-requires-3
 rows-at-requires-3 c κs =
     let s = c .before .before .before .before .before .before .before .before .before .before .before .before in
     let t = told s (c .before .before .node10 .given .1) in
-    (t .children .sets, (t .children .sets, (t .pairs, s .pre .1)))
+    (omega (arith, t .children .settled), (t .children .sets, (t .children .sets, ((t .pairs, t .ascends), s .pre .1))))
 
 until-at-requires-3 : tie.Need-until-at-requires-3
 until-at-requires-3 c κs =

@@ -5,8 +5,8 @@ use borrow.Author.Needs.{needs}
 use borrow.Author.Tests.{lt-ltb, le-ltb}
 use Rattle.meaning.specs.Order.{before}
 use Rattle.rowset.specs.Rows.{wordsOf}
-use Rattle.since.proofs.Adding.{add-none}
-use Rattle.since.proofs.Growing.{pairs-as}
+use Rattle.pairs.proofs.Adding.{add-none}
+use Rattle.pairs.proofs.Growing.{pairs-as}
 use Rattle.since.proofs.add_aged.Statement.{statement}
 use Rattle.since.proofs.add_aged.Tie as tie
 

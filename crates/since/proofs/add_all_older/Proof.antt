@@ -4,28 +4,30 @@ use native.Mathlib.Omega.{arith}
 use mathlib.Core.Path.{refl}
 use lib.ListN.{length}
 use borrow.Author.Needs.{needs}
+use Rattle.meaning.specs.Log.{point}
 use Rattle.meaning.specs.Order.{before}
 use Rattle.rowset.proofs.Growing.{Turns, starts-all, ended}
 use Rattle.kinds.specs.Kinds.{pairAt, pairsFrom}
 use Rattle.room.specs.Room.{setAt}
-use Rattle.since.specs.Pairs.{PairsAdded, passesOver}
-use Rattle.since.proofs.Adding.{add-none}
-use Rattle.since.proofs.Growing.{pairs-as}
+use Rattle.untils.specs.Until.{leads}
+use Rattle.pairs.specs.Pairs.{PairsAdded}
+use Rattle.pairs.proofs.Adding.{add-none}
+use Rattle.pairs.proofs.Growing.{pairs-as}
 use Rattle.since.proofs.Held.{boundPairs, pair-turned, pairs-bound}
 use Rattle.since.proofs.add_all_older.Statement.{statement}
 use Rattle.since.proofs.add_all_older.Tie as tie
 
 abbrev Inv-loop : tie.InvT-loop
-Inv-loop left a rows at by old-ages old-values ages₀ values₀ n bounds from end old k₀ x₀ ages values k x =
-    Turns (pairAt old-ages old-values) (boundPairs by (passesOver left (a .mask) (setAt rows at (a .first) (a .low)) from end) (bounds .below) (bounds .most)) old
-    (boundPairs by (passesOver left (a .mask) (setAt rows at (a .first) (a .low)) from end) (bounds .below) (bounds .most) (pairsFrom old-ages old-values 0 old)) (PairsAdded ages₀ values₀ n ages values k) x
+Inv-loop left a rows at start by old-ages old-values ages₀ values₀ n bounds end old k₀ x₀ ages values k x =
+    Turns (pairAt old-ages old-values) (boundPairs by (leads left (a .mask) (setAt rows at (a .first) (a .low)) start end) (bounds .below) (bounds .most)) old
+    (boundPairs by (leads left (a .mask) (setAt rows at (a .first) (a .low)) start end) (bounds .below) (bounds .most) (pairsFrom old-ages old-values 0 old)) (PairsAdded ages₀ values₀ n ages values k) x
 
 abbrev μ-loop : tie.MeasureT-loop
-μ-loop left a rows at by old-ages old-values ages₀ values₀ n bounds from end old k₀ x₀ ages values k x = old - x
+μ-loop left a rows at start by old-ages old-values ages₀ values₀ n bounds end old k₀ x₀ ages values k x = old - x
 
 loop-holds : tie.Need-loop-holds Inv-loop μ-loop
 unfolding pairsFrom
-loop-holds c = starts-all (add-none (c .before .before .before .before .before .before .before .before .before .pre .1 .1))
+loop-holds c = starts-all (add-none (c .before .before .before .before .before .before .before .before .pre .1 .1 .1))
 
 cast-age : tie.Need-cast-age Inv-loop μ-loop
 cast-age c = omega (arith, c .shared-slice-known5 .given (c .before .before .before .loop .x))
@@ -35,15 +37,15 @@ add-age c = omega (arith, c .shared-slice-known5 .given (c .before .before .befo
 
 loop-again : tie.Need-loop-again Inv-loop μ-loop
 loop-again c =
-    let a = c .before .before .before .before .before .before .before .before .before .before .before .before .before .before .before .before .before .before .before .before .args in
-    pair-turned (a .by) (passesOver (a .left) (a .a .mask) (setAt (a .rows .now) (a .at .now) (a .a .first) (a .a .low)) (a .start .0) (a .i .0 + 1)) (a .old-ages .now) (a .old-values .now) (c .before .before .before .before .before .before .before .before .before .before .before .before .before .bounds-of .result .below) (c .before .before .before .before .before .before .before .before .before .before .before .before .before .bounds-of .result .most) (c .before .before .before .before .before .before .before .before .before .before .loop .inv) (c .before .before .before .before .before .before .before .before .before .loop-test .taken) (c .before .before .before .before .add-older .ensures) refl (c .before .before .before .before .before .before .before .before .row-at .ensures)
+    let a = c .before .before .before .before .before .before .before .before .before .before .before .before .before .before .before .before .before .before .before .args in
+    pair-turned (a .by) (leads (a .left) (a .a .mask) (setAt (a .rows .now) (a .at .now) (a .a .first) (a .a .low)) (a .start) (point (a .i .0 + 1))) (a .old-ages .now) (a .old-values .now) (c .before .before .before .before .before .before .before .before .before .before .before .before .bounds-of .result .below) (c .before .before .before .before .before .before .before .before .before .before .before .before .bounds-of .result .most) (c .before .before .before .before .before .before .before .before .before .before .loop .inv) (c .before .before .before .before .before .before .before .before .before .loop-test .taken) (c .before .before .before .before .add-older .ensures) refl (c .before .before .before .before .before .before .before .before .row-at .ensures)
 
 returns : tie.Need-returns Inv-loop μ-loop
 returns c =
-    let a = c .before .before .before .before .before .before .before .before .before .before .before .args in
-    let b = c .before .before .before .before .bounds-of .ensures in
+    let a = c .before .before .before .before .before .before .before .before .before .before .args in
+    let b = c .before .before .before .bounds-of .ensures in
     pairs-as (ended (c .before .loop .inv) refl (c .loop-test .left))
-    (pairs-bound (a .by) (passesOver (a .left) (a .a .mask) (setAt (a .rows .now) (a .at .now) (a .a .first) (a .a .low)) (a .start .0) (a .i .0 + 1)) (a .w) (a .old-ages .now) (a .old-values .now) (omega arith) (λ k. omega (arith, c .before .before .before .before .before .before .before .before .shared-slice-known3 .given k)) (b .1) (b .2) 0 (length (a .old-ages .now)))
+    (pairs-bound (a .by) (leads (a .left) (a .a .mask) (setAt (a .rows .now) (a .at .now) (a .a .first) (a .a .low)) (a .start) (point (a .i .0 + 1))) (a .w) (a .old-ages .now) (a .old-values .now) (omega arith) (λ k. omega (arith, c .before .before .before .before .before .before .before .shared-slice-known3 .given k)) (b .1) (b .2) 0 (length (a .old-ages .now)))
 
 pub add-all-older-spec : {M : Type 1} → statement M
 add-all-older-spec =
@@ -53,16 +55,14 @@ add-all-older-spec =
     μ-loop
     (λ c κs. search needs)
     (λ c. search needs)
-    (λ c. search needs)
-    (λ c. search needs)
     loop-holds
-    (λ c κs. omega arith)
-    (λ c. omega (arith, c .before .before .before .before .before .before .before .before .before .before .before .before .pre .1 .0 .valuesThere, c .before .before .before .before .before .before .before .before .before .before .before .before .fits, c .before .before .before .before .before .before .before .before .before .before .before .before .good, c .before .loop-test .taken))
+    (λ c κs. omega (arith, c .before .before .before .before .before .before .before .before .before .before .pre .1 .1 .0 .valuesThere, c .before .before .before .before .before .before .before .before .before .before .fits, c .before .before .before .before .before .before .before .before .before .before .good, c .loop-test .taken))
+    (λ c. omega (arith, c .before .before .before .before .before .before .before .before .before .before .before .pre .1 .1 .0 .valuesThere, c .before .before .before .before .before .before .before .before .before .before .before .fits, c .before .before .before .before .before .before .before .before .before .before .before .good, c .before .loop-test .taken))
     (λ c. omega (arith, c .before .before .loop-test .taken))
     cast-age
     add-age
-    (λ c κs. (omega arith, (c .before .before .before .before .before .before .before .before .before .before .before .before .before .before .before .pre .0, c .before .before .before .before .before .loop .inv .put .room)))
-    (λ c. omega (arith, c .before .before .before .before .before .before .before .before .before .before .before .before .before .before .before .before .before .before .before .before .pre .1 .0 .valuesThere, c .before .before .before .before .before .before .before .before .before .before .before .before .before .before .before .before .before .before .before .before .fits, c .before .before .before .before .before .before .before .before .before .before .before .before .before .before .before .before .before .before .before .before .good, c .before .before .before .before .before .before .before .before .before .loop-test .taken))
+    (λ c κs. (c .before .before .before .before .before .before .before .before .before .before .before .before .before .before .pre .1 .0, c .before .before .before .before .before .loop .inv .put .room))
+    (λ c. omega (arith, c .before .before .before .before .before .before .before .before .before .before .before .before .before .before .before .before .before .before .before .pre .1 .1 .0 .valuesThere, c .before .before .before .before .before .before .before .before .before .before .before .before .before .before .before .before .before .before .before .fits, c .before .before .before .before .before .before .before .before .before .before .before .before .before .before .before .before .before .before .before .good, c .before .before .before .before .before .before .before .before .before .loop-test .taken))
     (λ c. omega arith)
     loop-again
     (λ c. c .before .loop .inv .put .agesLong)

@@ -15,10 +15,10 @@ use Rattle.method.specs.Stored.{stampIn}
 use Rattle.rowset.proofs.Growing.{Turns, starts-all, goes-on, ended}
 use Rattle.room.specs.Room.{setAt}
 use Rattle.untils.proofs.Spans.{stand-part}
-use Rattle.since.specs.Pairs.{PairsAdded}
-use Rattle.since.proofs.Adding.{add-none}
+use Rattle.pairs.specs.Pairs.{PairsAdded}
+use Rattle.pairs.proofs.Adding.{add-none}
 use Rattle.since.proofs.Fresh.{lastingTo, pairsOver, pairsOf, pairs-one, pairs-fresh}
-use Rattle.since.proofs.Growing.{pairs-then, pairs-as}
+use Rattle.pairs.proofs.Growing.{pairs-then, pairs-as}
 use Rattle.since.proofs.add_fresh.Statement.{statement}
 use Rattle.since.proofs.add_fresh.Tie as tie
 
@@ -31,35 +31,33 @@ abbrev μ-loop : tie.MeasureT-loop
 μ-loop left a b rows at times base w i ages₀ values₀ here end count k₀ x₀ ages values k x = count - x
 
 loop-holds : tie.Need-loop-holds Inv-loop μ-loop
-loop-holds c = starts-all (add-none (c .before .before .before .before .before .before .before .before .pre .1 .1))
+loop-holds c = starts-all (add-none (c .before .before .before .before .before .before .before .before .before .pre .1 .1 .1))
 
 add-point-below-requires : tie.Need-add-point-below-requires Inv-loop μ-loop
 add-point-below-requires c κs =
-    let s = c .before .before .before .before .before .before .before .before .before .before .before .before .before .before .before in
+    let s = c .before .before .before .before .before .before .before .before .before .before .before .before .before .before .before .before in
     let l = c .before .before .before .before .before .before .loop in
     let i : ℕ = s .args .i .0 in
     let m : l .x < i + 1 - s .args .start .0 = c .before .before .before .before .before .loop-test .taken in
-    let o = s .pre .0 .ordered in (
-      omega arith,
-      (stand-part (s .pre .0) (point (i - l .x + 1)) (i + 1) (omega (arith, m)) (omega (arith, m)) (omega arith), (stand-part (s .pre .1 .0) (point (i - l .x)) (i - l .x + 1) (omega (arith, m)) (omega arith) (omega (arith, m)), l .inv .put .room)),
-    )
+    let o = s .pre .1 .0 .ordered in
+    (stand-part (s .pre .1 .0) (point (i - l .x + 1)) (i + 1) (omega (arith, m)) (omega (arith, m)) (omega arith), (stand-part (s .pre .1 .1 .0) (point (i - l .x)) (i - l .x + 1) (omega (arith, m)) (omega arith) (omega (arith, m)), l .inv .put .room))
 
 loop-again : tie.Need-loop-again Inv-loop μ-loop
 loop-again c =
-    let a = c .before .before .before .before .before .before .before .before .before .before .before .before .before .before .before .before .before .before .before .before .args in
+    let a = c .before .before .before .before .before .before .before .before .before .before .before .before .before .before .before .before .before .before .before .before .before .args in
     let j : Point = point (a .i .0 - c .before .before .before .before .before .before .before .before .before .before .before .loop .x) in
     let sets : Point → List (List ℕ) = setAt (a .rows .now) (a .at .now) (a .a .first) (a .a .low) in
     let right : Point → List (List ℕ) = setAt (a .rows .now) (a .at .now) (a .b .first) (a .b .low) in
     let τ : Point → Stamp = stampIn (a .base) (a .times .now) in
-    let here : Stamp = c .before .before .before .before .before .before .before .before .before .before .before .before .before .before .time-in .result in
-    goes-on (c .before .before .before .before .before .before .before .before .before .before .before .loop .inv) (pairsOf (a .left) (a .a .mask) sets right τ (a .w) here (a .i .0 + 1)) (pairs-one (a .left) (a .a .mask) sets right τ (a .w) here (a .i .0 + 1)) (c .before .before .before .before .before .before .before .before .before .before .loop-test .taken) (pairs-then (c .before .before .before .before .add-point-below .ensures))
-    (ap (λ age. cond (belowEnd (a .w) age) (map (λ u. countedAge (a .w) age ∷ u) (lastingTo (a .left) (a .a .mask) sets right (a .i .0 + 1) j)) []) (c .before .before .before .before .before .before .before .elapsed .ensures ∙ ap (λ s. elapsed s here) (c .before .before .before .before .before .before .before .before .time-in2 .ensures)))
+    let here : Stamp = c .before .before .before .before .before .before .before .before .before .before .before .before .before .before .before .time-in .result in
+    goes-on (c .before .before .before .before .before .before .before .before .before .before .before .loop .inv) (pairsOf (a .left) (a .a .mask) sets right τ (a .w) here (point (a .i .0 + 1))) (pairs-one (a .left) (a .a .mask) sets right τ (a .w) here (point (a .i .0 + 1))) (c .before .before .before .before .before .before .before .before .before .before .loop-test .taken) (pairs-then (c .before .before .before .before .add-point-below .ensures))
+    (ap (λ age. cond (belowEnd (a .w) age) (map (λ u. countedAge (a .w) age ∷ u) (lastingTo (a .left) (a .a .mask) sets right (point (a .i .0 + 1)) j)) []) (c .before .before .before .before .before .before .before .elapsed .ensures ∙ ap (λ s. elapsed s here) (c .before .before .before .before .before .before .before .before .time-in2 .ensures)))
 
 returns : tie.Need-returns Inv-loop μ-loop
 returns c =
-    let a = c .before .before .before .before .before .before .before .before .before .before .args in
+    let a = c .before .before .before .before .before .before .before .before .before .before .before .args in
     pairs-as (ended (c .before .loop .inv) refl (c .loop-test .left))
-    (pairs-fresh (a .left) (a .a .mask) (setAt (a .rows .now) (a .at .now) (a .a .first) (a .a .low)) (setAt (a .rows .now) (a .at .now) (a .b .first) (a .b .low)) (stampIn (a .base) (a .times .now)) (a .w) (a .start) (a .i) (c .before .before .before .before .time-in .ensures))
+    (pairs-fresh (a .left) (a .a .mask) (setAt (a .rows .now) (a .at .now) (a .a .first) (a .a .low)) (setAt (a .rows .now) (a .at .now) (a .b .first) (a .b .low)) (stampIn (a .base) (a .times .now)) (a .w) (a .start) (a .i) (c .before .before .before .before .before .time-in .ensures))
 
 pub add-fresh-spec : {M : Type 1} → statement M
 add-fresh-spec =
@@ -70,12 +68,9 @@ add-fresh-spec =
     (λ c κs. search needs)
     (λ c. search needs)
     (λ c. search needs)
-    (λ c. search needs)
-    (λ c. omega (arith, c .before .before .before .before .before .before .before .before .pre .0 .ordered))
+    (λ c. omega (arith, c .before .before .before .before .before .before .before .before .before .pre .1 .0 .ordered))
     loop-holds
-    (λ c. omega arith)
     (λ c. omega (arith, c .before .loop-test .taken))
-    (λ c. omega arith)
     (λ c κs. search needs)
     (λ c κs. search needs)
     add-point-below-requires

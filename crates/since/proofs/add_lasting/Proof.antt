@@ -10,30 +10,31 @@ use Rattle.meaning.specs.Order.{before}
 use Rattle.rowset.specs.Rows.{rowAt, rowsFrom}
 use Rattle.rowset.proofs.Growing.{Turns, starts, goes-on, ended, map-select-one, chosen}
 use Rattle.room.specs.Room.{setAt}
-use Rattle.since.specs.Pairs.{PairsAdded, passesOver}
-use Rattle.since.proofs.Adding.{add-none}
-use Rattle.since.proofs.Growing.{pairs-then}
+use Rattle.untils.specs.Until.{leads}
+use Rattle.pairs.specs.Pairs.{PairsAdded}
+use Rattle.pairs.proofs.Adding.{add-none}
+use Rattle.pairs.proofs.Growing.{pairs-then}
 use Rattle.since.proofs.add_lasting.Statement.{statement}
 use Rattle.since.proofs.add_lasting.Tie as tie
 
 abbrev Inv-loop : tie.InvT-loop
 Inv-loop left a rows at from to after end age ages₀ values₀ n k₀ x₀ ages values k x =
-    Turns (rowAt rows) (λ us. map (λ u. age ∷ u) (select (passesOver left (a .mask) (setAt rows at (a .first) (a .low)) after end) us)) to
-    (map (λ u. age ∷ u) (select (passesOver left (a .mask) (setAt rows at (a .first) (a .low)) after end) (rowsFrom rows from (to - from)))) (PairsAdded ages₀ values₀ n ages values k) x
+    Turns (rowAt rows) (λ us. map (λ u. age ∷ u) (select (leads left (a .mask) (setAt rows at (a .first) (a .low)) after end) us)) to
+    (map (λ u. age ∷ u) (select (leads left (a .mask) (setAt rows at (a .first) (a .low)) after end) (rowsFrom rows from (to - from)))) (PairsAdded ages₀ values₀ n ages values k) x
 
 abbrev μ-loop : tie.MeasureT-loop
 μ-loop left a rows at from to after end age ages₀ values₀ n k₀ x₀ ages values k x = to - x
 
 loop-holds : tie.Need-loop-holds Inv-loop μ-loop
 unfolding rowsFrom
-loop-holds c = starts (c .before .before .before .before .pre .1 .1 .0 .ordered) (add-none (c .before .before .before .before .pre .1 .1 .1))
+loop-holds c = starts (c .before .before .before .before .pre .1 .0 .ordered) (add-none (c .before .before .before .before .pre .1 .1))
 
 loop-again : tie.Need-loop-again Inv-loop μ-loop
 loop-again c =
     let a = c .before .before .before .before .before .before .before .before .before .before .before .before .before .before .before .args in
-    let p : List ℕ → Bool = passesOver (a .left) (a .a .mask) (setAt (a .rows .now) (a .at .now) (a .a .first) (a .a .low)) (a .after) (a .end) in
+    let p : List ℕ → Bool = leads (a .left) (a .a .mask) (setAt (a .rows .now) (a .at .now) (a .a .first) (a .a .low)) (a .after) (a .end) in
     goes-on (c .before .before .before .before .before .before .before .before .before .before .loop .inv) (λ u. cond (p u) ((a .age ∷ u) ∷ []) []) (map-select-one p (λ u. a .age ∷ u)) (c .before .before .before .before .before .before .before .before .before .loop-test .taken) (pairs-then (c .before .before .before .before .add-if .ensures))
-    (chosen p (λ u. a .age ∷ u) (c .before .before .before .before .before .before .before .lasts .ensures) refl (c .before .before .before .before .before .before .before .before .row-at .ensures))
+    (chosen p (λ u. a .age ∷ u) (c .before .before .before .before .before .before .before .leads .ensures) refl (c .before .before .before .before .before .before .before .before .row-at .ensures))
 
 returns : tie.Need-returns Inv-loop μ-loop
 returns c = ended (c .before .loop .inv) refl (c .loop-test .left)

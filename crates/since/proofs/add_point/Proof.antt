@@ -4,11 +4,12 @@ use mathlib.Core.Path.{ap, _∙_}
 use mathlib.Core.List.{_∷_, map}
 use borrow.Author.Needs.{needs}
 use Rattle.meaning.specs.Lists.{select}
+use Rattle.meaning.specs.Log.{point}
 use Rattle.meaning.specs.Order.{before}
 use Rattle.room.specs.Room.{setAt}
 use Rattle.untils.proofs.Spans.{set-run, set-read}
-use Rattle.since.specs.Pairs.{passesOver}
-use Rattle.since.proofs.Growing.{pairs-as}
+use Rattle.untils.specs.Until.{leads}
+use Rattle.pairs.proofs.Growing.{pairs-as}
 use Rattle.since.proofs.Held.{every-row}
 use Rattle.since.proofs.add_point.Statement.{statement}
 use Rattle.since.proofs.add_point.Tie as tie
@@ -20,13 +21,13 @@ add-young-requires : tie.Need-add-young-requires
 add-young-requires c κs =
     let s = c .before .before .before .before .before .before .before .before .before .before .pre in
     let p = c .before .before .before .before .before .set-part .ensures in
-    (set-run (s .1 .1 .0) (p .0) (p .1), s .1 .1 .1)
+    (set-run (s .1 .0) (p .0) (p .1), s .1 .1)
 
 add-lasting-requires : tie.Need-add-lasting-requires
 add-lasting-requires c κs =
     let s = c .before .before .before .before .before .before .before .before .before .pre in
     let p = c .before .before .before .before .set-part .ensures in
-    (s .0, (s .1 .0, (set-run (s .1 .1 .0) (p .0) (p .1), s .1 .1 .1)))
+    (s .0, (set-run (s .1 .0) (p .0) (p .1), s .1 .1))
 
 returns : tie.Need-returns
 returns c =
@@ -35,7 +36,7 @@ returns c =
     let p = c .before .before .before .before .before .before .before .before .before .before .set-part .ensures in
     pairs-as (c .before .before .before .before .add-young .ensures)
     (ap (map (λ u. a .age ∷ u))
-    (set-read (s .pre .1 .1 .0) (p .0) (p .1) ∙ every-row (c .before .before .before .before .before .before .before .enum-told .given .1) (a .a .mask) (setAt (a .rows .now) (a .at .now) (a .a .first) (a .a .low)) (a .j .0 + 1) (a .end) (setAt (a .rows .now) (a .at .now) (a .b .first) (a .b .low) (a .j))))
+    (set-read (s .pre .1 .0) (p .0) (p .1) ∙ every-row (c .before .before .before .before .before .before .before .enum-told .given .1) (a .a .mask) (setAt (a .rows .now) (a .at .now) (a .a .first) (a .a .low)) (point (a .j .0 + 1)) (a .end) (setAt (a .rows .now) (a .at .now) (a .b .first) (a .b .low) (a .j))))
 
 returns-2 : tie.Need-returns-2
 returns-2 c =
@@ -43,14 +44,13 @@ returns-2 c =
     let a = s .args in
     let p = c .before .before .before .before .before .before .before .before .before .set-part .ensures in
     pairs-as (c .before .before .before .before .add-lasting .ensures)
-    (ap (λ us. map (λ u. a .age ∷ u) (select (passesOver (a .left) (a .a .mask) (setAt (a .rows .now) (a .at .now) (a .a .first) (a .a .low)) (a .j .0 + 1) (a .end)) us)) (set-read (s .pre .1 .1 .0) (p .0) (p .1)))
+    (ap (λ us. map (λ u. a .age ∷ u) (select (leads (a .left) (a .a .mask) (setAt (a .rows .now) (a .at .now) (a .a .first) (a .a .low)) (point (a .j .0 + 1)) (a .end)) us)) (set-read (s .pre .1 .0) (p .0) (p .1)))
 
 pub add-point-spec : {M : Type 1} → statement M
 add-point-spec =
     tie.close
     (tie.spec
     (λ c κs. search needs)
-    (λ c. search needs)
     (λ c. search needs)
     enum-told
     add-young-requires

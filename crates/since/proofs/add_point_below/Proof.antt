@@ -10,10 +10,10 @@ use borrow.Author.Tests.{lt-ltb, le-ltb}
 use Rattle.meaning.specs.Order.{before}
 use Rattle.meaning.specs.Kept.{belowEnd}
 use Rattle.room.specs.Room.{setAt}
-use Rattle.since.proofs.Adding.{add-none}
+use Rattle.pairs.proofs.Adding.{add-none}
 use Rattle.since.proofs.Ages.{below-end, counted}
 use Rattle.since.proofs.Fresh.{lastingTo}
-use Rattle.since.proofs.Growing.{pairs-as}
+use Rattle.pairs.proofs.Growing.{pairs-as}
 use Rattle.since.proofs.add_point_below.Statement.{statement}
 use Rattle.since.proofs.add_point_below.Tie as tie
 
@@ -35,7 +35,7 @@ returns-2 c =
     let b = c .before .before .bounds-of .ensures in
     let few : a .age < 8589934592 = omega arith in
     let e : belowEnd (a .w) (a .age) ≡ false = sym (below-end (a .w) (a .age) few) ∙ ap (ltb (a .age)) (sym (b .1)) ∙ le-ltb _ _ (c .if1 .left) in
-    rw e (add-none (s .pre .1 .1 .1))
+    rw e (add-none (s .pre .1 .1))
 
 pub add-point-below-spec : {M : Type 1} → statement M
 add-point-below-spec =

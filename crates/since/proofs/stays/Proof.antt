@@ -6,7 +6,7 @@ use Rattle.since.proofs.stays.Statement.{statement}
 use Rattle.since.proofs.stays.Tie as tie
 
 returns : tie.Need-returns
-returns c = rw (sym (c .before .before .within .ensures) ∙ c .before .if1 .taken) (c .lasts .ensures)
+returns c = rw (sym (c .before .before .within .ensures) ∙ c .before .if1 .taken) (c .leads .ensures)
 
 returns-2 : tie.Need-returns-2
 returns-2 c = rw (sym (c .before .within .ensures) ∙ c .if1 .left)

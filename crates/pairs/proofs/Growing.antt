@@ -1,0 +1,31 @@
+-- Pairs put in, one list after another, from nothing.
+use Prim.Native.Nat.{ℕ}
+use mathlib.Core.Path.{_≡_, refl, ap, subst, _∙_}
+use mathlib.Core.List.{List, _++_}
+use native.Mathlib.Omega.{arith}
+use lib.ListN.{length}
+use Rattle.meaning.specs.Order.{ascending}
+use Rattle.meaning.specs.Evaluator.{insert, insertAll}
+use Rattle.rowset.proofs.Saturation.{in-turn}
+use Rattle.kinds.specs.Kinds.{PairsThere}
+use Rattle.pairs.specs.Pairs.{PairRoom, PairsAdded}
+use Rattle.pairs.proofs.Runs.{pairs-none}
+
+-- one list of pairs put in after another
+pub pairs-then : {ages values : List ℕ} {n : ℕ} {ages' values' : List ℕ} {m : ℕ} {ages'' values'' : List ℕ} {k : ℕ} {ys : List (List ℕ)} → PairsAdded ages' values' m ages'' values'' k ys
+    → (xs : List (List ℕ)) → PairsAdded ages values n ages' values' m xs → PairsAdded ages values n ages'' values'' k (xs ++ ys)
+pairs-then {ys = ys} h xs g =
+    record {
+      agesLong = h .agesLong ∙ g .agesLong;
+      valuesLong = h .valuesLong ∙ g .valuesLong;
+      room = h .room;
+      put = λ s e. rw (in-turn insertAll (λ s x. insert x s) (λ s. refl) (λ s x xs. refl) s xs ys) (h .put (insertAll s xs) (g .put s e));
+    }
+
+-- the pairs put in, written in another way
+pub pairs-as : {ages values : List ℕ} {n : ℕ} {ages' values' : List ℕ} {k : ℕ} {xs ys : List (List ℕ)} → PairsAdded ages values n ages' values' k xs → xs ≡ ys → PairsAdded ages values n ages' values' k ys
+pairs-as {ages} {values} {n} {ages'} {values'} {k} h e = subst (PairsAdded ages values n ages' values' k) e h
+
+-- no pairs yet
+pub room-from-none : {ages values : List ℕ} → PairsThere ages values (length ages) → PairRoom ages values 0
+room-from-none {ages} {values} h = record { most = omega arith; valuesThere = h .valuesThere; ascends = λ _. ap ascending (pairs-none ages values) }

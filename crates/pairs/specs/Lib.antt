@@ -1,0 +1,2 @@
+-- Pairs as a set in words, and pairs grown older.
+pub mod Pairs
