@@ -172,11 +172,8 @@ fn settle_points(
     requires { ⌜ PointsReady (now rule) (now event) (now rows) (now at) (now times) base (now «old_ages») (now «old_values») left right sets start end node ⌝ }
     ensures { λ r. ⌜ PointsSettled (now (rule .entry)) (now (event .entry)) (now (rows .entry)) (now (at .entry)) (now (times .entry)) base (now («old_ages» .entry)) (now («old_values» .entry)) left right sets start end node (now (rows .exit)) (now (at .exit)) r ⌝ }
 {
-    if end.0 == start.0 {
-        return true;
-    }
     let mut i = start.0;
-    while i + 1 < end.0 {
+    while i < end.0 {
         let done = settle_next(
             node,
             rule,
@@ -198,22 +195,7 @@ fn settle_points(
         }
         i += 1;
     }
-    settle_next(
-        node,
-        rule,
-        rows,
-        at,
-        sets + (i - start.0) as usize,
-        left,
-        right,
-        times,
-        base,
-        event,
-        old_ages,
-        old_values,
-        start,
-        Point(i),
-    )
+    true
 }
 
 // Puts the node's pairs behind the kept entries: those at the last point before end, or the old ones where no point is new; how many entries are then kept, or one more than there is room for.
