@@ -1,4 +1,4 @@
--- A node by its view: its children, the points of theirs that it looks at, what it asks of left, and its window. All that isn't about the fourteen kinds themselves goes by the view.
+-- A node by its view: its children, the points of theirs that it looks at, what it asks of left, and its window. What isn't about the fourteen kinds themselves goes by the view; of the definitions here its children alone do.
 use Prim.Native.Nat.{ℕ}
 use mathlib.Core.Bool.{Bool, true, not}
 use mathlib.Core.List.{List, [], _∷_}
@@ -15,6 +15,7 @@ use Rattle.meaning.specs.declared.View.{View}
 abbrev pub here : Children → View
 here c = record { children = c; times = Here; left = Always; window = record { start = 0; end = 0 } }
 
+-- "left and right name children"; "previous if .. its child is settled at i−1; next if its child is settled at i+1; 9, 10 and 13 if .. at every j ≤ i; 11, 12 and 14 if .. at every j ≥ i"; "In 10 and 12 left is denied", 13 and 14 are "since and until with a left that is always true"
 abbrev pub viewOf : Node → View
 viewOf (Atom r t) = here None
 viewOf (And a b) = here (Two a b)
