@@ -1,15 +1,15 @@
 -- An atom's terms and a row's columns: the first of four, as many as the arity says, tested one by one; four words of an event;
 -- and an atom reads an event's rows as the log has them.
-use Prim.Native.Nat.{ℕ, zero, suc, _+_, _≤_}
+use Prim.Native.Nat.{ℕ, zero, suc, _+_, _≤_, _<_}
 use mathlib.Core.Path.{_≡_, refl, sym, ap, ap₂, _∙_}
-use mathlib.Core.Bool.{true, false, not, cond, _&&_, _||_}
+use mathlib.Core.Bool.{Bool, true, false, cond, _&&_}
 use mathlib.Core.List.{List, [], _∷_, _++_, map}
 use native.Mathlib.Numerals.{add-one, add-two, add-three}
 use native.Mathlib.Omega.{arith}
 use lib.ListN.{length, getD, take, drop}
 use lib.Seq.{drop-cons, take-nil}
 use lib.Dec.{ltb, eqb}
-use borrow.Author.Tests.{lt-ltb, eqb-true}
+use borrow.Author.Tests.{lt-ltb, ltb-true, ltb-false, eq-eqb, eqb-true}
 use Rattle.meaning.specs.Lists.{range, sameRow}
 use Rattle.meaning.specs.Log.{Row}
 use Rattle.meaning.specs.Formula.{isVariable, variables}
@@ -17,14 +17,32 @@ use Rattle.meaning.specs.Event.{rowCount, relationOf, columnsOf, rowOf}
 use Rattle.meaning.specs.RuleFile.{arity}
 use Rattle.meaning.specs.Evaluator.{bound, matches, atomRows}
 use Rattle.meaning.specs.declared.Term.{Term}
+use Rattle.meaning.specs.declared.Terms.{Terms}
 use Rattle.meaning.proofs.Points.{Tested, passed, failed, tested}
+use Rattle.rowset.specs.Rows.{wordsOf}
+use Rattle.rowset.specs.declared.Row.{Row as Words}
+use Rattle.rowset.proofs.Order.{apart}
 use Rattle.rowset.proofs.Growing.{map-select-one}
 use Rattle.kinds.specs.Kinds.{rowWith, rowsWith}
 
-module _ (t0 t1 t2 t3 : Term) (c0 c1 c2 c3 : ℕ) where
+abbrev pub allTerms : Terms → List Term
+allTerms ts = ts .first ∷ ts .second ∷ ts .third ∷ ts .fourth ∷ []
+
+-- the term and the column at place k, the fourth for every place after it
+abbrev pub termAt : Terms → ℕ → Term
+termAt ts k = getD (ts .first ∷ ts .second ∷ ts .third ∷ []) k (ts .fourth)
+
+abbrev pub columnAt : Words → ℕ → ℕ
+columnAt c k = getD (c .v0 ∷ c .v1 ∷ c .v2 ∷ []) k (c .v3)
+
+-- four words with the column's value at the variable that the term is, where it is used
+abbrev pub putIn : Bool → Term → ℕ → List ℕ → List ℕ
+putIn used t a us = map (λ x. cond (used && isVariable x t) a (getD us x 0)) variables
+
+module _ (ts : Terms) (c : Words) where
   pub bound-four : (n x : ℕ)
-      → bound (take n (t0 ∷ t1 ∷ t2 ∷ t3 ∷ [])) (take n (c0 ∷ c1 ∷ c2 ∷ c3 ∷ [])) x
-      ≡ cond (ltb 0 n && isVariable x t0) c0 (cond (ltb 1 n && isVariable x t1) c1 (cond (ltb 2 n && isVariable x t2) c2 (cond (ltb 3 n && isVariable x t3) c3 0)))
+      → bound (take n (allTerms ts)) (take n (wordsOf c)) x
+      ≡ cond (ltb 0 n && isVariable x (ts .first)) (c .v0) (cond (ltb 1 n && isVariable x (ts .second)) (c .v1) (cond (ltb 2 n && isVariable x (ts .third)) (c .v2) (cond (ltb 3 n && isVariable x (ts .fourth)) (c .v3) 0)))
   bound-four zero x = refl
   bound-four (suc zero) x = refl
   bound-four (suc (suc zero)) x = refl
@@ -33,16 +51,53 @@ module _ (t0 t1 t2 t3 : Term) (c0 c1 c2 c3 : ℕ) where
       let m : ℕ = suc (suc (suc (suc n))) in
       rw (lt-ltb 0 m (omega arith), lt-ltb 1 m (omega arith), lt-ltb 2 m (omega arith), lt-ltb 3 m (omega arith), take-nil {A = Term} n)
 
-  pub same-four : (v : Term → ℕ) (n : ℕ)
-      → sameRow (map v (take n (t0 ∷ t1 ∷ t2 ∷ t3 ∷ []))) (take n (c0 ∷ c1 ∷ c2 ∷ c3 ∷ []))
-      ≡ ((not (ltb 0 n && true) || eqb (v t0) c0) && ((not (ltb 1 n && true) || eqb (v t1) c1) && ((not (ltb 2 n && true) || eqb (v t2) c2) && ((not (ltb 3 n && true) || eqb (v t3) c3) && true))))
-  same-four v zero = refl
-  same-four v (suc zero) = refl
-  same-four v (suc (suc zero)) = refl
-  same-four v (suc (suc (suc zero))) = refl
-  same-four v (suc (suc (suc (suc n)))) =
-      let m : ℕ = suc (suc (suc (suc n))) in
-      rw (lt-ltb 0 m (omega arith), lt-ltb 1 m (omega arith), lt-ltb 2 m (omega arith), lt-ltb 3 m (omega arith), take-nil {A = Term} n, take-nil {A = ℕ} n)
+  -- the four variables' values, put in column by column from the last
+  pub bound-row : (n : ℕ) {last third second all : List ℕ}
+      → last ≡ putIn (ltb 3 n) (ts .fourth) (c .v3) (0 ∷ 0 ∷ 0 ∷ 0 ∷ []) → third ≡ putIn (ltb 2 n) (ts .third) (c .v2) last → second ≡ putIn (ltb 1 n) (ts .second) (c .v1) third → all ≡ putIn (ltb 0 n) (ts .first) (c .v0) second
+      → all ≡ map (bound (take n (allTerms ts)) (take n (wordsOf c))) variables
+  bound-row n e₃ e₂ e₁ e₀ =
+      rw (bound-four n 0, bound-four n 1, bound-four n 2, bound-four n 3)
+      (e₀ ∙ ap (putIn (ltb 0 n) (ts .first) (c .v0)) (e₁ ∙ ap (putIn (ltb 1 n) (ts .second) (c .v1)) (e₂ ∙ ap (putIn (ltb 2 n) (ts .third) (c .v2)) e₃)))
+
+module _ (ts : Terms) (c : Words) (v : Term → ℕ) where
+  equal-at : (n k : ℕ) → k < n → map v (take n (allTerms ts)) ≡ take n (wordsOf c) → v (termAt ts k) ≡ columnAt c k
+  equal-at zero k l e = absurd (omega (arith, l))
+  equal-at (suc n) zero l e = ap (λ (us : List ℕ). getD us 0 0) e
+  equal-at (suc zero) (suc k) l e = absurd (omega (arith, l))
+  equal-at (suc (suc n)) (suc zero) l e = ap (λ (us : List ℕ). getD us 1 0) e
+  equal-at (suc (suc zero)) (suc (suc k)) l e = absurd (omega (arith, l))
+  equal-at (suc (suc (suc n))) (suc (suc zero)) l e = ap (λ (us : List ℕ). getD us 2 0) e
+  equal-at (suc (suc (suc zero))) (suc (suc (suc k))) l e = absurd (omega (arith, l))
+  equal-at (suc (suc (suc (suc n)))) (suc (suc (suc k))) l e = ap (λ (us : List ℕ). getD us 3 0) e
+
+-- the columns before place k are their terms' values
+pub record Matching (ts : Terms) (c : Words) (v : Term → ℕ) (k : ℕ) : Type 0 where
+  pub equal : (j : ℕ) → j < k → v (termAt ts j) ≡ columnAt c j
+
+module _ {ts : Terms} {c : Words} {v : Term → ℕ} where
+  pub matching-none : Matching ts c v 0
+  matching-none = record { equal = λ j l. absurd (omega (arith, l)) }
+
+  pub matching-more : {k : ℕ} → Matching ts c v k → v (termAt ts k) ≡ columnAt c k → Matching ts c v (k + 1)
+  matching-more {k} h e = record { equal = λ j l. go j l (tested (ltb j k)) }
+    where
+      go : (j : ℕ) → j < k + 1 → Tested (ltb j k) → v (termAt ts j) ≡ columnAt c j
+      go j l (passed p) = h .equal j (ltb-true j k p)
+      go j l (failed p) =
+          let o : k ≤ j = ltb-false j k p in
+          let q : j ≡ k = omega arith in
+          rw q e
+
+  pub matching-all : {k : ℕ} (n : ℕ) → Matching ts c v k → n ≤ k → sameRow (map v (take n (allTerms ts))) (take n (wordsOf c)) ≡ true
+  matching-all zero h l = refl
+  matching-all (suc zero) h l = rw (eq-eqb _ _ (h .equal 0 (omega arith)))
+  matching-all (suc (suc zero)) h l = rw (eq-eqb _ _ (h .equal 0 (omega arith)), eq-eqb _ _ (h .equal 1 (omega arith)))
+  matching-all (suc (suc (suc zero))) h l = rw (eq-eqb _ _ (h .equal 0 (omega arith)), eq-eqb _ _ (h .equal 1 (omega arith)), eq-eqb _ _ (h .equal 2 (omega arith)))
+  matching-all (suc (suc (suc (suc n)))) h l =
+      rw (eq-eqb _ _ (h .equal 0 (omega arith)), eq-eqb _ _ (h .equal 1 (omega arith)), eq-eqb _ _ (h .equal 2 (omega arith)), eq-eqb _ _ (h .equal 3 (omega arith)), take-nil {A = Term} n, take-nil {A = ℕ} n)
+
+  pub matching-ends : {n k : ℕ} → Matching ts c v k → k < n → (v (termAt ts k) ≡ columnAt c k → ⊥) → sameRow (map v (take n (allTerms ts))) (take n (wordsOf c)) ≡ false
+  matching-ends {n} {k} h l d = apart _ _ (λ e. d (equal-at ts c v n k l e))
 
 pub four-words : (w : List ℕ) (a : ℕ) → a + 4 ≤ length w → take 4 (drop a w) ≡ getD w a 0 ∷ getD w (a + 1) 0 ∷ getD w (a + 2) 0 ∷ getD w (a + 3) 0 ∷ []
 four-words w a l =

@@ -299,16 +299,6 @@ fn is_variable(x: u32, t: Term) -> bool
     }
 }
 
-// The column where the term is used and is the variable, else what the later columns give.
-fn bound_in(used: bool, x: u32, t: Term, column: u32, rest: u32) -> u32
-    ensures { λ r. ⌜ r ≡ cond (used && isVariable x t) column rest ⌝ }
-{
-    if used {
-        return pick(is_variable(x, t), column, rest);
-    }
-    rest
-}
-
 // The value that the columns give to variable x.
 fn bound_of(ts: Terms, c: Row, x: u32) -> u32
     ensures { λ r. ⌜ r ≡ bound (termsOf ts) (take (ts .count) (wordsOf c)) x ⌝ }
@@ -318,22 +308,31 @@ fn bound_of(ts: Terms, c: Row, x: u32) -> u32
     let t1 = ts.second;
     let t2 = ts.third;
     let t3 = ts.fourth;
-    let last = bound_in(3 < count, x, t3, c.v3, 0);
-    let third = bound_in(2 < count, x, t2, c.v2, last);
-    let second = bound_in(1 < count, x, t1, c.v1, third);
-    bound_in(0 < count, x, t0, c.v0, second)
-}
-
-// The values that the columns give to the four variables.
-fn bound_row(ts: Terms, c: Row) -> Row
-    ensures { λ r. ⌜ wordsOf r ≡ map (bound (termsOf ts) (take (ts .count) (wordsOf c))) variables ⌝ }
-{
-    Row {
-        v0: bound_of(ts, c, 0),
-        v1: bound_of(ts, c, 1),
-        v2: bound_of(ts, c, 2),
-        v3: bound_of(ts, c, 3),
+    if count <= 0 {
+        return 0;
     }
+    if is_variable(x, t0) {
+        return c.v0;
+    }
+    if count <= 1 {
+        return 0;
+    }
+    if is_variable(x, t1) {
+        return c.v1;
+    }
+    if count <= 2 {
+        return 0;
+    }
+    if is_variable(x, t2) {
+        return c.v2;
+    }
+    if count <= 3 {
+        return 0;
+    }
+    if is_variable(x, t3) {
+        return c.v3;
+    }
+    0
 }
 
 fn term_bound(ts: Terms, c: Row, t: Term) -> u32
@@ -345,19 +344,128 @@ fn term_bound(ts: Terms, c: Row, t: Term) -> u32
     }
 }
 
-// The columns are the terms' values.
+// The term at place k; the fourth for every place after it.
+fn term_at(ts: Terms, k: u8) -> Term
+    ensures { λ t. ⌜ t ≡ getD (ts .first ∷ ts .second ∷ ts .third ∷ []) k (ts .fourth) ⌝ }
+{
+    if k == 0 {
+        return ts.first;
+    }
+    if k == 1 {
+        return ts.second;
+    }
+    if k == 2 {
+        return ts.third;
+    }
+    ts.fourth
+}
+
+// The column at place k; the fourth for every place after it.
+fn column_at(c: Row, k: u8) -> u32
+    ensures { λ r. ⌜ r ≡ getD (c .v0 ∷ c .v1 ∷ c .v2 ∷ []) k (c .v3) ⌝ }
+{
+    if k == 0 {
+        return c.v0;
+    }
+    if k == 1 {
+        return c.v1;
+    }
+    if k == 2 {
+        return c.v2;
+    }
+    c.v3
+}
+
+// The columns are the terms' values. It is a loop because the compiler would make tests of all four terms ahead, for every node.
 fn columns_match(ts: Terms, c: Row) -> bool
     ensures { λ t. ⌜ t ≡ sameRow (map (value (bound (termsOf ts) (take (ts .count) (wordsOf c)))) (termsOf ts)) (take (ts .count) (wordsOf c)) ⌝ }
 {
     let count = ts.count;
+    let mut k: u8 = 0;
+    while k < count {
+        if term_bound(ts, c, term_at(ts, k)) != column_at(c, k) {
+            return false;
+        }
+        k += 1;
+    }
+    true
+}
+
+// The row with c for variable x; the row itself for a variable above 3.
+fn with_value(x: u32, c: u32, r: Row) -> Row
+    ensures { λ s. ⌜ wordsOf s ≡ map (λ y. cond (eqb y x) c (valuationOf (wordsOf r) y)) variables ⌝ }
+{
+    if x == 0 {
+        return Row {
+            v0: c,
+            v1: r.v1,
+            v2: r.v2,
+            v3: r.v3,
+        };
+    }
+    if x == 1 {
+        return Row {
+            v0: r.v0,
+            v1: c,
+            v2: r.v2,
+            v3: r.v3,
+        };
+    }
+    if x == 2 {
+        return Row {
+            v0: r.v0,
+            v1: r.v1,
+            v2: c,
+            v3: r.v3,
+        };
+    }
+    if x == 3 {
+        return Row {
+            v0: r.v0,
+            v1: r.v1,
+            v2: r.v2,
+            v3: c,
+        };
+    }
+    r
+}
+
+// The row with the column's value at the variable that the term is, where the term is used; else the row itself.
+fn with_column(used: bool, t: Term, c: u32, r: Row) -> Row
+    ensures { λ s. ⌜ wordsOf s ≡ map (λ x. cond (used && isVariable x t) c (valuationOf (wordsOf r) x)) variables ⌝ }
+{
+    if used {
+        match t {
+            Term::Variable(x) => {
+                return with_value(x, c, r);
+            }
+            Term::Constant(_) => {
+                return r;
+            }
+        }
+    }
+    r
+}
+
+// The values that the columns give to the four variables: the first column's are put in last.
+fn bound_row(ts: Terms, c: Row) -> Row
+    ensures { λ r. ⌜ wordsOf r ≡ map (bound (termsOf ts) (take (ts .count) (wordsOf c))) variables ⌝ }
+{
+    let count = ts.count;
+    let none = Row {
+        v0: 0,
+        v1: 0,
+        v2: 0,
+        v3: 0,
+    };
     let t0 = ts.first;
     let t1 = ts.second;
     let t2 = ts.third;
     let t3 = ts.fourth;
-    let last = word_agrees(3 < count, true, term_bound(ts, c, t3), c.v3, true);
-    let third = word_agrees(2 < count, true, term_bound(ts, c, t2), c.v2, last);
-    let second = word_agrees(1 < count, true, term_bound(ts, c, t1), c.v1, third);
-    word_agrees(0 < count, true, term_bound(ts, c, t0), c.v0, second)
+    let last = with_column(3 < count, t3, c.v3, none);
+    let third = with_column(2 < count, t2, c.v2, last);
+    let second = with_column(1 < count, t1, c.v1, third);
+    with_column(0 < count, t0, c.v0, second)
 }
 
 // The columns of row k of an event of m rows.
