@@ -21,7 +21,7 @@ use Rattle.meaning.specs.declared.Terms.{Terms}
 use Rattle.meaning.proofs.Points.{Tested, passed, failed, tested}
 use Rattle.rowset.specs.Rows.{wordsOf}
 use Rattle.rowset.specs.declared.Row.{Row as Words}
-use Rattle.rowset.proofs.Order.{apart}
+use Rattle.meaning.proofs.Order.{apart}
 use Rattle.rowset.proofs.Growing.{map-select-one}
 use Rattle.kinds.specs.Kinds.{rowWith, rowsWith}
 

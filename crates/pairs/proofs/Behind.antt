@@ -14,7 +14,7 @@ use Rattle.meaning.specs.Evaluator.{insert, insertAll}
 use Rattle.meaning.proofs.Points.{Tested, passed, failed, tested}
 use Rattle.meaning.proofs.Rows.{head-before, ascending-tail}
 use Rattle.rowset.specs.Rows.{rowAt}
-use Rattle.rowset.proofs.Order.{asymmetric}
+use Rattle.meaning.proofs.Order.{asymmetric}
 use Rattle.rowset.proofs.Runs.{run-append, run-same}
 use Rattle.kinds.specs.Kinds.{pairAt, pairsFrom}
 use Rattle.shelf.specs.Appended.{WordsPut}
