@@ -6,11 +6,11 @@ use mathlib.Core.List.{List}
 use Rattle.meaning.specs.Outcome.{Outcome, refused, given}
 use Rattle.meaning.specs.RuleFile.{Accepted, isAccepted}
 use Rattle.rulefile.specs.Checked.{answerOf as checkedOf}
-use Rattle.weighing.specs.Weighs.{refusalOf}
-use Rattle.weighing.specs.declared.Refusal.{Refusal}
-use Rattle.weighing.specs.declared.Refusal.the-variants.{NotWellFormed, NotAnEvent, RowOut, TimeFalls, LogFull, Crowded, Backlog, KeptOver, BufferShort}
-use Rattle.refusals.specs.Told.{toldOf as numbered}
-use Rattle.refusals.specs.declared.Told.{Told as Numbered}
+use Rattle.limits.specs.Weighs.{refusalOf}
+use Rattle.limits.specs.declared.Refusal.{Refusal}
+use Rattle.limits.specs.declared.Refusal.the-variants.{NotWellFormed, NotAnEvent, RowOut, TimeFalls, LogFull, Crowded, Backlog, KeptOver, BufferShort}
+use Rattle.refusals.specs.Numbered.{numbered}
+use Rattle.refusals.specs.declared.Numbered.{Numbered}
 use Rattle.monitor.specs.Contracts.{Starts}
 use Rattle.monitor.specs.declared.Started.{Started}
 use Rattle.boundary.specs.Parts.{partsOf}

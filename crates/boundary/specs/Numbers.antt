@@ -7,7 +7,7 @@ use Rattle.meaning.specs.Outcome.{Outcome, refused, given}
 use Rattle.meaning.specs.RuleFile.{checking}
 use Rattle.meaning.specs.Keeper.{bufferAfter}
 use Rattle.method.specs.Step.{reportNow}
-use Rattle.lent.specs.Lent.{Lent, stored, answerIn, lentAfter}
+use Rattle.lent_state.specs.Lent.{Lent, stored, answerIn, lentAfter}
 use Rattle.monitor.specs.Contracts.{stateFor}
 use Rattle.boundary.specs.Parts.{partsOf}
 use Rattle.boundary.specs.declared.StartParts.{StartParts}

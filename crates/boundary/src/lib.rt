@@ -1,13 +1,13 @@
 // The operations for programs in other languages. A slice is passed as its address and then its length.
 use figures::Open;
-use lent::Answer;
+use lent_state::Answer;
 use monitor::State;
 use refusals::of_event;
 use refusals::of_rule;
-use report::Counted;
+use report::RowCount;
 use rulefile::Checked;
 use rulefile::check;
-use weighing::Refusal;
+use limits::Refusal;
 ghost use mathlib.Core.Path.{_≡_};
 ghost use Rattle.meaning.specs.RuleFile.{checking};
 ghost use Rattle.rulefile.specs.Checked.{answerOf};
@@ -16,10 +16,10 @@ ghost use lib.ListN.{length};
 ghost use Rattle.meaning.specs.Report.{readCount, readRows};
 ghost use Rattle.report.specs.Answer.{partOf};
 ghost use Rattle.method.specs.Step.{keptStored};
-ghost use Rattle.weighing.specs.Weighs.{refusalOf};
+ghost use Rattle.limits.specs.Weighs.{refusalOf};
 ghost use Rattle.figures.specs.Fronts.{openAnswer};
 ghost use Rattle.monitor.specs.State.{stored};
-ghost use Rattle.lent.specs.Lent.{lent, answerOf as answered};
+ghost use Rattle.lent_state.specs.Lent.{lent, answerOf as answered};
 ghost use Rattle.boundary.specs.Exported.{countOrNone, wordOrNone};
 ghost use Rattle.boundary.specs.Numbers.{startParts, toldOf, openParts, TakesAs};
 
@@ -90,8 +90,8 @@ pub extern "C" fn yokemango_row_count(report: &[u32], k: usize) -> u64
     ensures { λ r. ⌜ r ≡ countOrNone (readCount (now (report .entry)) k) ⌝ }
 {
     match report::row_count(report, k) {
-        Counted::Rows(n) => n as u64,
-        Counted::Refused => 4294967296,
+        RowCount::Rows(n) => n as u64,
+        RowCount::Refused => 4294967296,
     }
 }
 
@@ -210,7 +210,7 @@ pub extern "C" fn yokemango_take(
 ) -> Told
     ensures { λ r. ⌜ TakesAs (lent (now (rule .entry)) bytes (now (points .entry)) (now (times .entry)) (now (retained .entry)) (now (owners .entry)) (now (numbers .entry)) (now (values .entry)) (now (count .entry))) (now (event .entry)) (now (report .entry)) r (lent (now (rule .entry)) bytes (now (points .exit)) (now (times .exit)) (now (retained .exit)) (now (owners .exit)) (now (numbers .exit)) (now (values .exit)) (now (count .exit))) (now (report .exit)) ⌝ }
 {
-    let left = lent::take(
+    let left = lent_state::take(
         rule,
         bytes,
         *points,

@@ -21,7 +21,7 @@ fn put_file(out: &mut [u8], file: &[u8], n: usize) -> usize
 }
 
 fn main() {
-    let mut file = [0u8; 653];
+    let mut file = [0u8; meaning::RULE_BYTES + 1];
     let n = io::read_full(STDIN_FILENO, &mut file);
     let mut line = [0u8; 64];
     let end = put_file(&mut line, &file, n);

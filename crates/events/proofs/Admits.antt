@@ -16,8 +16,8 @@ use Rattle.events.specs.declared.Rows.{Rows}
 use Rattle.events.specs.declared.Rows.the-variants.{Fit, Out}
 use Rattle.events.specs.declared.Order.{Order}
 use Rattle.events.specs.declared.Order.the-variants.{Kept, Falls}
-use Rattle.events.specs.declared.Room.{Room}
-use Rattle.events.specs.declared.Room.the-variants.{Left, Full}
+use Rattle.events.specs.declared.LogRoom.{LogRoom}
+use Rattle.events.specs.declared.LogRoom.the-variants.{Left, Full}
 use Rattle.events.specs.declared.Admitted.{Admitted}
 use Rattle.events.specs.declared.Admitted.the-variants.{Fine, NotAnEvent, RowOut, TimeFalls, LogFull}
 use Rattle.events.specs.Answers.{formOf, rowsOf, orderOf, roomOf, admittedRows, outcomeOf}
@@ -33,7 +33,7 @@ weighed-rows b w (k ∷ ks) rest = go (tested (rowFits b w k)) (weighed-rows b w
     go (failed t) e = rw t
 
 -- the time stamp and the room, in the order of their refusals
-abbrev late : Order → Room → Admitted
+abbrev late : Order → LogRoom → Admitted
 late Falls room = TimeFalls
 late Kept Full = LogFull
 late Kept Left = Fine

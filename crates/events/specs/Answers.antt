@@ -15,8 +15,8 @@ use Rattle.events.specs.declared.Rows.{Rows}
 use Rattle.events.specs.declared.Rows.the-variants.{Fit, Out}
 use Rattle.events.specs.declared.Order.{Order}
 use Rattle.events.specs.declared.Order.the-variants.{Kept, Falls}
-use Rattle.events.specs.declared.Room.{Room}
-use Rattle.events.specs.declared.Room.the-variants.{Left, Full}
+use Rattle.events.specs.declared.LogRoom.{LogRoom}
+use Rattle.events.specs.declared.LogRoom.the-variants.{Left, Full}
 use Rattle.events.specs.declared.Admitted.{Admitted}
 use Rattle.events.specs.declared.Admitted.the-variants.{Fine, NotAnEvent, RowOut, TimeFalls, LogFull}
 
@@ -42,7 +42,7 @@ rowsOf b w (k ∷ ks) = cond (rowFits b w k) (rowsOf b w ks) (Out k)
 unfoldable pub orderOf : Stamp → Stamp → Order
 orderOf time last = cond (ltb (time .0) (last .0)) Falls Kept
 
-unfoldable pub roomOf : ℕ → Room
+unfoldable pub roomOf : ℕ → LogRoom
 roomOf points = cond (leb mostPoints points) Full Left
 
 -- what the rows alone say of the event

@@ -31,7 +31,7 @@ pub enum Order {
 }
 
 // Whether the log takes another point.
-pub enum Room {
+pub enum LogRoom {
     Left,
     Full,
 }
@@ -124,13 +124,13 @@ fn order_of(time: Stamp, last: Stamp) -> Order
 }
 
 // The room by the number of points in the log.
-fn room_of(points: u32) -> Room
+fn room_of(points: u32) -> LogRoom
     ensures { λ r. ⌜ r ≡ roomOf points ⌝ }
 {
     if MOST_POINTS <= points {
-        Room::Full
+        LogRoom::Full
     } else {
-        Room::Left
+        LogRoom::Left
     }
 }
 
@@ -159,7 +159,7 @@ pub fn admit(rule: &[u8], event: &[u32], last: Stamp, points: u32) -> Admitted
     let Order::Kept = order_of(Stamp(event[0]), last) else {
         return Admitted::TimeFalls;
     };
-    let Room::Left = room_of(points) else {
+    let LogRoom::Left = room_of(points) else {
         return Admitted::LogFull;
     };
     Admitted::Fine

@@ -8,7 +8,7 @@ use lib.Seq.{length-take-le, getD-take, getD-drop, getD-append-add, ext-getD, ta
 use lib.Dec.{ltb}
 use borrow.Author.Tests.{ltb-true, ltb-false}
 use Rattle.meaning.proofs.Points.{Tested, passed, failed, tested}
-use Rattle.shelf.specs.Appended.{WordsPut, atFront}
+use Rattle.entries.specs.Appended.{WordsPut, atFront}
 use Rattle.figures.specs.Fronts.{front}
 use Rattle.figures.proofs.Slices.{front-take}
 

@@ -15,7 +15,7 @@ use Rattle.meaning.specs.View.{childrenIn}
 use Rattle.meaning.proofs.Accepted.{nodes-most}
 use Rattle.method.specs.Room.{othersIn, heavier, lighter, needOfTwo, needOf, need}
 use Rattle.method.proofs.Bounds.{below, by-children}
-use Rattle.method.proofs.Seen.{one, two}
+use Rattle.method.proofs.Inputs.{one, two}
 use Rattle.method.proofs.Weights.{both-sides, need-step}
 use Rattle.node_step.specs.Figures.{weightIn}
 use Rattle.figures.specs.Tables.{TableOf, rowsIn, Weighty}

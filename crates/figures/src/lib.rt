@@ -1,6 +1,11 @@
 // The figures of a call and of a state: how many points each node has settled and from which on its rows are kept, where its entries stand, as a table; the rows that the call needs; what is retained; and how many points are open.
 use meaning::Children;
+use meaning::MOST_KEPT;
+use meaning::MOST_NODES;
+use meaning::MOST_ROWS;
+use meaning::MOST_TIMES;
 use meaning::Point;
+use meaning::RULE_BYTES;
 use meaning::Stamp;
 use meaning::Times;
 ghost use mathlib.Core.Path.{_≡_};
@@ -14,9 +19,9 @@ ghost use Rattle.meaning.specs.Lists.{total};
 ghost use Rattle.meaning.specs.View.{childrenIn};
 ghost use Rattle.method.specs.Stored.{firstRetained};
 ghost use Rattle.method.specs.Room.{isPrevious, othersIn, need, needOfTwo};
-ghost use Rattle.shelf.specs.Entries.{Stands};
-ghost use Rattle.shelf.specs.Appended.{atFront};
-ghost use Rattle.formed.specs.Known.{storedIn};
+ghost use Rattle.entries.specs.Entries.{EntriesWithin};
+ghost use Rattle.entries.specs.Appended.{atFront};
+ghost use Rattle.formed.specs.NodeFigures.{storedIn};
 ghost use Rattle.figures.specs.Tables.{TableOf, rowsIn, Weighty, CallTable};
 ghost use Rattle.figures.specs.Counts.{bare, Counting, Figured};
 ghost use Rattle.figures.specs.Fronts.{storedFront, openOf, openAnswer};
@@ -25,6 +30,13 @@ ghost use lib.Dec.{ltb};
 ghost use Rattle.node_step.specs.Figures.{weightIn};
 ghost use Rattle.figures.specs.Words.{putFrom};
 ghost use Rattle.figures.specs.Sizes.{Sized};
+
+// The limits of a state's figures, as words.
+const MOST_BYTES: u32 = RULE_BYTES as u32;
+
+const RETAINED: u32 = MOST_TIMES as u32;
+
+const KEPT: u32 = MOST_KEPT as u32;
 
 // The figure `open`, or that the state isn't well formed.
 pub enum Open {
@@ -86,7 +98,7 @@ pub fn retain(after: &[u32], points: u32, stamps: &[u32], times: &mut [u32]) -> 
     let base = points - k as u32;
     let first = formed::first_retained(points, after);
     let from = progress::less(first.0, base) as usize;
-    shelf::copy_words(&stamps[from..k], k - from, times, 0);
+    entries::copy_words(&stamps[from..k], k - from, times, 0);
     (k - from) as u32
 }
 
@@ -111,14 +123,14 @@ fn open_stored(
     values: &[u32],
     count: usize,
 ) -> Open
-    requires { ⌜ Stands (now owners) (now numbers) (now values) count ⌝ }
+    requires { ⌜ EntriesWithin (now owners) (now numbers) (now values) count ⌝ }
     ensures { λ r. ⌜ openOf r ≡ openAnswer (storedIn (now (rule .entry)) points (now (times .entry)) (now (owners .entry)) (now (numbers .entry)) (now (values .entry)) count) ⌝ }
 {
-    let mut masks = [0u8; 32];
-    let mut counts = [0u32; 32];
-    let mut lows = [0u32; 32];
-    let mut begins = [0u32; 33];
-    let mut pairs = [0u32; 32];
+    let mut masks = [0u8; MOST_NODES];
+    let mut counts = [0u32; MOST_NODES];
+    let mut lows = [0u32; MOST_NODES];
+    let mut begins = [0u32; MOST_NODES + 1];
+    let mut pairs = [0u32; MOST_NODES];
     if !formed::well_formed(
         rule,
         points,
@@ -151,16 +163,16 @@ pub fn open_points<'a>(
     values: &'a [u32],
     count: u32,
 ) -> Open
-    requires { ⌜ (length (now rule) ≡ 652) × (64 ≤ length (now times)) × Stands (now owners) (now numbers) (now values) mostKept ⌝ }
+    requires { ⌜ (length (now rule) ≡ 652) × (64 ≤ length (now times)) × EntriesWithin (now owners) (now numbers) (now values) mostKept ⌝ }
     ensures { λ r. ⌜ openOf r ≡ openAnswer (storedFront (now (rule .entry)) bytes points (now (times .entry)) retained (now (owners .entry)) (now (numbers .entry)) (now (values .entry)) count) ⌝ }
 {
-    if 652 < bytes {
+    if MOST_BYTES < bytes {
         return Open::NotWellFormed;
     }
-    if 64 < retained {
+    if RETAINED < retained {
         return Open::NotWellFormed;
     }
-    if 512 < count {
+    if KEPT < count {
         return Open::NotWellFormed;
     }
     let n = bytes as usize;
@@ -313,7 +325,7 @@ fn rows_in(table: &[u32], x: u8) -> u32
     let at = (x as usize) * 9;
     let kept = progress::less(table[at + 6], table[at + 5]);
     let sets = progress::less(table[at + 3], table[at + 2]);
-    kept + 32 * sets
+    kept + MOST_ROWS * sets
 }
 
 // By the table, the nodes of node x's tree that aren't "previous".
@@ -377,7 +389,7 @@ pub fn rows_needed(rule: &[u8], table: &[u32]) -> u32
     requires { ⌜ ((a : Accepted) × (checking (now rule) ≡ given a)) × Weighty (now rule) (now table) ⌝ }
     ensures { λ r. ⌜ r ≡ need (now (rule .entry)) (rowsIn (now (table .entry))) (lastNode (now (rule .entry))) ⌝ }
 {
-    let mut needs = [0u32; 32];
+    let mut needs = [0u32; MOST_NODES];
     let n = rule[2];
     let mut x: u8 = 0;
     while x < n {
@@ -409,8 +421,8 @@ pub fn call_table(
     requires { ⌜ ((x : ℕ) → x < nodeCount (now rule) → getD (now pairs) x 0 - getD (now begins) x 0 ≤ 512) ⌝ }
     ensures { λ r. ⌜ CallTable (bare (now (rule .entry)) points (now (times .entry))) (now (event .entry)) (now (masks .entry)) (now (counts .entry)) (now (lows .entry)) (now (begins .entry)) (now (pairs .entry)) (now (stamps .exit)) (now (after .exit)) (now (table .exit)) r ⌝ }
 {
-    let mut wants = [0u32; 32];
-    let mut heavy = [0u32; 32];
+    let mut wants = [0u32; MOST_NODES];
+    let mut heavy = [0u32; MOST_NODES];
     figures(
         rule,
         points,

@@ -4,7 +4,7 @@ use mathlib.Core.Bool.{Bool, true, false}
 use mathlib.Core.List.{List, [], _∷_, _++_, List·Memᴰ, List·Memᴰ·head}
 use Rattle.meaning.specs.Lists.{all}
 use Rattle.meaning.proofs.Points.{Tested, passed, failed, tested, both, first, second}
-use Rattle.shelf.specs.Entries.{begins}
+use Rattle.entries.specs.Entries.{begins}
 use Rattle.formed.specs.Walk.{front, behind}
 
 module _ {A : Type 0} (q : A → Bool) where

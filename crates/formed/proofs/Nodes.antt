@@ -19,7 +19,7 @@ use Rattle.meaning.proofs.Points.{Tested, passed, failed, tested, first}
 use Rattle.meaning.proofs.Rows.{all-points}
 use Rattle.method.specs.WellFormed.{setFits, pairsFit}
 use Rattle.kinds.specs.Kinds.{pairsFrom}
-use Rattle.shelf.specs.Entries.{entryAt, entriesFrom, isWord, hasOwner}
+use Rattle.entries.specs.Entries.{entryAt, entriesFrom, isWord, hasOwner}
 use Rattle.formed.specs.Tests.{MaskOf, SetsFit}
 use Rattle.formed.specs.Walk.{behind, setsRest, rowsFound, pairsFound, nodesRest, runsFit, entriesFit}
 use Rattle.formed.specs.Steps.{restAt, OwnFirst, NodeTo}

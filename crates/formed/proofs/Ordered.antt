@@ -18,9 +18,9 @@ use Rattle.meaning.proofs.Points.{Tested, passed, failed, tested, first, second
 use Rattle.rowset.specs.Rows.{rowAt, rowsFrom}
 use Rattle.rowset.proofs.Runs.{run-first}
 use Rattle.kinds.specs.Kinds.{pairAt}
-use Rattle.shelf.specs.Entries.{entryAt, entriesFrom, begins, streak, isWord, runOf, hasOwner, isEntry}
-use Rattle.shelf.proofs.Streaks.{streak-within, streak-all}
-use Rattle.shelf.proofs.Walking.{isOf, entryRun}
+use Rattle.entries.specs.Entries.{entryAt, entriesFrom, begins, streak, isWord, runOf, hasOwner, isEntry}
+use Rattle.entries.proofs.Streaks.{streak-within, streak-all}
+use Rattle.entries.proofs.Walking.{isOf, entryRun}
 use Rattle.formed.specs.Tests.{rowCut, rowsFit, Rising, SetsFit}
 use Rattle.formed.specs.Walk.{behind, setsRest, rowsFound}
 use Rattle.formed.specs.Steps.{restAt}

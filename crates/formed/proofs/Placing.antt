@@ -9,11 +9,11 @@ use borrow.Author.Count.{below-more}
 use Rattle.meaning.specs.Kept.{Entry}
 use Rattle.meaning.specs.declared.Point.{Point}
 use Rattle.method.specs.Stored.{held}
-use Rattle.shelf.specs.Entries.{entriesFrom, hasOwner}
-use Rattle.shelf.proofs.Entries.{entries-append}
-use Rattle.shelving.specs.Shelved.{setEntries}
+use Rattle.entries.specs.Entries.{entriesFrom, hasOwner}
+use Rattle.entries.proofs.Entries.{entries-append}
+use Rattle.node_sets.specs.Shelved.{setEntries}
 use Rattle.formed.specs.Walk.{behind, setsRest, nodesRest}
-use Rattle.formed.specs.Steps.{restAt, NodeTo, Placed}
+use Rattle.formed.specs.Steps.{restAt, NodeTo, EntriesPlaced}
 use Rattle.formed.proofs.Walks.{rows-own, pairs-own}
 use Rattle.formed.proofs.Nodes.{NodesGoing}
 
@@ -74,7 +74,7 @@ module _ (os ns vs : List ℕ) (count : ℕ) (b : List ℕ) (low : ℕ → Point
     at : (y : ℕ) → y < nodes → NotedAt os ns vs count low end y (getD begins y 0) (getD pairs y 0) (getD begins (y + 1) 0)
     at y o = n .each y (omega arith)
 
-    pub noted-all : Placed os ns vs count low end nodes begins pairs
+    pub noted-all : EntriesPlaced os ns vs count low end nodes begins pairs
     noted-all =
         record {
           rows-first = λ y o. at y o .rows-first;
@@ -93,7 +93,7 @@ module _ (os ns vs : List ℕ) (count : ℕ) (b : List ℕ) (low : ℕ → Point
 
 -- the first kept points by another name
 pub placed-as : {os ns vs : List ℕ} {count : ℕ} {low low' : ℕ → Point} {end : ℕ → ℕ} {nodes : ℕ} {begins pairs : List ℕ} → ((x : ℕ) → x < nodes → low x ≡ low' x)
-    → Placed os ns vs count low end nodes begins pairs → Placed os ns vs count low' end nodes begins pairs
+    → EntriesPlaced os ns vs count low end nodes begins pairs → EntriesPlaced os ns vs count low' end nodes begins pairs
 placed-as {os} {ns} {vs} {count} {low} {low'} {end} same p =
     record {
       rows-first = p .rows-first;

@@ -12,9 +12,9 @@ use Rattle.meaning.specs.Kept.{Entry}
 use Rattle.meaning.specs.declared.Point.{Point}
 use Rattle.rowset.specs.Rows.{rowsFrom}
 use Rattle.kinds.specs.Kinds.{pairsFrom}
-use Rattle.shelf.specs.Entries.{entriesFrom, runOf, hasOwner, isEntry}
-use Rattle.shelf.proofs.Walking.{entryRun, RunAt, PairsAt, run-walked, pairs-walked}
-use Rattle.shelving.proofs.Paired.{pairOf, entries-pairs}
+use Rattle.entries.specs.Entries.{entriesFrom, runOf, hasOwner, isEntry}
+use Rattle.entries.proofs.Walking.{entryRun, RunAt, PairsAt, run-walked, pairs-walked}
+use Rattle.node_sets.proofs.Paired.{pairOf, entries-pairs}
 use Rattle.formed.specs.Tests.{rowsFit}
 use Rattle.formed.specs.Walk.{front, behind, setsRest, rowsFound, pairsFound}
 use Rattle.formed.specs.Steps.{restAt}

@@ -16,7 +16,7 @@ use Rattle.method.specs.Stored.{stampIn, leastOf}
 use Rattle.method.specs.Counts.{advance, countsTo}
 use Rattle.method.specs.WellFormed.{notFalling}
 use Rattle.progress.specs.Filled.{Filled}
-use Rattle.formed.specs.Parts.{countsIn, Counted}
+use Rattle.formed.specs.Parts.{countsIn, CountsStand}
 
 -- ---- the least, from the back: of the counts from i on
 
@@ -82,7 +82,7 @@ all-most (suc n) v zero = omega arith
 all-most (suc n) v (suc y) = all-most n v y
 
 pub counted : (b : List ℕ) (points : ℕ) (times : List ℕ) {base : Point} {before counts : List ℕ} → nodeCount b ≤ 32 → base .0 ≡ points - length times
-    → Filled b (stampIn base times) points (replicate 32 (base .0)) before counts → Counted b points times counts
+    → Filled b (stampIn base times) points (replicate 32 (base .0)) before counts → CountsStand b points times counts
 unfolding countsIn
 counted b points times {base} few e f =
     record {

@@ -24,11 +24,11 @@ use Rattle.method.proofs.Turns.{gather-over}
 use Rattle.method.proofs.Held.{nodeOf, of-node, held-is, heldPairs-is}
 use Rattle.method.proofs.Formed.{same-entries, entries-same}
 use Rattle.rulefile.proofs.Ranges.{gather-last}
-use Rattle.shelf.specs.Entries.{begins, hasOwner, isEntry}
-use Rattle.shelf.proofs.Walking.{all-are}
-use Rattle.shelving.specs.Shelved.{setEntries, agedEntries}
-use Rattle.shelving.proofs.Gathered.{sets-more, sets-first, sets-later}
-use Rattle.shelving.proofs.Paired.{pairOf, all-owned}
+use Rattle.entries.specs.Entries.{begins, hasOwner, isEntry}
+use Rattle.entries.proofs.Walking.{all-are}
+use Rattle.node_sets.specs.Shelved.{setEntries, agedEntries}
+use Rattle.node_sets.proofs.Gathered.{sets-more, sets-first, sets-later}
+use Rattle.node_sets.proofs.Paired.{pairOf, all-owned}
 use Rattle.formed.specs.Walk.{front, behind, setsRest, rowsFound, pairsFound, nodesRest, runsFit, ownRuns, ownFit, entriesFit}
 use Rattle.formed.specs.Steps.{OwnFirst}
 use Rattle.formed.proofs.Fronts.{two-parts, front-passes, behind-these, begins-none}

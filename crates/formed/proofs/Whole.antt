@@ -24,13 +24,13 @@ use Rattle.method.proofs.Lists.{gather-each}
 use Rattle.progress.specs.Bounds.{Within}
 use Rattle.rulefile.specs.Weighing.{Masked}
 use Rattle.kinds.specs.Kinds.{inMask}
-use Rattle.shelf.specs.Entries.{entryAt, entriesFrom}
-use Rattle.shelving.specs.Shelved.{setEntries, agedEntries}
-use Rattle.formed.specs.Known.{storedIn, Known, Places}
+use Rattle.entries.specs.Entries.{entryAt, entriesFrom}
+use Rattle.node_sets.specs.Shelved.{setEntries, agedEntries}
+use Rattle.formed.specs.NodeFigures.{storedIn, NodeFigures, EntryPlaces}
 use Rattle.formed.specs.Walk.{ownRuns, ownFit, entriesFit}
-use Rattle.formed.specs.Parts.{countsIn, Counted, timesFit, keptFit}
+use Rattle.formed.specs.Parts.{countsIn, CountsStand, timesFit, keptFit}
 use Rattle.formed.specs.Tests.{MaskOf}
-use Rattle.formed.specs.Steps.{Placed}
+use Rattle.formed.specs.Steps.{EntriesPlaced}
 use Rattle.formed.proofs.Masks.{mask-has}
 
 -- ---- the rule
@@ -42,7 +42,7 @@ masks-of b masks h x o = record { each = λ v l. ap (λ m. inMask m v) (h x o) �
 -- ---- times
 
 -- the counts, as a part of a slice has them
-module _ {b : List ℕ} {points : ℕ} {times counts : List ℕ} (c : Counted b points times counts) where
+module _ {b : List ℕ} {points : ℕ} {times counts : List ℕ} (c : CountsStand b points times counts) where
   part-exact : take (nodeCount b - 0) counts ≡ countsIn b points times
   part-exact = let e : nodeCount b - 0 ≡ nodeCount b = omega arith in rw e (c .exact)
 
@@ -72,7 +72,7 @@ module _ (b : List ℕ) (points : ℕ) (times : List ℕ) where
   unfolding timesFit
   open-many m l o = rw (le-leb points mostPoints m, le-leb (length times) mostTimes l, lt-leb unsettled mostOpen o)
 
-  pub times-tested : points ≤ mostPoints → length times ≤ mostTimes → unsettled ≤ mostOpen → {counts : List ℕ} → Counted b points times counts
+  pub times-tested : points ≤ mostPoints → length times ≤ mostTimes → unsettled ≤ mostOpen → {counts : List ℕ} → CountsStand b points times counts
       → (eqb (length times) (points - firstRetained points (take (nodeCount b - 0) counts) .0) && notFalling times) ≡ timesFit b points times
   unfolding timesFit
   times-tested m l o c = rw (le-leb points mostPoints m, le-leb (length times) mostTimes l, le-leb unsettled mostOpen o) (ap (λ cs. eqb (length times) (points - firstRetained points cs .0) && notFalling times) (part-exact c))
@@ -136,11 +136,11 @@ module _ (b : List ℕ) (points : ℕ) (times os ns vs : List ℕ) (count : ℕ)
     pub well-times : timesFit b points times ≡ false → false ≡ wellFormed s
     well-times t = sym (well-is ∙ rw (ok, t))
 
-    pub well-kept : timesFit b points times ≡ true → {counts : List ℕ} → Counted b points times counts → keptFit b (take (nodeCount b - 0) counts) (entriesFrom os ns vs 0 count) count ≡ wellFormed s
+    pub well-kept : timesFit b points times ≡ true → {counts : List ℕ} → CountsStand b points times counts → keptFit b (take (nodeCount b - 0) counts) (entriesFrom os ns vs 0 count) count ≡ wellFormed s
     well-kept t c = ap (λ cs. keptFit b cs (entriesFrom os ns vs 0 count) count) (part-exact c) ∙ sym (well-is ∙ rw (ok, t))
 
-  pub known : (masks counts lows : List ℕ) → ((x : ℕ) → x < nodeCount b → MaskOf b x (getD masks x 0)) → Counted b points times counts
-      → ((x : ℕ) → x < nodeCount b → getD lows x 0 ≡ wantedFrom b (λ y. getD (take (nodeCount b - 0) counts) y 0) x .0) → Known s masks counts lows
+  pub known : (masks counts lows : List ℕ) → ((x : ℕ) → x < nodeCount b → MaskOf b x (getD masks x 0)) → CountsStand b points times counts
+      → ((x : ℕ) → x < nodeCount b → getD lows x 0 ≡ wantedFrom b (λ y. getD (take (nodeCount b - 0) counts) y 0) x .0) → NodeFigures s masks counts lows
   unfolding countsIn countsStored countBefore
   known masks counts lows m c l =
       record {
@@ -149,9 +149,9 @@ module _ (b : List ℕ) (points : ℕ) (times os ns vs : List ℕ) (count : ℕ)
         lows-wanted = λ x o. l x o ∙ ap (λ cs. wantedFrom b (λ y. getD cs y 0) x .0) (part-exact c);
       }
 
-  pub places : (counts begins pairs : List ℕ) → Counted b points times counts
-      → Placed os ns vs count (wantedFrom b (λ y. getD (take (nodeCount b - 0) counts) y 0)) (λ y. getD (take (nodeCount b - 0) counts) y 0) (nodeCount b) begins pairs → Places s os ns vs count begins pairs
+  pub places : (counts begins pairs : List ℕ) → CountsStand b points times counts
+      → EntriesPlaced os ns vs count (wantedFrom b (λ y. getD (take (nodeCount b - 0) counts) y 0)) (λ y. getD (take (nodeCount b - 0) counts) y 0) (nodeCount b) begins pairs → EntryPlaces s os ns vs count begins pairs
   unfolding countsIn countsStored countBefore
   places counts begins pairs c p =
-      let q = subst (λ cs. Placed os ns vs count (wantedFrom b (λ y. getD cs y 0)) (λ y. getD cs y 0) (nodeCount b) begins pairs) (part-exact c) p in
+      let q = subst (λ cs. EntriesPlaced os ns vs count (wantedFrom b (λ y. getD cs y 0)) (λ y. getD cs y 0) (nodeCount b) begins pairs) (part-exact c) p in
       record { rows-first = q .rows-first; pairs-last = q .pairs-last; within = q .within; rows-there = q .rows-there; pairs-there = q .pairs-there }

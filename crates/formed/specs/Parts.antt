@@ -21,7 +21,7 @@ unfoldable pub countsIn : List ℕ → ℕ → List ℕ → List ℕ
 countsIn b points times = countsTo b (stampIn (point (points - length times)) times) points (λ x. points - length times) (nodeCount b)
 
 -- these counts stand in front, and none is above the number of points
-pub record Counted (b : List ℕ) (points : ℕ) (times counts : List ℕ) : Type 0 where
+pub record CountsStand (b : List ℕ) (points : ℕ) (times counts : List ℕ) : Type 0 where
   pub exact : take (nodeCount b) counts ≡ countsIn b points times
   pub bounded : Within points (take (nodeCount b) counts)
 

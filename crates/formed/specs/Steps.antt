@@ -7,8 +7,8 @@ use lib.ListN.{getD}
 use Rattle.meaning.specs.Kept.{Entry}
 use Rattle.meaning.specs.declared.Point.{Point}
 use Rattle.method.specs.Stored.{held, heldPairs}
-use Rattle.shelf.specs.Entries.{entriesFrom, begins, hasOwner}
-use Rattle.shelving.specs.Shelved.{setEntries, agedEntries}
+use Rattle.entries.specs.Entries.{entriesFrom, begins, hasOwner}
+use Rattle.node_sets.specs.Shelved.{setEntries, agedEntries}
 use Rattle.formed.specs.declared.Ended.{Ended}
 use Rattle.formed.specs.declared.Ended.the-variants.{At, Stuck}
 use Rattle.formed.specs.Walk.{behind, setsRest, runsFit}
@@ -36,7 +36,7 @@ NodeEnded os ns vs count cursor b x low n (At p r) = NodeTo os ns vs count curso
 NodeEnded os ns vs count cursor b x low n Stuck = OwnFirst b x low n (restAt os ns vs count cursor) → ⊥
 
 -- where each node's entries begin, and its pairs among them, with those that are read off all entries for it; node y's rows are kept from point low y on and up to point end y
-pub record Placed (os ns vs : List ℕ) (count : ℕ) (low : ℕ → Point) (end : ℕ → ℕ) (nodes : ℕ) (begins pairs : List ℕ) : Type 0 where
+pub record EntriesPlaced (os ns vs : List ℕ) (count : ℕ) (low : ℕ → Point) (end : ℕ → ℕ) (nodes : ℕ) (begins pairs : List ℕ) : Type 0 where
   pub rows-first : (x : ℕ) → x < nodes → getD begins x 0 ≤ getD pairs x 0
   pub pairs-last : (x : ℕ) → x < nodes → getD pairs x 0 ≤ getD begins (x + 1) 0
   pub within : (x : ℕ) → x < nodes → getD begins (x + 1) 0 ≤ count

@@ -10,8 +10,8 @@ use Rattle.meaning.specs.Kept.{Entry}
 use Rattle.meaning.specs.declared.Point.{Point}
 use Rattle.method.specs.Stored.{held, heldPairs}
 use Rattle.method.specs.WellFormed.{sameEntries, setFits, pairsFit}
-use Rattle.shelf.specs.Entries.{hasOwner, isEntry}
-use Rattle.shelving.specs.Shelved.{setEntries, agedEntries}
+use Rattle.entries.specs.Entries.{hasOwner, isEntry}
+use Rattle.node_sets.specs.Shelved.{setEntries, agedEntries}
 
 module _ {A : Type 0} where
   -- those at the front that pass, one after the other; and those behind them

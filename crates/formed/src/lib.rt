@@ -1,5 +1,6 @@
 // Whether what is stored is well formed.
 use meaning::MOST_KEPT;
+use meaning::MOST_NODES;
 use meaning::MOST_OPEN;
 use meaning::MOST_POINTS;
 use meaning::MOST_ROWS;
@@ -24,18 +25,15 @@ ghost use Rattle.method.specs.WellFormed.{mostTimes, notFalling, pairsFit, well
 ghost use Rattle.progress.specs.Bounds.{Within};
 ghost use Rattle.rowset.specs.Rows.{wordsOf};
 ghost use Rattle.kinds.specs.Kinds.{pairAt, pairsFrom};
-ghost use Rattle.shelf.specs.Entries.{entriesFrom, Stands};
-ghost use Rattle.formed.specs.Known.{storedIn, Known, Places};
-ghost use Rattle.formed.specs.Parts.{Counted, timesFit, keptFit};
+ghost use Rattle.entries.specs.Entries.{entriesFrom, EntriesWithin};
+ghost use Rattle.formed.specs.NodeFigures.{storedIn, NodeFigures, EntryPlaces};
+ghost use Rattle.formed.specs.Parts.{CountsStand, timesFit, keptFit};
 ghost use Rattle.formed.specs.Walk.{entriesFit};
 ghost use Rattle.formed.specs.Tests.{Tells, MaskOf, rowCut, mostOf, rowUnder, joinedBits, BitsOf, Ascends, Rising, FewAlike, SetsFit, ageFits, agedFit};
-ghost use Rattle.formed.specs.Steps.{NodeEnded, Placed};
+ghost use Rattle.formed.specs.Steps.{NodeEnded, EntriesPlaced};
 
 // The largest word.
 const LARGEST: u32 = 4294967295;
-
-// Nodes at most that a rule has.
-const MOST_NODES: usize = 32;
 
 // Where a node's pairs begin, and the entry behind them; or its entries don't fit.
 pub enum Ended {
@@ -275,12 +273,12 @@ fn node_end(
     mask: u8,
 ) -> Ended
     requires { ⌜ (length (now rule) ≡ 12 + 20 * nodeCount (now rule)) × (x < nodeCount (now rule)) × MaskOf (now rule) x mask ⌝ }
-    requires { ⌜ (cursor ≤ count) × Stands (now owners) (now numbers) (now values) count ⌝ }
+    requires { ⌜ (cursor ≤ count) × EntriesWithin (now owners) (now numbers) (now values) count ⌝ }
     ensures { λ r. ⌜ NodeEnded (now (owners .entry)) (now (numbers .entry)) (now (values .entry)) count cursor (now (rule .entry)) x low (end .0 - low .0) r ⌝ }
 {
     let owner = (x as u32) * 2;
-    let first = shelf::run_end(owners, cursor, count, owner);
-    let to = shelf::run_end(owners, first, count, owner + 1);
+    let first = entries::run_end(owners, cursor, count, owner);
+    let to = entries::run_end(owners, first, count, owner + 1);
     if !sets_fit(numbers, values, cursor, first, low, end, mask) {
         return Ended::Stuck;
     }
@@ -303,11 +301,11 @@ fn entries_fit(
     begins: &mut [u32],
     pairs: &mut [u32],
 ) -> bool
-    requires { ⌜ (length (now rule) ≡ 12 + 20 * nodeCount (now rule)) × Stands (now owners) (now numbers) (now values) count × (count ≤ mostKept) ⌝ }
+    requires { ⌜ (length (now rule) ≡ 12 + 20 * nodeCount (now rule)) × EntriesWithin (now owners) (now numbers) (now values) count × (count ≤ mostKept) ⌝ }
     requires { ⌜ (nodeCount (now rule) ≤ length (now masks)) × (nodeCount (now rule) ≤ length (now counts)) × (nodeCount (now rule) ≤ length (now lows)) × ((x : ℕ) → x < nodeCount (now rule) → MaskOf (now rule) x (getD (now masks) x 0)) ⌝ }
     requires { ⌜ (nodeCount (now rule) < length (now begins)) × (nodeCount (now rule) ≤ length (now pairs)) ⌝ }
     ensures answer { λ r. ⌜ r ≡ entriesFit (now (rule .entry)) (λ y. point (getD (now (lows .entry)) y 0)) (λ y. getD (now (counts .entry)) y 0) (entriesFrom (now (owners .entry)) (now (numbers .entry)) (now (values .entry)) 0 count) (nodeCount (now (rule .entry))) ⌝ }
-    ensures placed { λ r. ⌜ (r ≡ true → Placed (now (owners .entry)) (now (numbers .entry)) (now (values .entry)) count (λ y. point (getD (now (lows .entry)) y 0)) (λ y. getD (now (counts .entry)) y 0) (nodeCount (now (rule .entry))) (now (begins .exit)) (now (pairs .exit))) ⌝ }
+    ensures placed { λ r. ⌜ (r ≡ true → EntriesPlaced (now (owners .entry)) (now (numbers .entry)) (now (values .entry)) count (λ y. point (getD (now (lows .entry)) y 0)) (λ y. getD (now (counts .entry)) y 0) (nodeCount (now (rule .entry))) (now (begins .exit)) (now (pairs .exit))) ⌝ }
 {
     let n = rule[2];
     let mut next = 0;
@@ -387,7 +385,7 @@ fn times_asked(points: u32, times: &[u32], counts: &[u32]) -> bool
 // How many points each node has settled.
 fn count_points(rule: &[u8], points: u32, times: &[u32], counts: &mut [u32])
     requires { ⌜ (length (now rule) ≡ 12 + 20 * nodeCount (now rule)) × (nodeCount (now rule) ≤ 32) × (32 ≤ length (now counts)) × (length (now times) ≤ mostTimes) ⌝ }
-    ensures { λ _. ⌜ Counted (now (rule .entry)) points (now (times .entry)) (now (counts .exit)) ⌝ }
+    ensures { λ _. ⌜ CountsStand (now (rule .entry)) points (now (times .entry)) (now (counts .exit)) ⌝ }
 {
     let base = Point(progress::less(points, times.len() as u32));
     let from = [base.0; MOST_NODES];
@@ -398,7 +396,7 @@ fn count_points(rule: &[u8], points: u32, times: &[u32], counts: &mut [u32])
 fn times_fit(rule: &[u8], points: u32, times: &[u32], counts: &mut [u32]) -> bool
     requires { ⌜ (length (now rule) ≡ 12 + 20 * nodeCount (now rule)) × (0 < nodeCount (now rule)) × (nodeCount (now rule) ≤ 32) × (32 ≤ length (now counts)) ⌝ }
     ensures answer { λ r. ⌜ r ≡ timesFit (now (rule .entry)) points (now (times .entry)) ⌝ }
-    ensures counted { λ r. ⌜ (r ≡ true → (points ≤ mostPoints) × Counted (now (rule .entry)) points (now (times .entry)) (now (counts .exit))) ⌝ }
+    ensures counted { λ r. ⌜ (r ≡ true → (points ≤ mostPoints) × CountsStand (now (rule .entry)) points (now (times .entry)) (now (counts .exit))) ⌝ }
 {
     if MOST_POINTS < points {
         return false;
@@ -428,12 +426,12 @@ fn kept_fit(
     pairs: &mut [u32],
 ) -> bool
     requires { ⌜ ((a : Accepted) × (checking (now rule) ≡ given a)) ⌝ }
-    requires { ⌜ Stands (now owners) (now numbers) (now values) count × (32 ≤ length (now masks)) × ((x : ℕ) → x < nodeCount (now rule) → MaskOf (now rule) x (getD (now masks) x 0)) ⌝ }
+    requires { ⌜ EntriesWithin (now owners) (now numbers) (now values) count × (32 ≤ length (now masks)) × ((x : ℕ) → x < nodeCount (now rule) → MaskOf (now rule) x (getD (now masks) x 0)) ⌝ }
     requires { ⌜ (nodeCount (now rule) ≤ length (now counts)) × Within mostPoints (now counts) × (32 ≤ length (now lows)) ⌝ }
     requires { ⌜ (33 ≤ length (now begins)) × (32 ≤ length (now pairs)) ⌝ }
     ensures answer { λ r. ⌜ r ≡ keptFit (now (rule .entry)) (now (counts .entry)) (entriesFrom (now (owners .entry)) (now (numbers .entry)) (now (values .entry)) 0 count) count ⌝ }
     ensures wanted { λ r. ⌜ (r ≡ true → (x : ℕ) → x < nodeCount (now (rule .entry)) → getD (now (lows .exit)) x 0 ≡ wantedFrom (now (rule .entry)) (λ y. getD (now (counts .entry)) y 0) x .0) ⌝ }
-    ensures placed { λ r. ⌜ (r ≡ true → Placed (now (owners .entry)) (now (numbers .entry)) (now (values .entry)) count (wantedFrom (now (rule .entry)) (λ y. getD (now (counts .entry)) y 0)) (λ y. getD (now (counts .entry)) y 0) (nodeCount (now (rule .entry))) (now (begins .exit)) (now (pairs .exit))) ⌝ }
+    ensures placed { λ r. ⌜ (r ≡ true → EntriesPlaced (now (owners .entry)) (now (numbers .entry)) (now (values .entry)) count (wantedFrom (now (rule .entry)) (λ y. getD (now (counts .entry)) y 0)) (λ y. getD (now (counts .entry)) y 0) (nodeCount (now (rule .entry))) (now (begins .exit)) (now (pairs .exit))) ⌝ }
 {
     if MOST_KEPT < count {
         return false;
@@ -477,12 +475,12 @@ pub fn well_formed(
     begins: &mut [u32],
     pairs: &mut [u32],
 ) -> bool
-    requires { ⌜ Stands (now owners) (now numbers) (now values) count ⌝ }
+    requires { ⌜ EntriesWithin (now owners) (now numbers) (now values) count ⌝ }
     requires { ⌜ (32 ≤ length (now masks)) × (32 ≤ length (now counts)) × (32 ≤ length (now lows)) ⌝ }
     requires { ⌜ (33 ≤ length (now begins)) × (32 ≤ length (now pairs)) ⌝ }
     ensures answer { λ r. ⌜ r ≡ wellFormed (storedIn (now (rule .entry)) points (now (times .entry)) (now (owners .entry)) (now (numbers .entry)) (now (values .entry)) count) ⌝ }
-    ensures known { λ r. ⌜ (r ≡ true → Known (storedIn (now (rule .entry)) points (now (times .entry)) (now (owners .entry)) (now (numbers .entry)) (now (values .entry)) count) (now (masks .exit)) (now (counts .exit)) (now (lows .exit))) ⌝ }
-    ensures placed { λ r. ⌜ (r ≡ true → Places (storedIn (now (rule .entry)) points (now (times .entry)) (now (owners .entry)) (now (numbers .entry)) (now (values .entry)) count) (now (owners .entry)) (now (numbers .entry)) (now (values .entry)) count (now (begins .exit)) (now (pairs .exit))) ⌝ }
+    ensures known { λ r. ⌜ (r ≡ true → NodeFigures (storedIn (now (rule .entry)) points (now (times .entry)) (now (owners .entry)) (now (numbers .entry)) (now (values .entry)) count) (now (masks .exit)) (now (counts .exit)) (now (lows .exit))) ⌝ }
+    ensures placed { λ r. ⌜ (r ≡ true → EntryPlaces (storedIn (now (rule .entry)) points (now (times .entry)) (now (owners .entry)) (now (numbers .entry)) (now (values .entry)) count) (now (owners .entry)) (now (numbers .entry)) (now (values .entry)) count (now (begins .exit)) (now (pairs .exit))) ⌝ }
 {
     if !accepts(rule, masks) {
         return false;

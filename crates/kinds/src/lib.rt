@@ -15,7 +15,7 @@ ghost use Rattle.meaning.specs.Definition2.{value};
 ghost use Rattle.meaning.specs.Event.{rowCount, columnsOf};
 ghost use Rattle.meaning.specs.Evaluator.{cutTo, valuationOf, bound, matches, atomRows, agrees, joined, andRows, lookUp};
 ghost use Rattle.rowset.specs.Rows.{wordsOf, rowsFrom};
-ghost use Rattle.rowset.specs.Sets.{Run, Room, Added};
+ghost use Rattle.rowset.specs.Sets.{Run, SetRoom, Added};
 ghost use Rattle.kinds.specs.Kinds.{inMask, EventThere, rowFrom, rowsWith};
 
 // Four variables: whether each is in a set.
@@ -153,7 +153,7 @@ fn compare(c: Comparison, a: u32, b: u32) -> bool
 // Copies the rows of a run: serves "or", "previous" and "next".
 pub fn copy(rows: &[u32], from: usize, to: usize, out: &mut [u32], n: usize) -> usize
     requires { ⌜ Run (now rows) from to ⌝ }
-    requires { ⌜ Room (now out) n ⌝ }
+    requires { ⌜ SetRoom (now out) n ⌝ }
     ensures { λ k. ⌜ Added (now (out .entry)) n (now (out .exit)) k (rowsFrom (now (rows .entry)) from (to - from)) ⌝ }
 {
     let mut k = n;
@@ -177,7 +177,7 @@ fn and_row(
     n: usize,
 ) -> usize
     requires { ⌜ Run (now rows) from to ⌝ }
-    requires { ⌜ Room (now out) n ⌝ }
+    requires { ⌜ SetRoom (now out) n ⌝ }
     ensures { λ k. ⌜ Added (now (out .entry)) n (now (out .exit)) k (map (joined (inMask f) (wordsOf u)) (select (agrees (inMask f) (inMask g) (wordsOf u)) (rowsFrom (now (rows .entry)) from (to - from)))) ⌝ }
 {
     let mut k = n;
@@ -206,7 +206,7 @@ pub fn and(
 ) -> usize
     requires { ⌜ Run (now rows) from to ⌝ }
     requires { ⌜ Run (now rows) start end ⌝ }
-    requires { ⌜ Room (now out) n ⌝ }
+    requires { ⌜ SetRoom (now out) n ⌝ }
     ensures { λ k. ⌜ Added (now (out .entry)) n (now (out .exit)) k (andRows (inMask f) (inMask g) (rowsFrom (now (rows .entry)) from (to - from)) (rowsFrom (now (rows .entry)) start (end - start))) ⌝ }
 {
     let mut k = n;
@@ -232,7 +232,7 @@ pub fn and_not(
 ) -> usize
     requires { ⌜ Run (now rows) from to ⌝ }
     requires { ⌜ Run (now rows) start end ⌝ }
-    requires { ⌜ Room (now out) n ⌝ }
+    requires { ⌜ SetRoom (now out) n ⌝ }
     ensures { λ k. ⌜ Added (now (out .entry)) n (now (out .exit)) k (select (λ u. not (lookUp (cutTo (inMask g) (valuationOf u)) (rowsFrom (now (rows .entry)) start (end - start)))) (rowsFrom (now (rows .entry)) from (to - from))) ⌝ }
 {
     let mut k = n;
@@ -258,7 +258,7 @@ pub fn keep(
     n: usize,
 ) -> usize
     requires { ⌜ Run (now rows) from to ⌝ }
-    requires { ⌜ Room (now out) n ⌝ }
+    requires { ⌜ SetRoom (now out) n ⌝ }
     ensures { λ k. ⌜ Added (now (out .entry)) n (now (out .exit)) k (select (λ u. compares c (value (valuationOf u) s) (value (valuationOf u) t)) (rowsFrom (now (rows .entry)) from (to - from))) ⌝ }
 {
     let mut k = n;
@@ -277,7 +277,7 @@ pub fn keep(
 // "exists": variable x is no longer free.
 pub fn exists(x: u32, rows: &[u32], from: usize, to: usize, out: &mut [u32], n: usize) -> usize
     requires { ⌜ Run (now rows) from to ⌝ }
-    requires { ⌜ Room (now out) n ⌝ }
+    requires { ⌜ SetRoom (now out) n ⌝ }
     ensures { λ k. ⌜ Added (now (out .entry)) n (now (out .exit)) k (map (λ u. cutTo (λ y. not (eqb y x)) (valuationOf u)) (rowsFrom (now (rows .entry)) from (to - from))) ⌝ }
 {
     let mut k = n;
@@ -484,7 +484,7 @@ fn columns_at(event: &[u32], m: usize, k: usize) -> Row
 
 // What an atom puts in for one row of an event.
 fn atom_row(relation: u32, found: u32, ts: Terms, c: Row, out: &mut [u32], n: usize) -> usize
-    requires { ⌜ Room (now out) n ⌝ }
+    requires { ⌜ SetRoom (now out) n ⌝ }
     ensures { λ k. ⌜ Added (now (out .entry)) n (now (out .exit)) k (cond (matches relation (termsOf ts) (rowFrom (ts .count) found (wordsOf c))) (map (bound (termsOf ts) (take (ts .count) (wordsOf c))) variables ∷ []) []) ⌝ }
 {
     if found == relation {
@@ -498,7 +498,7 @@ fn atom_row(relation: u32, found: u32, ts: Terms, c: Row, out: &mut [u32], n: us
 // "atom": a row of the event has as many values as the atom has terms.
 pub fn atom(relation: u32, ts: Terms, event: &[u32], out: &mut [u32], n: usize) -> usize
     requires { ⌜ EventThere (now event) ⌝ }
-    requires { ⌜ Room (now out) n ⌝ }
+    requires { ⌜ SetRoom (now out) n ⌝ }
     ensures { λ k. ⌜ Added (now (out .entry)) n (now (out .exit)) k (atomRows relation (termsOf ts) (rowsWith (ts .count) (now (event .entry)))) ⌝ }
 {
     let m = event[1] as usize;

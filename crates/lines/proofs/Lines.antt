@@ -7,8 +7,8 @@ use lib.ListN.{length, length-append}
 use Rattle.meaning.specs.Lists.{gather}
 use types.Run.{OneOf, miss}
 use denote.Enum.Declared.{tagOf}
-use Rattle.refusals.specs.Told.{toldOf}
-use Rattle.refusals.specs.declared.Told.{Told}
+use Rattle.refusals.specs.Numbered.{numbered}
+use Rattle.refusals.specs.declared.Numbered.{Numbered}
 use Rattle.rulefile.specs.Checked.{answerOf}
 use Rattle.rulefile.specs.declared.Checked.{Checked}
 use Rattle.rulefile.specs.declared.Checked.the-variants.{Accepted, Cut, OtherVersion, SizeOut, Misshapen, WindowOut, FreeBroken, NotOneParent}
@@ -49,7 +49,7 @@ row-short (v ∷ vs) = simp length-append (omega (arith, decimal-short v, values
 abbrev refusals : List ℕ
 refusals = 1 ∷ 2 ∷ 3 ∷ 4 ∷ 5 ∷ 6 ∷ 7 ∷ []
 
-pub checked-refused : (k : Checked) (t : Told) → OneOf refusals (tagOf the-type k) → t ≡ toldOf (answerOf k) → checkedText (answerOf k) ≡ refusedLine (t .0) (t .1)
+pub checked-refused : (k : Checked) (t : Numbered) → OneOf refusals (tagOf the-type k) → t ≡ numbered (answerOf k) → checkedText (answerOf k) ≡ refusedLine (t .0) (t .1)
 checked-refused (Accepted r f) t o e = absurd (miss refusals 0 tt o)
 checked-refused Cut t o e = rw e
 checked-refused OtherVersion t o e = rw e

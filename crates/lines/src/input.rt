@@ -1,10 +1,15 @@
 // What is read off the bytes of an input: its rule, and the event that comes next.
+use meaning::MOST_ROWS;
+use meaning::RULE_BYTES;
 use rulenodes::word_at;
 ghost use mathlib.Core.Path.{_≡_};
 ghost use Prim.Native.Nat.{_*_, _≤_};
 ghost use lib.ListN.{length};
 ghost use Rattle.writer.specs.Puts.{Put};
 ghost use Rattle.lines.specs.Input.{wordsIn, ruleEnd, ruleIn, eventEnd, Reads};
+
+// Rows at most that an event has.
+const ROWS: usize = MOST_ROWS as usize;
 
 // The next event, with so many words; one that is cut short or has over 32 rows; or the end of input.
 pub enum Next {
@@ -33,7 +38,7 @@ pub fn rule_end(bytes: &[u8]) -> usize
         return 4;
     }
     let n = word_at(bytes, 0) as usize;
-    if n > 652 {
+    if n > RULE_BYTES {
         return 4;
     }
     4 + n
@@ -58,7 +63,7 @@ pub fn event_end(bytes: &[u8]) -> usize
         return 8;
     }
     let rows = word_at(bytes, 4) as usize;
-    if rows > 32 {
+    if rows > ROWS {
         return 8;
     }
     8 + 20 * rows
@@ -76,7 +81,7 @@ pub fn next_event(bytes: &[u8], words: &mut [u32]) -> Next
         return Next::Cut;
     }
     let rows = word_at(bytes, 4) as usize;
-    if rows > 32 {
+    if rows > ROWS {
         return Next::Cut;
     }
     if bytes.len() < 8 + 20 * rows {

@@ -1,7 +1,7 @@
 // The lines that are printed. Each function puts its text into lent bytes from a place on and answers the place after it.
 use meaning::Point;
 use meaning::Stamp;
-use refusals::Told;
+use refusals::Numbered;
 ghost use Prim.Native.Nat.{_+_, _≤_};
 ghost use lib.ListN.{length};
 ghost use Rattle.writer.specs.Puts.{Put};
@@ -46,7 +46,7 @@ pub fn put_accepted(out: &mut [u8], at: usize, reach: u32) -> usize
     put_text(out, a, b"\n")
 }
 
-pub fn put_refused(out: &mut [u8], at: usize, told: Told) -> usize
+pub fn put_refused(out: &mut [u8], at: usize, told: Numbered) -> usize
     requires { ⌜ at + length (refusedLine (told .0) (told .1)) ≤ length (now out) ⌝ }
     ensures { λ r. ⌜ Put (now (out .entry)) at (refusedLine (told .0) (told .1)) (now (out .exit)) r ⌝ }
 {

@@ -8,11 +8,11 @@ use Rattle.meaning.specs.Outcome.{Outcome, refused, given}
 use Rattle.method.specs.Stored.{Stored}
 use Rattle.method.specs.Step.{keptStored}
 use Rattle.figures.specs.Fronts.{openAnswer}
-use Rattle.refusals.specs.Told.{toldOf}
-use Rattle.refusals.specs.declared.Told.{Told}
-use Rattle.weighing.specs.Weighs.{refusalOf}
-use Rattle.weighing.specs.declared.Refusal.{Refusal}
-use Rattle.weighing.specs.declared.Refusal.the-variants.{NotWellFormed, NotAnEvent, RowOut, TimeFalls, LogFull, Crowded, Backlog, KeptOver, BufferShort}
+use Rattle.refusals.specs.Numbered.{numbered}
+use Rattle.refusals.specs.declared.Numbered.{Numbered}
+use Rattle.limits.specs.Weighs.{refusalOf}
+use Rattle.limits.specs.declared.Refusal.{Refusal}
+use Rattle.limits.specs.declared.Refusal.the-variants.{NotWellFormed, NotAnEvent, RowOut, TimeFalls, LogFull, Crowded, Backlog, KeptOver, BufferShort}
 use Rattle.lines.specs.Text.{refusedLine}
 use Rattle.lines.specs.Answers.{answerText}
 use Rattle.lines.specs.declared.input.Next.{Next}
@@ -20,7 +20,7 @@ use Rattle.lines.specs.declared.input.Next.the-variants.{Event, Cut, Ended}
 use Rattle.lines.proofs.Lines.{refused-short, last-short}
 use Rattle.listing.specs.Ends.{cutText, figuresLine, figuresText}
 
-pub refused-text : (r : Refusal) (t : Told) (buffer : List ℕ) → t ≡ toldOf (refusalOf r) → answerText (refusalOf r) buffer ≡ refusedLine (t .0) (t .1)
+pub refused-text : (r : Refusal) (t : Numbered) (buffer : List ℕ) → t ≡ numbered (refusalOf r) → answerText (refusalOf r) buffer ≡ refusedLine (t .0) (t .1)
 refused-text NotWellFormed t buffer e = rw e
 refused-text NotAnEvent t buffer e = rw e
 refused-text (RowOut k) t buffer e = rw e

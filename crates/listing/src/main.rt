@@ -9,15 +9,20 @@ use lines::Next;
 use lines::next_event;
 use lines::put_checked;
 use lines::rule_in;
+use meaning::MOST_ROWS;
+use meaning::RULE_BYTES;
 use monitor::State;
 use rulefile::Checked;
 use text::put_answer;
 use text::put_end;
 
+// Rows at most that an event has.
+const ROWS: usize = MOST_ROWS as usize;
+
 // Takes the events on standard input and prints the answers, then the last line; the count of turns only bounds the loop.
 fn take_all(first: State) {
-    let mut bytes = [0u8; 648];
-    let mut event = [0u32; 162];
+    let mut bytes = [0u8; 8 + 20 * ROWS];
+    let mut event = [0u32; 2 + 5 * ROWS];
     let mut report = [0u32; 4326];
     let mut text = [0u8; 53504];
     let mut state = first;
@@ -41,7 +46,7 @@ fn take_all(first: State) {
 }
 
 fn main() {
-    let mut bytes = [0u8; 656];
+    let mut bytes = [0u8; 4 + RULE_BYTES];
     let n = read_rule(&mut bytes);
     let started = monitor::start(rule_in(&bytes[0..n]));
     let checked = started.checked;

@@ -1,17 +1,17 @@
 // What is printed for a taking's answer and at the end of a run, put to the front of lent bytes.
 use figures::Open;
-use lent::Answer;
+use lent_state::Answer;
 use lines::Next;
 use lines::put_last;
 use lines::put_refused;
 use lines::put_report;
 use monitor::State;
 use refusals::of_event;
-use weighing::Refusal;
+use limits::Refusal;
 ghost use Prim.Native.Nat.{_+_, _≤_};
 ghost use lib.ListN.{length};
 ghost use Rattle.writer.specs.Puts.{Put};
-ghost use Rattle.lent.specs.Lent.{answerOf};
+ghost use Rattle.lent_state.specs.Lent.{answerOf};
 ghost use Rattle.monitor.specs.State.{stored};
 ghost use Rattle.lines.specs.Answers.{answerText};
 ghost use Rattle.listing.specs.Ends.{cutText, figuresText, endText};

@@ -47,14 +47,14 @@ admitted-given b w last points rest n e =
     record { later = ltb-false (getD w 0 0) (last .0) (time .0); room = leb-false mostPoints points (full .0); goes-on = full .1 }
 
 -- the figures are within the limits, and the answer is the report's words
-pub record Weighed (crowds : ℕ → Bool) (nodes unsettled entries words room n : ℕ) : Type 0 where
+pub record LimitsPassed (crowds : ℕ → Bool) (nodes unsettled entries words room n : ℕ) : Type 0 where
   pub none-crowded : (x : ℕ) → x < nodes → crowds x ≡ false
   pub few-open : unsettled ≤ mostOpen
   pub few-kept : entries ≤ mostKept
   pub fits : words ≤ room
   pub written : n ≡ words
 
-pub weighed-given : (crowds : ℕ → Bool) (nodes unsettled entries words room n : ℕ) → weighed crowds nodes unsettled entries words room ≡ given n → Weighed crowds nodes unsettled entries words room n
+pub weighed-given : (crowds : ℕ → Bool) (nodes unsettled entries words room n : ℕ) → weighed crowds nodes unsettled entries words room ≡ given n → LimitsPassed crowds nodes unsettled entries words room n
 unfolding weighed
 weighed-given crowds nodes unsettled entries words room n e =
     let calm : _ × _ = crowds-passed crowds 0 nodes _ n e in
@@ -69,7 +69,7 @@ weighed-given crowds nodes unsettled entries words room n e =
 pub record Accepts (b : List ℕ) (l : Log) (t : Taking) (n : ℕ) : Type 0 where
   pub later : latest l .0 ≤ getD (t .event) 0 0
   pub room : size l < mostPoints
-  pub figures : Weighed (crowdedAt b l (grown b l (t .event))) (nodeCount b) (openPoints b (grown b l (t .event))) (kept b (grown b l (t .event))) (length (report b l (grown b l (t .event)))) (length (t .buffer)) n
+  pub figures : LimitsPassed (crowdedAt b l (grown b l (t .event))) (nodeCount b) (openPoints b (grown b l (t .event))) (kept b (grown b l (t .event))) (length (report b l (grown b l (t .event)))) (length (t .buffer)) n
 
 pub accepts : (b : List ℕ) (l : Log) (t : Taking) (n : ℕ) → answer b l t ≡ given n → Accepts b l t n
 unfolding answer

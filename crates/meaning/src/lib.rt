@@ -6,8 +6,15 @@ pub const MOST_ROWS: u32 = 32;
 // Open points at most.
 pub const MOST_OPEN: u32 = 32;
 
-// Times at most that are retained.
+// Nodes at most that a rule has, and the bytes of a rule that has so many.
+pub const MOST_NODES: usize = 32;
+
+pub const RULE_BYTES: usize = 12 + 20 * MOST_NODES;
+
+// Times at most that are retained, and the words for them: one more is at hand in a call.
 pub const MOST_TIMES: usize = 64;
+
+pub const TIME_WORDS: usize = MOST_TIMES + 1;
 
 // Entries at most that are kept.
 pub const MOST_KEPT: usize = 512;

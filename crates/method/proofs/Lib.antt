@@ -7,7 +7,7 @@ pub mod Lists
 pub mod Parents
 pub mod Held
 pub mod Keeps
-pub mod Seen
+pub mod Inputs
 pub mod Turns
 pub mod Bounds
 pub mod Newly

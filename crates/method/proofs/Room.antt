@@ -22,7 +22,7 @@ use Rattle.method.specs.WellFormed.{ownEntries, Formed}
 use Rattle.method.specs.Room.{weight, otherAt, previousIn, othersIn, heavier, lighter, need, newPoints, keptRows, rowsMost, setsMost, setsNeeded, SettlesAtMost, mostSets, RoomEnough}
 use Rattle.method.proofs.Views.{Branches, none, single, double, viewed}
 use Rattle.method.proofs.Bounds.{below, by-children, span}
-use Rattle.method.proofs.Seen.{one, two}
+use Rattle.method.proofs.Inputs.{one, two}
 use Rattle.method.proofs.Sums.{sum-same, sum-plus, length-gather}
 use Rattle.method.proofs.Lags.{new-points}
 use Rattle.method.proofs.Weights.{both-sides, lighter-less, weight-step, weight-two, need-step, whole-weight, nodes-split, no-shares}

@@ -29,12 +29,12 @@ use Rattle.meaning.proofs.Agreement.{gives-or, gives-exists, gives-and, gives-a
 use Rattle.meaning.proofs.Points.{first, second}
 use Rattle.meaning.proofs.Rows.{all-at, cond-at, select-at, gather-at, same-row, insertAll-at, setOf-ascends}
 use Rattle.method.specs.Stored.{Stored, held, heldPairs}
-use Rattle.method.specs.Settle.{Sight, fresh, rowsSince, candidates, settle, hasPairs, rowsOfTurn}
-use Rattle.method.specs.Step.{wantedFrom, newRows, turnOf, sightOf, turnsTo, stampsNow, countBefore, countAfter, turn}
+use Rattle.method.specs.Settle.{Inputs, fresh, rowsSince, candidates, settle, hasPairs, rowsOfTurn}
+use Rattle.method.specs.Step.{wantedFrom, newRows, turnOf, inputsOf, turnsTo, stampsNow, countBefore, countAfter, turn}
 use Rattle.method.specs.WellFormed.{rowOfNode, setFits, pairFits, pairsFit, nodeFits, Formed}
 use Rattle.method.proofs.Rowed.{pairs-each}
 use Rattle.method.proofs.Bounds.{by-children}
-use Rattle.method.proofs.Seen.{one, two}
+use Rattle.method.proofs.Inputs.{one, two}
 use Rattle.method.proofs.Turns.{turns-at, turns-seen}
 
 -- the row is 0 at variables outside f
@@ -65,7 +65,7 @@ at-place P p (x ∷ xs) h (suc k) = at-place P p xs (λ y m. h y (List·Memᴰ·
 
 -- ---- a node at newly settled points
 
-module _ (v : Sight) {f : ℕ → Bool} where
+module _ (v : Inputs) {f : ℕ → Bool} where
   until-cut : (n : ℕ) (w : Window) (left : List ℕ → Point → Bool) (right : Point → List (List ℕ)) (i : Point) → ((j : Point) → RowsOf f (right j))
       → (u : List ℕ) → List·Memᴰ u (untilRows (v .stamps) n w left right i) → Cut f u
   until-cut n w left right i r u m =
@@ -87,7 +87,7 @@ no-pairs : (f : ℕ → Bool) → PairsOf f []
 no-pairs f = record { cut = λ p m. absurd (List·Memᴰ·not-nil m) }
 
 -- the children's rows are their own
-module _ (F : ℕ → Formula) (v : Sight) (same : v .free ≡ (λ y. free (F y))) where
+module _ (F : ℕ → Formula) (v : Inputs) (same : v .free ≡ (λ y. free (F y))) where
   abbrev Children : Node → Type 0
   Children n = (y : ℕ) → List·Memᴰ y (childrenOf n) → (j : Point) → RowsOf (free (F y)) (v .rows y j)
 
@@ -132,8 +132,8 @@ module _ (s : Stored) (f : Formed s) (w : List ℕ) where
   abbrev Own : ℕ → List (List ℕ) → Type 0
   Own x rows = RowsOf (free (formulaAt b x)) rows
 
-  abbrev sight : ℕ → Sight
-  sight x = sightOf b (stampsNow s w) (countAfter s w) (pointOf b w .rows) (turnsTo b (s .entries) (stampsNow s w) (countBefore s) (countAfter s w) (pointOf b w .rows) x)
+  abbrev sight : ℕ → Inputs
+  sight x = inputsOf b (stampsNow s w) (countAfter s w) (pointOf b w .rows) (turnsTo b (s .entries) (stampsNow s w) (countBefore s) (countAfter s w) (pointOf b w .rows) x)
 
   turn-is : (x : ℕ) → x < nodeCount b → turn s w x ≡ turnOf b (s .entries) (countBefore s) (countAfter s w) (sight x) x
   unfolding turn

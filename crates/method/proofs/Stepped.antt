@@ -32,13 +32,13 @@ use Rattle.meaning.proofs.Steady.{steady-by, pairs-by}
 use Rattle.meaning.proofs.Points.{pointsFrom-append, Tested, passed, failed, tested}
 use Rattle.method.specs.Stored.{Stored, baseOf, stampIn, held, heldPairs, leastOf, firstRetained, storedOf}
 use Rattle.method.specs.Counts.{countsTo}
-use Rattle.method.specs.Settle.{Sight, Turn, rowsOfTurn}
-use Rattle.method.specs.Step.{wantedFrom, newRows, newPairs, turnOf, sightOf, turnsTo, stampsNow, countsStored, countBefore, keptStored, openStored, countAfter, countsAfter, turn, entriesNow, storedNow, crowdedNow, reportedNow, reportNow, latestStored}
+use Rattle.method.specs.Settle.{Inputs, Turn, rowsOfTurn}
+use Rattle.method.specs.Step.{wantedFrom, newRows, newPairs, turnOf, inputsOf, turnsTo, stampsNow, countsStored, countBefore, keptStored, openStored, countAfter, countsAfter, turn, entriesNow, storedNow, crowdedNow, reportedNow, reportNow, latestStored}
 use Rattle.method.proofs.Least.{least-most, least-below, least-grows}
 use Rattle.method.proofs.Counted.{Counted, counted-most, counted-is, count-counted, counts-length, counts-right, counts-grow, upto-holds}
 use Rattle.method.proofs.Lists.{gather-each, select-run}
 use Rattle.method.proofs.Keeps.{wanted-low, count-of, held-is, heldPairs-is, entries-run}
-use Rattle.method.proofs.Seen.{Sees, pairsBefore}
+use Rattle.method.proofs.Inputs.{InputsAgree, pairsBefore}
 use Rattle.method.proofs.Bounds.{below, Placed, at-last, with-parent, placed, wanted-under, wanted-moves}
 use Rattle.method.proofs.Turns.{any-over, drop-points, gather-over, from-getD, points-length, getD-points, map-points, map-append, Ready, new-rows, new-pairs, atom-counted, turns-at, turns-seen}
 use Rattle.method.proofs.Newly.{newly-run}
@@ -198,8 +198,8 @@ module _ (b : List ℕ) (a : Accepted) (ok : checking b ≡ given a) (l : Log) (
 
     -- ---- the turns
 
-    abbrev sight : ℕ → Sight
-    sight x = sightOf b (stampsNow s w) (countAfter s w) (pointOf b w .rows) (turnsTo b (entries b l) (stampsNow s w) (countBefore s) (countAfter s w) (pointOf b w .rows) x)
+    abbrev sight : ℕ → Inputs
+    sight x = inputsOf b (stampsNow s w) (countAfter s w) (pointOf b w .rows) (turnsTo b (entries b l) (stampsNow s w) (countBefore s) (countAfter s w) (pointOf b w .rows) x)
 
     turn-is : (x : ℕ) → x < nodeCount b → turn s w x ≡ turnOf b (entries b l) (countBefore s) (countAfter s w) (sight x) x
     unfolding turn storedOf
@@ -238,7 +238,7 @@ module _ (b : List ℕ) (a : Accepted) (ok : checking b ≡ given a) (l : Log) (
             let z : size l ≡ i .0 = omega (arith, size-grown) in
             new-rows-are ∙ ap (λ j. rowsAt l' (point j)) z
 
-    sees : (x : ℕ) → x < nodeCount b → ((y : ℕ) → y < x → TurnRight y) → Sees (sight x) l' (formulaAt b) (nodeAt b x) (point (was x))
+    sees : (x : ℕ) → x < nodeCount b → ((y : ℕ) → y < x → TurnRight y) → InputsAgree (sight x) l' (formulaAt b) (nodeAt b x) (point (was x))
     sees x o under =
         record {
           stamps = λ j p q. stamps-right j (omega (arith, base-low x o)) q;

@@ -22,13 +22,13 @@ use Rattle.meaning.specs.declared.Node.{Node}
 use Rattle.meaning.specs.declared.Times.{Times}
 use Rattle.meaning.specs.declared.Times.the-variants.{Here, Before, After, Past, Future}
 use Rattle.meaning.proofs.Fine.{Fine}
-use Rattle.method.specs.Settle.{Sight, settle, Turn, rowsOfTurn}
+use Rattle.method.specs.Settle.{Inputs, settle, Turn, rowsOfTurn}
 use Rattle.method.specs.Step
-use Rattle.method.specs.Step.{firstWanted, newRows, newPairs, turnOf, sightOf, turnsTo, noTurn}
+use Rattle.method.specs.Step.{firstWanted, newRows, newPairs, turnOf, inputsOf, turnsTo, noTurn}
 use Rattle.method.proofs.Views.{Branches, none, single, double, viewed}
 use Rattle.method.proofs.Counted.{Counted}
 use Rattle.meaning.proofs.Lists.{range-length}
-use Rattle.method.proofs.Seen.{Sees, pairsBefore, settle-right}
+use Rattle.method.proofs.Inputs.{InputsAgree, pairsBefore, settle-right}
 
 -- ---- lists
 
@@ -75,22 +75,22 @@ map-append f (x ∷ xs) ys = ap (λ zs. f x ∷ zs) (map-append f xs ys)
 
 -- ---- newly settled points
 
-module _ (v : Sight) (node : Node) (start : Point) (count : ℕ) (held : List (List ℕ)) where
+module _ (v : Inputs) (node : Node) (start : Point) (count : ℕ) (held : List (List ℕ)) where
   pub newRows-length : length (newRows v node start count held) ≡ count
   newRows-length = length-map (pointsFrom start count) _ ∙ points-length start count
 
   pub newRows-at : (q : ℕ) → q < count → getD (newRows v node start count held) q [] ≡ settle v held start (point (start .0 + q)) node
   newRows-at q h = getD-points (λ i. settle v held start i node) [] (start .0) count q h
 
-module _ (v : Sight) (l : Log) (ordered : Ordered l) (F : ℕ → Formula) (n : Node) (f : Fine (formulaOf F n)) where
+module _ (v : Inputs) (l : Log) (ordered : Ordered l) (F : ℕ → Formula) (n : Node) (f : Fine (formulaOf F n)) where
   abbrev pub Ready : Point → Type 0
   Ready i = (settled l (formulaOf F n) i ≡ true) × (childrenOf n ≡ [] → v .event ≡ rowsAt l i)
 
-  pub new-rows : (start : Point) (count : ℕ) → Sees v l F n start → ((j : Point) → start .0 ≤ j .0 → j .0 < start .0 + count → Ready j)
+  pub new-rows : (start : Point) (count : ℕ) → InputsAgree v l F n start → ((j : Point) → start .0 ≤ j .0 → j .0 < start .0 + count → Ready j)
       → newRows v n start count (pairsBefore l (formulaOf F n) start) ≡ map (vals l (formulaOf F n)) (pointsFrom start count)
   new-rows start count s h = map-points _ (vals l (formulaOf F n)) (start .0) count (λ j u o. let r = h j u o in settle-right v l ordered F start j u n s f (r .0) (r .1) .0)
 
-  pub new-pairs : (start : Point) (count : ℕ) → Sees v l F n start → ((j : Point) → start .0 ≤ j .0 → j .0 < start .0 + count → Ready j)
+  pub new-pairs : (start : Point) (count : ℕ) → InputsAgree v l F n start → ((j : Point) → start .0 ≤ j .0 → j .0 < start .0 + count → Ready j)
       → newPairs v n start count (pairsBefore l (formulaOf F n) start) ≡ pairsBefore l (formulaOf F n) (point (start .0 + count))
   new-pairs start zero s h = let z : start .0 + 0 ≡ start .0 = omega arith in rw z
   new-pairs start (suc count) s h =
@@ -125,7 +125,7 @@ module _ (b : List ℕ) (es : List Entry) (τ : Point → Stamp) (before after :
   turns-length zero = refl
   turns-length (suc k) = length-append (turnsUp k) _ ∙ (let h : length (turnsUp k) ≡ k = turns-length k in omega arith)
 
-  turns-new : (k : ℕ) → getD (turnsUp (suc k)) k noTurn ≡ turnOf b es before after (sightOf b τ after event (turnsUp k)) k
+  turns-new : (k : ℕ) → getD (turnsUp (suc k)) k noTurn ≡ turnOf b es before after (inputsOf b τ after event (turnsUp k)) k
   turns-new k = ap (λ z. getD (turnsUp (suc k)) z noTurn) (sym (turns-length k)) ∙ getD-append-seam (turnsUp k) _ [] noTurn
 
   turns-old : (k y : ℕ) → y < k → getD (turnsUp (suc k)) y noTurn ≡ getD (turnsUp k) y noTurn
@@ -137,8 +137,8 @@ module _ (b : List ℕ) (es : List Entry) (τ : Point → Stamp) (before after :
   turns-stay k (suc m) y h = let e : k + suc m ≡ suc (k + m) = omega arith in rw e (turns-old (k + m) y (omega arith) ∙ turns-stay k m y h)
 
   -- what node x sees of a lower node's turn is that turn
-  pub turns-seen : (k x y : ℕ) → y < x → x ≤ k → sightOf b τ after event (turnsUp x) .rows y ≡ rowsOfTurn (getD (turnsUp k) y noTurn)
+  pub turns-seen : (k x y : ℕ) → y < x → x ≤ k → inputsOf b τ after event (turnsUp x) .rows y ≡ rowsOfTurn (getD (turnsUp k) y noTurn)
   turns-seen k x y h l = let e : x + (k - x) ≡ k = omega arith in ap rowsOfTurn (sym (turns-stay x (k - x) y h) ∙ ap (λ z. getD (turnsUp z) y noTurn) e)
 
-  pub turns-at : (k x : ℕ) → x < k → getD (turnsUp k) x noTurn ≡ turnOf b es before after (sightOf b τ after event (turnsUp x)) x
+  pub turns-at : (k x : ℕ) → x < k → getD (turnsUp k) x noTurn ≡ turnOf b es before after (inputsOf b τ after event (turnsUp x)) x
   turns-at k x h = let e : k ≡ suc x + (k - suc x) = omega arith in ap (λ z. getD (turnsUp z) x noTurn) e ∙ turns-stay (suc x) (k - suc x) x (omega arith) ∙ turns-new x

@@ -15,7 +15,7 @@ use Rattle.meaning.proofs.Rows.{gather-at, range-at}
 use Rattle.meaning.proofs.Points.{Tested, passed, failed, tested}
 use Rattle.method.specs.Room.{madeWithin, weight, isPrevious, previousAt, otherAt, previousIn, othersIn, leftLighter, heavier, lighter, needOf, need}
 use Rattle.method.proofs.Bounds.{below}
-use Rattle.method.proofs.Seen.{one, two}
+use Rattle.method.proofs.Inputs.{one, two}
 use Rattle.method.proofs.Sums.{sum, sum-same, sum-plus, sum-each, sum-last, sum-gather, sum-once}
 
 -- ---- the two children

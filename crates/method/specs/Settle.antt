@@ -23,7 +23,7 @@ use Rattle.meaning.specs.declared.Node.{Node}
 use Rattle.meaning.specs.declared.Node.the-variants.{Atom, And, AndNot, Keep, Or, Exists, Previous, Next, Since, NotSince, Until, NotUntil, Once, Eventually}
 
 -- What a node's turn can look at: the free variables, counts and rows of lower nodes, the time stamps, and the rows of the event.
-pub record Sight : Type 0 where
+pub record Inputs : Type 0 where
   pub stamps : Point → Stamp
   pub free : ℕ → ℕ → Bool
   pub count : ℕ → ℕ
@@ -31,7 +31,7 @@ pub record Sight : Type 0 where
   pub event : List Row
 
 -- a child's rows at a point, asked for a row cut down to the child's variables
-abbrev pub found : Sight → ℕ → List ℕ → Point → Bool
+abbrev pub found : Inputs → ℕ → List ℕ → Point → Bool
 found v a u k = lookUp (cutTo (v .free a) (valuationOf u)) (v .rows a k)
 
 -- as many points as the second argument says, from the first back
@@ -65,7 +65,7 @@ module _ (τ : Point → Stamp) (w : Window) (left : List ℕ → Point → Bool
       ++ map (λ p. countedAge w (ageNow p) ∷ drop 1 p) (select (λ p. belowEnd w (ageNow p) && outlasts p) held)
 
 -- the rows that node's kind gives at a newly settled point i; the first such point is start, and held are the node's pairs at the point before it
-abbrev pub candidates : Sight → List (List ℕ) → Point → Point → Node → List (List ℕ)
+abbrev pub candidates : Inputs → List (List ℕ) → Point → Point → Node → List (List ℕ)
 candidates v held start i (Atom r t) = atomRows r (termsOf t) (v .event)
 candidates v held start i (And a b) = andRows (v .free a) (v .free b) (v .rows a i) (v .rows b i)
 candidates v held start i (AndNot a b) = select (λ u. not (found v b u i)) (v .rows a i)
@@ -82,7 +82,7 @@ candidates v held start i (Once a w) = rowsSince (v .stamps) w (λ u k. true) (v
 candidates v held start i (Eventually a w) = untilRows (v .stamps) (v .count a) w (λ u k. true) (v .rows a) i
 
 -- the valuations there
-unfoldable pub settle : Sight → List (List ℕ) → Point → Point → Node → List (List ℕ)
+unfoldable pub settle : Inputs → List (List ℕ) → Point → Point → Node → List (List ℕ)
 settle v held start i node = setOf (candidates v held start i node)
 
 -- left and right of since and until; where there is one child, it is right, and nothing is asked of left
@@ -105,7 +105,7 @@ hasPairs Past = true
 hasPairs Future = false
 
 -- the pairs there
-abbrev pub pairsAfter : Sight → List (List ℕ) → Point → Point → View → List (List ℕ)
+abbrev pub pairsAfter : Inputs → List (List ℕ) → Point → Point → View → List (List ℕ)
 pairsAfter v held start i node =
     cond (hasPairs (node .times)) (setOf (pairsSince (v .stamps) (node .window) (λ u k. passes (node .left) (found v (leftOf (node .children)) u k)) (v .rows (rightOf (node .children))) held start i)) []
 

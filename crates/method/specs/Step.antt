@@ -21,7 +21,7 @@ use Rattle.meaning.specs.declared.Times.{Times}
 use Rattle.meaning.specs.declared.Times.the-variants.{Here, Before, After, Past, Future}
 use Rattle.method.specs.Stored.{Stored, baseOf, stampIn, held, heldPairs, firstRetained}
 use Rattle.method.specs.Counts.{countsTo}
-use Rattle.method.specs.Settle.{Sight, settle, pairsAfter, Turn, rowsOfTurn}
+use Rattle.method.specs.Settle.{Inputs, settle, pairsAfter, Turn, rowsOfTurn}
 
 -- the first point of a child that an unsettled point of its parent consults, with p points of the parent settled
 abbrev pub firstWanted : Times → ℕ → Point
@@ -36,15 +36,15 @@ unfoldable pub wantedFrom : List ℕ → (ℕ → ℕ) → ℕ → Point
 wantedFrom b count x = point (cond (eqb x (lastNode b)) (count x) (min (count x) (firstWanted (viewOf (nodeAt b (parentOf b x)) .times) (count (parentOf b x)) .0)))
 
 -- a node's rows at newly settled points, and its pairs at the last of them
-abbrev pub newRows : Sight → Node → Point → ℕ → List (List ℕ) → List (List (List ℕ))
+abbrev pub newRows : Inputs → Node → Point → ℕ → List (List ℕ) → List (List (List ℕ))
 newRows v node start count held = map (λ i. settle v held start i node) (pointsFrom start count)
 
-abbrev pub newPairs : Sight → Node → Point → ℕ → List (List ℕ) → List (List ℕ)
+abbrev pub newPairs : Inputs → Node → Point → ℕ → List (List ℕ) → List (List ℕ)
 newPairs v node start zero held = held
 newPairs v node start (suc count) held = pairsAfter v held start (point (start .0 + count)) (viewOf node)
 
 -- the turn of node x, which had settled as many points as before says and now has as many as after says
-unfoldable pub turnOf : List ℕ → List Entry → (ℕ → ℕ) → (ℕ → ℕ) → Sight → ℕ → Turn
+unfoldable pub turnOf : List ℕ → List Entry → (ℕ → ℕ) → (ℕ → ℕ) → Inputs → ℕ → Turn
 turnOf b es before after v x =
     record {
       low = wantedFrom b before x;
@@ -56,14 +56,14 @@ abbrev pub noTurn : Turn
 noTurn = record { low = point 0; rows = []; pairs = [] }
 
 -- what node x can look at, after the turns of the nodes below it
-abbrev pub sightOf : List ℕ → (Point → Stamp) → (ℕ → ℕ) → List Row → List Turn → Sight
-sightOf b τ after event turns = record { stamps = τ; free = λ y. free (formulaAt b y); count = after; rows = λ y. rowsOfTurn (getD turns y noTurn); event = event }
+abbrev pub inputsOf : List ℕ → (Point → Stamp) → (ℕ → ℕ) → List Row → List Turn → Inputs
+inputsOf b τ after event turns = record { stamps = τ; free = λ y. free (formulaAt b y); count = after; rows = λ y. rowsOfTurn (getD turns y noTurn); event = event }
 
 -- the turns of the first nodes, as many as the last argument says
 abbrev pub turnsTo : List ℕ → List Entry → (Point → Stamp) → (ℕ → ℕ) → (ℕ → ℕ) → List Row → ℕ → List Turn
 turnsTo b es τ before after event zero = []
 turnsTo b es τ before after event (suc x) =
-    turnsTo b es τ before after event x ++ turnOf b es before after (sightOf b τ after event (turnsTo b es τ before after event x)) x ∷ []
+    turnsTo b es τ before after event x ++ turnOf b es before after (inputsOf b τ after event (turnsTo b es τ before after event x)) x ∷ []
 
 -- how many points each node has settled
 unfoldable pub countsStored : Stored → List ℕ

@@ -14,9 +14,9 @@ use Rattle.method.specs.WellFormed.{wellFormed, Formed}
 use Rattle.method.proofs.Whole.{step-stored, step-given, log-ordered}
 use Rattle.method.proofs.Formed.{formed}
 use Rattle.method.proofs.Reached.{reached, stored-well-formed}
-use Rattle.lent.specs.Answers.{takeAnswer}
-use Rattle.lent.specs.Lent.{Lent, fitting, stored, lentWith, answerIn, lentAfter}
-use Rattle.lent.proofs.Stores.{stored-with, fitting-with}
+use Rattle.lent_state.specs.Answers.{takeAnswer}
+use Rattle.lent_state.specs.Lent.{Lent, fitting, stored, lentWith, answerIn, lentAfter}
+use Rattle.lent_state.proofs.Stores.{stored-with, fitting-with}
 use Rattle.monitor.specs.Reports.{logOf}
 use Rattle.monitor.proofs.Logs.{log-then}
 

@@ -16,14 +16,14 @@ use Rattle.meaning.proofs.Accepted.{accepted, nodes-most}
 use Rattle.method.specs.Stored.{storedOf}
 use Rattle.method.proofs.Lists.{gather-none}
 use Rattle.method.proofs.Reached.{empty-entries}
-use Rattle.shelf.specs.Entries.{entriesFrom}
+use Rattle.entries.specs.Entries.{entriesFrom}
 use Rattle.rulefile.specs.Checked.{answerOf}
 use Rattle.rulefile.specs.declared.Checked.{Checked}
 use Rattle.rulefile.specs.declared.Checked.the-variants.{Accepted, Cut, OtherVersion, SizeOut, Misshapen, WindowOut, FreeBroken, NotOneParent}
 use Rattle.rulefile.proofs.Checked.{the-type}
-use Rattle.shelf.specs.Appended.{atFront}
+use Rattle.entries.specs.Appended.{atFront}
 use Rattle.figures.proofs.Front.{front-read}
-use Rattle.lent.proofs.Memory.{sized-fits}
+use Rattle.lent_state.proofs.Memory.{sized-fits}
 use Rattle.monitor.specs.State.{blank, lentOf, startState}
 use Rattle.monitor.specs.Contracts.{Starts, stateFor}
 use Rattle.monitor.specs.declared.State.{State}

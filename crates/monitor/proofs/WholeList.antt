@@ -12,7 +12,7 @@ use Rattle.method.specs.WellFormed.{wellFormed}
 use Rattle.method.proofs.Whole.{log-ordered}
 use Rattle.method.proofs.Stepped.{kept-stored, open-stored}
 use Rattle.figures.specs.Fronts.{openAnswer}
-use Rattle.lent.specs.Lent.{Lent, stored}
+use Rattle.lent_state.specs.Lent.{Lent, stored}
 use Rattle.monitor.specs.State.{lentOf}
 use Rattle.monitor.specs.Contracts.{Starts}
 use Rattle.monitor.specs.Calls.{Call, Calls, takingOf, givenOf}

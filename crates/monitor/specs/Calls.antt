@@ -3,7 +3,7 @@ use Prim.Native.Nat.{ℕ}
 use mathlib.Core.Path.{_≡_}
 use mathlib.Core.List.{List, [], _∷_}
 use Rattle.meaning.specs.Keeper.{Taking, Given}
-use Rattle.lent.specs.Lent.{answerOf}
+use Rattle.lent_state.specs.Lent.{answerOf}
 use Rattle.monitor.specs.declared.State.{State}
 use Rattle.monitor.specs.declared.Step.{Step}
 use Rattle.monitor.specs.Contracts.{Takes}

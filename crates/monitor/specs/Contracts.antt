@@ -5,7 +5,7 @@ use mathlib.Core.List.{List}
 use Rattle.meaning.specs.Outcome.{Outcome, refused, given}
 use Rattle.meaning.specs.RuleFile.{Accepted, checking}
 use Rattle.rulefile.specs.Checked.{answerOf as checkedOf}
-use Rattle.lent.specs.Lent.{TakesLent}
+use Rattle.lent_state.specs.Lent.{TakesLent}
 use Rattle.monitor.specs.State.{lentOf, startState, blank}
 use Rattle.monitor.specs.declared.State.{State}
 use Rattle.monitor.specs.declared.Started.{Started}

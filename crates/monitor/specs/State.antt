@@ -3,7 +3,7 @@ use Prim.Native.Nat.{ℕ, _-_}
 use mathlib.Core.List.{List, [], _++_}
 use lib.ListN.{length, replicate}
 use Rattle.method.specs.Stored.{Stored}
-use Rattle.lent.specs.Lent.{Lent, lent, stored as storedIn}
+use Rattle.lent_state.specs.Lent.{Lent, lent, stored as storedIn}
 use Rattle.monitor.specs.declared.State.{State}
 
 -- a state's parts as they are lent

@@ -1,27 +1,30 @@
 // The monitor: its state, starting it, taking events, and the figures to be read off it.
 use figures::Open;
-use lent::Answer;
+use lent_state::Answer;
+use meaning::MOST_KEPT;
+use meaning::RULE_BYTES;
+use meaning::TIME_WORDS;
 use rulefile::Checked;
 ghost use mathlib.Core.Path.{_≡_};
 ghost use Prim.Native.Nat.{_≤_};
 ghost use lib.ListN.{length};
 ghost use Rattle.method.specs.Step.{keptStored};
 ghost use Rattle.figures.specs.Fronts.{openOf, openAnswer};
-ghost use Rattle.shelf.specs.Appended.{atFront};
+ghost use Rattle.entries.specs.Appended.{atFront};
 ghost use Rattle.monitor.specs.State.{stored, startState, blank};
 ghost use Rattle.monitor.specs.Contracts.{Starts, Takes};
 
 // What is kept between calls, by value: the rule's bytes and how many they are; the points accepted; the retained times and how many they are; the kept entries, each with its owner (a node twice, and 1 more for a pair), the number of its point or its age, and its four values; and their count.
 #[repr(C)]
 pub struct State {
-    pub rule: [u8; 652],
+    pub rule: [u8; RULE_BYTES],
     pub bytes: u32,
     pub points: u32,
-    pub times: [u32; 65],
+    pub times: [u32; TIME_WORDS],
     pub retained: u32,
-    pub owners: [u32; 512],
-    pub numbers: [u32; 512],
-    pub values: [u32; 2048],
+    pub owners: [u32; MOST_KEPT],
+    pub numbers: [u32; MOST_KEPT],
+    pub values: [u32; MOST_KEPT * 4],
     pub count: u32,
 }
 
@@ -55,14 +58,14 @@ fn zeros() -> State
     ensures { λ r. ⌜ r ≡ blank ⌝ }
 {
     State {
-        rule: [0; 652],
+        rule: [0; RULE_BYTES],
         bytes: 0,
         points: 0,
-        times: [0; 65],
+        times: [0; TIME_WORDS],
         retained: 0,
-        owners: [0; 512],
-        numbers: [0; 512],
-        values: [0; 2048],
+        owners: [0; MOST_KEPT],
+        numbers: [0; MOST_KEPT],
+        values: [0; MOST_KEPT * 4],
         count: 0,
     }
 }
@@ -72,7 +75,7 @@ fn empty(rule: &[u8]) -> State
     requires { ⌜ length (now rule) ≤ 652 ⌝ }
     ensures { λ r. ⌜ r ≡ startState (now (rule .entry)) ⌝ }
 {
-    let mut bytes = [0u8; 652];
+    let mut bytes = [0u8; RULE_BYTES];
     copy_bytes(rule, &mut bytes);
     let n = rule.len();
     let mut state = zeros();
@@ -102,7 +105,7 @@ pub fn take(state: State, event: &[u32], report: &mut [u32]) -> Step
     let mut owners = state.owners;
     let mut numbers = state.numbers;
     let mut values = state.values;
-    let left = lent::take(
+    let left = lent_state::take(
         &state.rule,
         state.bytes,
         state.points,

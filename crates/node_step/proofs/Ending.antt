@@ -14,8 +14,8 @@ use Rattle.method.specs.Stored.{Stored}
 use Rattle.method.specs.Step.{entriesNow, crowdedNow}
 use Rattle.method.specs.Room.{rowsMost, setsMost}
 use Rattle.room.specs.Room.{setIn, Sets}
-use Rattle.shelf.specs.Appended.{Extended}
-use Rattle.shelving.specs.Blocks.{MovedDown}
+use Rattle.entries.specs.Appended.{Extended}
+use Rattle.node_sets.specs.Blocks.{MovedDown}
 use Rattle.room.specs.declared.Child.{Child}
 use Rattle.node_step.specs.declared.Own.{Own}
 use Rattle.node_step.specs.declared.Spot.{Spot}

@@ -10,8 +10,8 @@ use Rattle.meaning.specs.RuleFile.{nodeCount, nodeAt}
 use Rattle.meaning.specs.Event.{pointOf}
 use Rattle.meaning.specs.declared.Point.{Point}
 use Rattle.method.specs.Stored.{Stored, held, heldPairs}
-use Rattle.method.specs.Settle.{Sight, settle, Turn, rowsOfTurn}
-use Rattle.method.specs.Step.{wantedFrom, newRows, newPairs, turnOf, noTurn, sightOf, turnsTo, countBefore, countAfter, stampsNow, turn}
+use Rattle.method.specs.Settle.{Inputs, settle, Turn, rowsOfTurn}
+use Rattle.method.specs.Step.{wantedFrom, newRows, newPairs, turnOf, noTurn, inputsOf, turnsTo, countBefore, countAfter, stampsNow, turn}
 use Rattle.method.proofs.Turns.{turns-at, points-length, getD-points, newRows-at}
 
 module _ (s : Stored) (w : List ℕ) where
@@ -19,8 +19,8 @@ module _ (s : Stored) (w : List ℕ) where
   abbrev pub lowerTurns : ℕ → List Turn
   lowerTurns = turnsTo (s .rule) (s .entries) (stampsNow s w) (countBefore s) (countAfter s w) (pointOf (s .rule) w .rows)
 
-  abbrev pub sight : ℕ → Sight
-  sight x = sightOf (s .rule) (stampsNow s w) (countAfter s w) (pointOf (s .rule) w .rows) (lowerTurns x)
+  abbrev pub sight : ℕ → Inputs
+  sight x = inputsOf (s .rule) (stampsNow s w) (countAfter s w) (pointOf (s .rule) w .rows) (lowerTurns x)
 
   abbrev pub low : ℕ → Point
   low = wantedFrom (s .rule) (countBefore s)

@@ -12,16 +12,16 @@ use Rattle.meaning.specs.Outcome.{mostRows}
 use Rattle.meaning.specs.declared.Point.{Point}
 use Rattle.meaning.specs.declared.Node.{Node}
 use Rattle.meaning.proofs.Points.{Tested, passed, failed, tested}
-use Rattle.method.specs.Settle.{Sight, settle}
+use Rattle.method.specs.Settle.{Inputs, settle}
 use Rattle.rowset.specs.Rows.{rowsFrom}
 use Rattle.rowset.proofs.Runs.{rows-length}
 use Rattle.room.specs.Room.{setIn, Sets}
 use Rattle.room.specs.declared.Child.{Child}
-use Rattle.room.proofs.Laid.{laid-fewer}
-use Rattle.shelf.specs.Appended.{Space, Extended, Pushed}
-use Rattle.shelf.proofs.Growth.{pushed-set, extended-none, extended-as, extended-then, extended-next}
+use Rattle.room.proofs.SetsInOrder.{laid-fewer}
+use Rattle.entries.specs.Appended.{Space, Extended, Pushed}
+use Rattle.entries.proofs.Growth.{pushed-set, extended-none, extended-as, extended-then, extended-next}
 use Rattle.since.specs.Since.{heldIn}
-use Rattle.settling.specs.Sights.{asked, SetMade, PointSettled}
+use Rattle.settling.specs.Inputs.{asked, SetMade, PointSettled}
 use Rattle.node_step.specs.Parts.{NextReady, NextSettled, SeesFirst, PointsReady, PointsSettled}
 use Rattle.node_step.proofs.Laying.{run-few, sets-more, extended-front}
 
@@ -65,7 +65,7 @@ module _ (b w rows at times : List ℕ) (base : Point) (oldAges oldValues : List
     pub reached : i .0 ≤ end .0
     pub more : Extended rows at rows' at' n (i .0 - start .0) (λ q. setIn rows' at' (n + q))
     pub sets : Sets rows' at' (n + (i .0 - start .0))
-    pub there : (v : Sight) → SeesFirst b w rows at times base oldAges oldValues left right n start end node v → (q : ℕ) → q < i .0 - start .0 → setIn rows' at' (n + q) ≡ settle v (heldIn oldAges oldValues) start (point (start .0 + q)) node
+    pub there : (v : Inputs) → SeesFirst b w rows at times base oldAges oldValues left right n start end node v → (q : ℕ) → q < i .0 - start .0 → setIn rows' at' (n + q) ≡ settle v (heldIn oldAges oldValues) start (point (start .0 + q)) node
 
 module _ {b w rows at times : List ℕ} {base : Point} {oldAges oldValues : List ℕ} {left right : Child} {n : ℕ} {start end : Point} {node : Node}
     (r : PointsReady b w rows at times base oldAges oldValues left right n start end node) where
@@ -129,7 +129,7 @@ module _ {b w rows at times : List ℕ} {base : Point} {oldAges oldValues : List
               there = λ v s q m. go v s q (rw e at m) (tested (ltb q (i .0 - start .0)));
             }
           where
-            go : (v : Sight) → SeesFirst b w rows at times base oldAges oldValues left right n start end node v → (q : ℕ) → q < i .0 - start .0 + 1 → Tested (ltb q (i .0 - start .0))
+            go : (v : Inputs) → SeesFirst b w rows at times base oldAges oldValues left right n start end node v → (q : ℕ) → q < i .0 - start .0 + 1 → Tested (ltb q (i .0 - start .0))
                 → setIn rows'' at'' (n + q) ≡ settle v (heldIn oldAges oldValues) start (point (start .0 + q)) node
             go v s q m (passed d) =
                 let o : q < i .0 - start .0 = ltb-true q (i .0 - start .0) d in

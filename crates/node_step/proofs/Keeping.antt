@@ -13,11 +13,11 @@ use Rattle.meaning.specs.declared.Node.{Node}
 use Rattle.rowset.specs.Rows.{rowAt}
 use Rattle.kinds.specs.Kinds.{pairAt, pairsFrom, PairsThere}
 use Rattle.room.specs.declared.Child.{Child}
-use Rattle.shelf.proofs.Listed.{listed-same, listed-moved, map-twice}
-use Rattle.shelving.specs.Shelved.{agedEntries}
-use Rattle.shelving.specs.Blocks.{RoomToKeep, EntriesPut}
+use Rattle.entries.proofs.Listed.{listed-same, listed-moved, map-twice}
+use Rattle.node_sets.specs.Shelved.{agedEntries}
+use Rattle.node_sets.specs.Blocks.{RoomToKeep, EntriesPut}
 use Rattle.since.specs.Since.{heldIn, PairsPut}
-use Rattle.settling.specs.Sights.{PairsSettled}
+use Rattle.settling.specs.Inputs.{PairsSettled}
 use Rattle.node_step.specs.Parts.{PairsReady, PairsKept, BlockPut}
 use Rattle.node_step.specs.Walks.{blockWord, blockIn}
 

@@ -10,8 +10,8 @@ use Rattle.meaning.specs.Outcome.{mostRows}
 use Rattle.meaning.proofs.Points.{Tested, passed, failed, tested}
 use Rattle.rowset.proofs.Runs.{rows-length}
 use Rattle.room.specs.Room.{setIn, Sets}
-use Rattle.room.proofs.Laid.{laid-fewer}
-use Rattle.shelf.specs.Appended.{Extended}
+use Rattle.room.proofs.SetsInOrder.{laid-fewer}
+use Rattle.entries.specs.Appended.{Extended}
 
 set-long : (rows at : List ℕ) (q : ℕ) → length (setIn rows at q) ≡ getD at (q + 1) 0 - getD at q 0
 set-long rows at q = rows-length rows (getD at q 0) (getD at (q + 1) 0 - getD at q 0)

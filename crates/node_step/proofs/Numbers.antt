@@ -17,8 +17,8 @@ use Rattle.method.specs.Room.{rowsMost, setsMost}
 use Rattle.method.proofs.Bounds.{before-after, after-most, wanted-before, wanted-after, wanted-grows}
 use Rattle.method.proofs.Room.{entries-rows}
 use Rattle.rowset.specs.Sets.{Run}
-use Rattle.shelf.specs.Entries.{entriesFrom}
-use Rattle.shelving.specs.Shelved.{setEntries, Spaces}
+use Rattle.entries.specs.Entries.{entriesFrom}
+use Rattle.node_sets.specs.Shelved.{setEntries, Spaces}
 use Rattle.node_step.specs.declared.Own.{Own}
 use Rattle.node_step.specs.Figures.{NodeFigures, CallReady}
 use Rattle.node_step.specs.Walks.{RoomFor}

@@ -13,10 +13,10 @@ use Rattle.meaning.specs.Order.{OfLength}
 use Rattle.meaning.proofs.Rows.{select-at}
 use Rattle.method.specs.Stored.{heldPairs}
 use Rattle.kinds.specs.Kinds.{pairAt, pairsFrom, PairsThere}
-use Rattle.shelf.specs.Entries.{entryAt, entriesFrom}
-use Rattle.shelf.proofs.Listed.{listed-moved}
-use Rattle.shelving.specs.Shelved.{agedEntries}
-use Rattle.shelving.proofs.Paired.{pairOf, pairs-back, entries-pairs}
+use Rattle.entries.specs.Entries.{entryAt, entriesFrom}
+use Rattle.entries.proofs.Listed.{listed-moved}
+use Rattle.node_sets.specs.Shelved.{agedEntries}
+use Rattle.node_sets.proofs.Paired.{pairOf, pairs-back, entries-pairs}
 use Rattle.since.specs.Since.{heldIn}
 use Rattle.node_step.proofs.Keeping.{row-same}
 

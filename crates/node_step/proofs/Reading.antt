@@ -5,7 +5,7 @@ use mathlib.Core.Path.{_≡_, sym, ap, _∙_}
 use mathlib.Core.List.{List, List·Memᴰ}
 use lib.ListN.{getD}
 use Rattle.meaning.specs.Log.{point}
-use Rattle.method.proofs.Seen.{one, two}
+use Rattle.method.proofs.Inputs.{one, two}
 use Rattle.room.specs.declared.Child.{Child}
 use Rattle.meaning.specs.View.{childrenIn}
 use Rattle.meaning.specs.declared.Children.{Children}

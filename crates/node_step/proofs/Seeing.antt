@@ -16,12 +16,12 @@ use Rattle.method.specs.Stored.{Stored, stampIn}
 use Rattle.method.specs.Step.{firstWanted, countBefore, countAfter, stampsNow, turn}
 use Rattle.method.specs.WellFormed.{pairsFit}
 use Rattle.method.proofs.Bounds.{below, wanted-child, after-step, consults}
-use Rattle.method.proofs.Seen.{one, two}
+use Rattle.method.proofs.Inputs.{one, two}
 use Rattle.kinds.specs.Kinds.{PairsThere}
-use Rattle.room.specs.Room.{setIn, Laid}
+use Rattle.room.specs.Room.{setIn, SetsInOrder}
 use Rattle.room.specs.declared.Child.{Child}
 use Rattle.since.specs.Since.{heldIn}
-use Rattle.settling.specs.Sights.{Seen, SeenAll, Sees, asked}
+use Rattle.settling.specs.Inputs.{ChildInputs, ChildrenInputs, InputsStand, asked}
 use Rattle.node_step.specs.Figures.{CallReady, lowIn}
 use Rattle.node_step.specs.Walks.{ChildStands, ChildrenStand}
 use Rattle.node_step.specs.Parts.{childIn, ChildSetsAre, ChildFigures}
@@ -51,7 +51,7 @@ module _ {s : Stored} {w os ns vs stamps f : List ℕ} (g : CallReady s w os ns 
           }
 
       -- they are what the node sees, wherever the first n sets are the same
-      seen : y < x → (rows' at' : List ℕ) → ((q : ℕ) → q < n → setIn rows' at' q ≡ setIn rows at q) → Seen (sight s w x) rows' at' y (childIn f y first)
+      seen : y < x → (rows' at' : List ℕ) → ((q : ℕ) → q < n → setIn rows' at' q ≡ setIn rows at q) → ChildInputs (sight s w x) rows' at' y (childIn f y first)
       seen o rows' at' e =
           let m : y < nodeCount (s .rule) = omega arith in
           let k = g .each y m in
@@ -74,13 +74,13 @@ module _ {s : Stored} {w os ns vs stamps f : List ℕ} (g : CallReady s w os ns 
     reach-all (y ∷ z ∷ zs) i p q left right e c m o = rw (e .0, e .1) (reaches y p (c .0) (i y one) m o, reaches z q (c .1) (i z two) m o)
 
     seen-all : (cs : List ℕ) → ((y : ℕ) → List·Memᴰ y cs → y < x) → (p q : ℕ) (left right : Child) → ChildSetsAre f cs p q left right → ChildrenStand s w rows at n cs p q → (rows' at' : List ℕ) → ((k : ℕ) → k < n → setIn rows' at' k ≡ setIn rows at k)
-        → SeenAll (sight s w x) rows' at' cs left right
+        → ChildrenInputs (sight s w x) rows' at' cs left right
     seen-all [] i p q left right e c rows' at' t = tt
     seen-all (y ∷ []) i p q left right e c rows' at' t = rw e (seen y p c (i y one) rows' at' t)
     seen-all (y ∷ z ∷ zs) i p q left right e c rows' at' t = rw (e .0, e .1) (seen y p (c .0) (i y one) rows' at' t, seen z q (c .1) (i z two) rows' at' t)
 
     module _ (p q : ℕ) (left right : Child) (e : ChildSetsAre f (childrenOf (nodeAt (s .rule) x)) p q left right) (c : ChildrenStand s w rows at n (childrenOf (nodeAt (s .rule) x)) p q) where
-      pub sees : (rows' at' : List ℕ) → ((k : ℕ) → k < n → setIn rows' at' k ≡ setIn rows at k) → Sees (sight s w x) (s .rule) w rows' at' stamps (point (s .points + 1 - length stamps)) left right (nodeAt (s .rule) x)
+      pub sees : (rows' at' : List ℕ) → ((k : ℕ) → k < n → setIn rows' at' k ≡ setIn rows at k) → InputsStand (sight s w x) (s .rule) w rows' at' stamps (point (s .points + 1 - length stamps)) left right (nodeAt (s .rule) x)
       unfolding stampsNow pointOf
       sees rows' at' t =
           record {
@@ -89,7 +89,7 @@ module _ {s : Stored} {w os ns vs stamps f : List ℕ} (g : CallReady s w os ns 
             children = seen-all (childrenOf (nodeAt (s .rule) x)) (below (s .rule) (a g) (ok g) x l) p q left right e c rows' at' t;
           }
 
-      pub asks : (oldAges oldValues : List ℕ) → PairsThere oldAges oldValues (length oldAges) → pairsFit (s .rule) x (viewOf (nodeAt (s .rule) x)) (heldIn oldAges oldValues) ≡ true → (m : ℕ) → n ≤ m → (i : Point) → countBefore s x ≤ i .0 → i .0 < countAfter s w x → (rows' at' : List ℕ) → Laid rows' at' m
+      pub asks : (oldAges oldValues : List ℕ) → PairsThere oldAges oldValues (length oldAges) → pairsFit (s .rule) x (viewOf (nodeAt (s .rule) x)) (heldIn oldAges oldValues) ≡ true → (m : ℕ) → n ≤ m → (i : Point) → countBefore s x ≤ i .0 → i .0 < countAfter s w x → (rows' at' : List ℕ) → SetsInOrder rows' at' m
           → asked (s .rule) w rows' at' oldAges oldValues left right (point (countBefore s x)) i (nodeAt (s .rule) x)
       asks oldAges oldValues h fit m o i u v rows' at' laid =
           point-asks (s .rule) w oldAges oldValues left right (point (countBefore s x)) i (countAfter s w) laid h (g .event) u x (nodeAt (s .rule) x) (as-many (s .rule) x (accepted (s .rule) (a g) (ok g) .each x l))

@@ -19,15 +19,15 @@ use Rattle.meaning.specs.declared.Times.the-variants.{Here, Before, After, Past
 use Rattle.method.specs.Counts.{ConsultsBy, Consults}
 use Rattle.method.specs.Step.{firstWanted}
 use Rattle.method.specs.WellFormed.{pairsFit}
-use Rattle.method.proofs.Seen.{one, two}
+use Rattle.method.proofs.Inputs.{one, two}
 use Rattle.method.proofs.Rowed.{pairs-each}
 use Rattle.kinds.specs.Kinds.{EventThere, PairsThere}
-use Rattle.room.specs.Room.{Laid}
+use Rattle.room.specs.Room.{SetsInOrder}
 use Rattle.room.specs.declared.Child.{Child}
-use Rattle.room.proofs.Laid.{laid-fewer}
+use Rattle.room.proofs.SetsInOrder.{laid-fewer}
 use Rattle.untils.specs.Until.{Stand}
 use Rattle.since.specs.Since.{heldIn}
-use Rattle.settling.specs.Sights.{ChildThere, ChildrenThere, asked}
+use Rattle.settling.specs.Inputs.{ChildThere, ChildrenThere, asked}
 
 -- a child that has settled count points has its sets among the first n, from a point on that is at most `wanted`
 pub record Reaches (n wanted count : ℕ) (c : Child) : Type 0 where
@@ -41,7 +41,7 @@ ChildrenReach n wanted counts [] left right = Unit
 ChildrenReach n wanted counts (y ∷ []) left right = Reaches n wanted (counts y) left
 ChildrenReach n wanted counts (y ∷ z ∷ zs) left right = Reaches n wanted (counts y) left × Reaches n wanted (counts z) right
 
-module _ {rows at : List ℕ} {n wanted count : ℕ} {c : Child} (laid : Laid rows at n) (h : Reaches n wanted count c) where
+module _ {rows at : List ℕ} {n wanted count : ℕ} {c : Child} (laid : SetsInOrder rows at n) (h : Reaches n wanted count c) where
   child-stands : (j : Point) (k : ℕ) → wanted ≤ j .0 → j .0 ≤ k → k ≤ count → Stand rows at (c .first) (c .low) j k
   child-stands j k l o u =
       let d = h .consulted in
@@ -52,7 +52,7 @@ module _ {rows at : List ℕ} {n wanted count : ℕ} {c : Child} (laid : Laid ro
   child-at j l o = child-stands j (j .0 + 1) l (omega arith) (omega arith)
 
 module _ (b w : List ℕ) {rows at : List ℕ} (oldAges oldValues : List ℕ) (left right : Child) (start i : Point) {n : ℕ} (counts : ℕ → ℕ)
-    (laid : Laid rows at n) (pairs : PairsThere oldAges oldValues (length oldAges)) (event : EventThere w) (l : start .0 ≤ i .0) where
+    (laid : SetsInOrder rows at n) (pairs : PairsThere oldAges oldValues (length oldAges)) (event : EventThere w) (l : start .0 ≤ i .0) where
   -- a child's sets, as the node's times look at them
   child-there : (t : Times) {count : ℕ} {c : Child} → Reaches n (firstWanted t (start .0) .0) count c → ConsultsBy count i t → ChildThere rows at start i t c
   child-there Here r u = record { sets = child-at laid r i l u; settled = omega (arith, r .counted) }

@@ -23,15 +23,15 @@ use Rattle.method.specs.Step.{newPairs, wantedFrom, countBefore, countAfter, tu
 use Rattle.method.specs.WellFormed.{setFits, pairsFit, nodeFits}
 use Rattle.method.specs.Room.{rowsMost, setsMost}
 use Rattle.method.proofs.Turns.{gather-over}
-use Rattle.room.specs.Room.{setAt, Laid, Sets}
+use Rattle.room.specs.Room.{setAt, SetsInOrder, Sets}
 use Rattle.room.specs.declared.Child.{Child}
-use Rattle.room.proofs.Laid.{laid-fewer}
-use Rattle.shelf.specs.Entries.{entriesFrom}
-use Rattle.shelf.specs.Appended.{Extended}
-use Rattle.shelf.proofs.Growth.{extended-as, extended-then}
-use Rattle.shelving.specs.Shelved.{setEntries, agedEntries, Loaded}
+use Rattle.room.proofs.SetsInOrder.{laid-fewer}
+use Rattle.entries.specs.Entries.{entriesFrom}
+use Rattle.entries.specs.Appended.{Extended}
+use Rattle.entries.proofs.Growth.{extended-as, extended-then}
+use Rattle.node_sets.specs.Shelved.{setEntries, agedEntries, Loaded}
 use Rattle.since.specs.Since.{heldIn}
-use Rattle.settling.specs.Sights.{asked}
+use Rattle.settling.specs.Inputs.{asked}
 use Rattle.kinds.specs.Kinds.{PairsThere}
 use Rattle.node_step.specs.declared.Own.{Own}
 use Rattle.node_step.specs.declared.Spot.{Spot}
@@ -148,7 +148,7 @@ module _ {s : Stored} {w os ns vs stamps f : List ℕ} {x : ℕ} {o : Own} {spot
   pub seen : SeesFirst (s .rule) w rows₁ at₁ stamps base oldAges oldValues left right (spot .sets + (o .before - o .low .0)) (point (o .before)) (point (o .after)) node (sight s w x)
   seen rows' at' e = rw is (sees g x l rows at (spot .sets) (spot .left) (spot .right) left right (rw is at (k .children)) (k .stand) rows' at' (λ k u. e k (omega arith) ∙ loaded .earlier k u))
 
-  point-asks : (i : Point) → o .before ≤ i .0 → i .0 < o .after → (rows' at' : List ℕ) → Laid rows' at' (spot .sets + (o .before - o .low .0))
+  point-asks : (i : Point) → o .before ≤ i .0 → i .0 < o .after → (rows' at' : List ℕ) → SetsInOrder rows' at' (spot .sets + (o .before - o .low .0))
       → asked (s .rule) w rows' at' oldAges oldValues left right (point (o .before)) i node
   point-asks i u v rows' at' laid =
       rw (is, before-is g x l h)
@@ -272,5 +272,5 @@ module _ {s : Stored} {w os ns vs stamps f : List ℕ} {x : ℕ} {o : Own} {spot
           → BlockPut x on ov bl on' ov' bl' (spot .kept) kept' (entriesNow s w x)
       block-now b = rw entries-now at (b .gives (sight s w x) (seen rows₂ at₂ (p .more told .earlier)))
 
-      pub down-laid : Laid rows₂ at₂ (spot .below + (spot .sets - spot .below) + (o .after - o .low .0))
+      pub down-laid : SetsInOrder rows₂ at₂ (spot .below + (spot .sets - spot .below) + (o .after - o .low .0))
       down-laid = let z : spot .below + (spot .sets - spot .below) ≡ spot .sets = omega (arith, k .below) in rw z (whole .laid)

@@ -11,8 +11,8 @@ use Rattle.method.specs.Step.{wantedFrom, countBefore, countAfter}
 use Rattle.method.specs.WellFormed.{Formed}
 use Rattle.method.specs.Room.{othersIn}
 use Rattle.kinds.specs.Kinds.{inMask, EventThere}
-use Rattle.shelf.specs.Entries.{entriesFrom}
-use Rattle.shelving.specs.Shelved.{setEntries, agedEntries}
+use Rattle.entries.specs.Entries.{entriesFrom}
+use Rattle.node_sets.specs.Shelved.{setEntries, agedEntries}
 
 abbrev pub figure : List ℕ → ℕ → ℕ → ℕ
 figure f x k = getD f (x * 9 + k) 0

@@ -9,15 +9,15 @@ use Rattle.meaning.specs.Outcome.{mostRows}
 use Rattle.meaning.specs.Kept.{Entry}
 use Rattle.meaning.specs.declared.Point.{Point}
 use Rattle.meaning.specs.declared.Node.{Node}
-use Rattle.method.specs.Settle.{Sight, settle}
+use Rattle.method.specs.Settle.{Inputs, settle}
 use Rattle.method.specs.Step.{newPairs}
-use Rattle.room.specs.Room.{setIn, setAt, Laid, Sets}
+use Rattle.room.specs.Room.{setIn, setAt, SetsInOrder, Sets}
 use Rattle.room.specs.declared.Child.{Child}
-use Rattle.shelf.specs.Appended.{Space, Extended}
-use Rattle.shelving.specs.Shelved.{setEntries, agedEntries, Spaces}
-use Rattle.shelving.specs.Blocks.{RoomToKeep, EntriesPut}
+use Rattle.entries.specs.Appended.{Space, Extended}
+use Rattle.node_sets.specs.Shelved.{setEntries, agedEntries, Spaces}
+use Rattle.node_sets.specs.Blocks.{RoomToKeep, EntriesPut}
 use Rattle.since.specs.Since.{heldIn}
-use Rattle.settling.specs.Sights.{asked, Sees}
+use Rattle.settling.specs.Inputs.{asked, InputsStand}
 use Rattle.node_step.specs.declared.Own.{Own}
 use Rattle.node_step.specs.Figures.{maskIn, lowIn, beforeIn, afterIn, wantIn, beginIn, pairsIn, endIn}
 use Rattle.node_step.specs.Walks.{blockWord, blockIn}
@@ -62,20 +62,20 @@ module _ (b w rows at times : List ℕ) (base : Point) (oldAges oldValues : List
     pub stay : Extended rows at rows' at' n 0 (λ q. [])
     pub more : done ≡ true → Extended rows at rows' at' n 1 (λ q. setIn rows' at' n)
     pub few : done ≡ true → length (setIn rows' at' n) ≤ mostRows
-    pub there : done ≡ true → (v : Sight) → Sees v b w rows at times base left right node → setIn rows' at' n ≡ settle v (heldIn oldAges oldValues) start i node
-    pub crowded : done ≡ false → (v : Sight) → Sees v b w rows at times base left right node → mostRows < length (settle v (heldIn oldAges oldValues) start i node)
+    pub there : done ≡ true → (v : Inputs) → InputsStand v b w rows at times base left right node → setIn rows' at' n ≡ settle v (heldIn oldAges oldValues) start i node
+    pub crowded : done ≡ false → (v : Inputs) → InputsStand v b w rows at times base left right node → mostRows < length (settle v (heldIn oldAges oldValues) start i node)
 
 module _ (b w rows at times : List ℕ) (base : Point) (oldAges oldValues : List ℕ) (left right : Child) (n : ℕ) (start end : Point) (node : Node) where
-  -- a Sight that says of the node's children what stands in any words whose first n sets are these
-  abbrev pub SeesFirst : Sight → Type 0
-  SeesFirst v = (rows' at' : List ℕ) → ((q : ℕ) → q < n → setIn rows' at' q ≡ setIn rows at q) → Sees v b w rows' at' times base left right node
+  -- a Inputs that say of the node's children what stands in any words whose first n sets are these
+  abbrev pub SeesFirst : Inputs → Type 0
+  SeesFirst v = (rows' at' : List ℕ) → ((q : ℕ) → q < n → setIn rows' at' q ≡ setIn rows at q) → InputsStand v b w rows' at' times base left right node
 
   -- what must stand for the points from start on before end: n sets, in which each point finds what its kind asks for, and room for the points' sets
   pub record PointsReady : Type 0 where
     pub sets : Sets rows at n
     pub ordered : start .0 ≤ end .0
     pub small : n + (end .0 - start .0) < 4294967296
-    pub asks : (i : Point) → start .0 ≤ i .0 → i .0 < end .0 → (rows' at' : List ℕ) → Laid rows' at' n → asked b w rows' at' oldAges oldValues left right start i node
+    pub asks : (i : Point) → start .0 ≤ i .0 → i .0 < end .0 → (rows' at' : List ℕ) → SetsInOrder rows' at' n → asked b w rows' at' oldAges oldValues left right start i node
     pub space : Spaces rows at n (end .0 - start .0) (32 * (end .0 - start .0))
 
   -- the points' sets stand behind the others, or one of the points has too many rows
@@ -83,24 +83,24 @@ module _ (b w rows at times : List ℕ) (base : Point) (oldAges oldValues : List
     pub stay : Extended rows at rows' at' n 0 (λ q. [])
     pub more : done ≡ true → Extended rows at rows' at' n (end .0 - start .0) (λ q. setIn rows' at' (n + q))
     pub sets : done ≡ true → Sets rows' at' (n + (end .0 - start .0))
-    pub there : done ≡ true → (v : Sight) → SeesFirst v → (q : ℕ) → q < end .0 - start .0 → setIn rows' at' (n + q) ≡ settle v (heldIn oldAges oldValues) start (point (start .0 + q)) node
-    pub crowded : done ≡ false → (v : Sight) → SeesFirst v → (i : Point) × (start .0 ≤ i .0) × (i .0 < end .0) × (mostRows < length (settle v (heldIn oldAges oldValues) start i node))
+    pub there : done ≡ true → (v : Inputs) → SeesFirst v → (q : ℕ) → q < end .0 - start .0 → setIn rows' at' (n + q) ≡ settle v (heldIn oldAges oldValues) start (point (start .0 + q)) node
+    pub crowded : done ≡ false → (v : Inputs) → SeesFirst v → (i : Point) × (start .0 ≤ i .0) × (i .0 < end .0) × (mostRows < length (settle v (heldIn oldAges oldValues) start i node))
 
 -- ---- what is kept
 
 module _ (b w rows at times : List ℕ) (base : Point) (oldAges oldValues : List ℕ) (left right : Child) (start end : Point) (node : Node) (on ov : List ℕ) (kept : ℕ) where
-  -- what must stand for the pairs at the last of the points from start on before end, or where there is none for the old pairs; by a Sight that says what stands, they can be counted
+  -- what must stand for the pairs at the last of the points from start on before end, or where there is none for the old pairs; by a Inputs that say what stands, they can be counted
   pub record PairsReady : Type 0 where
     pub ordered : start .0 ≤ end .0
     pub asks : start .0 < end .0 → asked b w rows at oldAges oldValues left right start (point (end .0 - 1)) node
-    pub sight : Sight
-    pub sees : Sees sight b w rows at times base left right node
+    pub sight : Inputs
+    pub sees : InputsStand sight b w rows at times base left right node
     pub held : length oldAges * 4 ≤ length oldValues
     pub room : RoomToKeep on ov kept
 
   -- the pairs are put behind what is kept
   pub record PairsKept (on' ov' : List ℕ) (kept' : ℕ) : Type 0 where
-    pub gives : (v : Sight) → Sees v b w rows at times base left right node → (x : ℕ) → EntriesPut x 1 on ov on' ov' kept kept' (agedEntries x (newPairs v node start (end .0 - start .0) (heldIn oldAges oldValues)))
+    pub gives : (v : Inputs) → InputsStand v b w rows at times base left right node → (x : ℕ) → EntriesPut x 1 on ov on' ov' kept kept' (agedEntries x (newPairs v node start (end .0 - start .0) (heldIn oldAges oldValues)))
 
 -- node x's entries es are put behind kept others, where there is room, and its words in the table say where
 pub record BlockPut (x : ℕ) (on ov bl on' ov' bl' : List ℕ) (kept kept' : ℕ) (es : List Entry) : Type 0 where
@@ -121,11 +121,11 @@ pub record BlockReady (b w rows at times : List ℕ) (base : Point) (oldAges old
   pub low-want : o .low .0 ≤ o .want .0
   pub want-after : o .want .0 ≤ o .after
   pub small : o .after < 4294967296
-  pub laid : Laid rows at (first + (o .after - o .low .0))
+  pub laid : SetsInOrder rows at (first + (o .after - o .low .0))
   pub pairs : PairsReady b w rows at times base oldAges oldValues left right (point (o .before)) (point (o .after)) node on ov kept
   pub table : x * 3 + 3 ≤ length bl
 
 -- its rows at the points that are wanted, and then its pairs, are its block
 pub record BlockKept (b w rows at times : List ℕ) (base : Point) (oldAges oldValues : List ℕ) (left right : Child) (first : ℕ) (o : Own) (node : Node) (on ov bl : List ℕ) (x kept : ℕ) (on' ov' bl' : List ℕ) (kept' : ℕ) : Type 0 where
-  pub gives : (v : Sight) → Sees v b w rows at times base left right node
+  pub gives : (v : Inputs) → InputsStand v b w rows at times base left right node
       → BlockPut x on ov bl on' ov' bl' kept kept' (setEntries x (setAt rows at first (o .low)) (o .want) (o .after - o .want .0) ++ agedEntries x (newPairs v node (point (o .before)) (o .after - o .before) (heldIn oldAges oldValues)))

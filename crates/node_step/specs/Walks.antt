@@ -14,7 +14,7 @@ use Rattle.method.specs.Step.{turn, entriesNow, storedNow, crowdedNow}
 use Rattle.method.specs.Room.{rowsMost, setsMost}
 use Rattle.rowset.specs.Rows.{rowAt}
 use Rattle.room.specs.Room.{setIn, Sets}
-use Rattle.shelf.specs.Appended.{Extended}
+use Rattle.entries.specs.Appended.{Extended}
 use Rattle.node_step.specs.declared.Place.{Place}
 
 -- What each node keeps goes to words for numbers and words for rows; a table has three words to a node: where its rows begin there, where its pairs begin, and the entry behind them.

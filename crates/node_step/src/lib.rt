@@ -1,5 +1,7 @@
 // A node's own step in a call: its kept sets are loaded behind its children's, its newly settled points are settled, what is still wanted of it is kept, and its sets take the place of its children's.
 use meaning::Children;
+use meaning::MOST_NODES;
+use meaning::MOST_ROWS;
 use meaning::Node;
 use meaning::Point;
 use room::Child;
@@ -23,7 +25,13 @@ pub struct Spot {
     pub kept: usize,
 }
 
-// Where a step or a walk ends: so many entries are kept; and the lowest node that is crowded, 32 where there is none.
+// Rows at most that a set has.
+const MOST: usize = MOST_ROWS as usize;
+
+// The number that stands for no node: one more than the last of as many as a rule may have.
+pub const NO_NODE: u8 = MOST_NODES as u8;
+
+// Where a step or a walk ends: so many entries are kept; and the lowest node that is crowded, NO_NODE where there is none.
 pub struct Place {
     pub kept: usize,
     pub low: u8,
@@ -145,10 +153,10 @@ fn settle_next(
         i,
         &mut out,
     );
-    if 32 < k {
+    if MOST < k {
         return false;
     }
-    shelf::push(&out, 0, k, rows, at, n);
+    entries::push(&out, 0, k, rows, at, n);
     true
 }
 
@@ -220,7 +228,7 @@ fn keep_pairs_at(
     ensures { λ r. ⌜ PairsKept (now (rule .entry)) (now (event .entry)) (now (rows .entry)) (now (at .entry)) (now (times .entry)) base (now («old_ages» .entry)) (now («old_values» .entry)) (children .left) (children .right) start end node (now («out_numbers» .entry)) (now («out_values» .entry)) kept (now («out_numbers» .exit)) (now («out_values» .exit)) r ⌝ }
 {
     if end.0 <= start.0 {
-        return shelving::keep_pairs(old_ages, old_values, out_numbers, out_values, kept);
+        return node_sets::keep_pairs(old_ages, old_values, out_numbers, out_values, kept);
     }
     if out_numbers.len() < kept {
         return kept;
@@ -279,7 +287,7 @@ fn keep_node(
     ensures { λ r. ⌜ BlockKept (now (rule .entry)) (now (event .entry)) (now (rows .entry)) (now (at .entry)) (now (times .entry)) base (now («old_ages» .entry)) (now («old_values» .entry)) (children .left) (children .right) (spot .sets) own node (now («out_numbers» .entry)) (now («out_values» .entry)) (now (blocks .entry)) x (spot .kept) (now («out_numbers» .exit)) (now («out_values» .exit)) (now (blocks .exit)) r ⌝ }
 {
     let n = (own.after - own.want.0) as usize;
-    let pairs = shelving::keep_sets(
+    let pairs = node_sets::keep_sets(
         rows,
         at,
         spot.sets,
@@ -346,7 +354,7 @@ pub fn own_step(
     let to = own.end;
     let old_ages = &numbers[from..to];
     let old_values = &values[from * 4..to * 4];
-    shelving::load_sets(
+    node_sets::load_sets(
         numbers,
         values,
         own.begin,
@@ -397,6 +405,6 @@ pub fn own_step(
         x,
         spot,
     );
-    shelving::move_down(rows, at, spot.below, spot.sets - spot.below, made);
-    Place { kept, low: 32 }
+    node_sets::move_down(rows, at, spot.below, spot.sets - spot.below, made);
+    Place { kept, low: NO_NODE }
 }

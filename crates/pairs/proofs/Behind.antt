@@ -17,8 +17,8 @@ use Rattle.rowset.specs.Rows.{rowAt}
 use Rattle.meaning.proofs.Order.{asymmetric}
 use Rattle.rowset.proofs.Runs.{run-append, run-same}
 use Rattle.kinds.specs.Kinds.{pairAt, pairsFrom}
-use Rattle.shelf.specs.Appended.{WordsPut}
-use Rattle.shelf.proofs.Listed.{listed-moved, map-twice}
+use Rattle.entries.specs.Appended.{WordsPut}
+use Rattle.entries.proofs.Listed.{listed-moved, map-twice}
 use Rattle.pairs.specs.Pairs.{PairRoom, PairsStand, PairsAdded, grownPairs, Behind}
 use Rattle.pairs.proofs.Runs.{pairs-length}
 use Rattle.pairs.proofs.Growing.{pairs-as}

@@ -10,7 +10,7 @@ ghost use Rattle.meaning.specs.Order.{before, ascending};
 ghost use Rattle.rowset.specs.Rows.{wordsOf, rowsFrom, placeOf};
 ghost use Rattle.rowset.specs.Sets.{Run};
 ghost use Rattle.kinds.specs.Kinds.{pairAt, pairsFrom, PairsThere};
-ghost use Rattle.shelf.specs.Appended.{WordsPut};
+ghost use Rattle.entries.specs.Appended.{WordsPut};
 ghost use Rattle.pairs.specs.Pairs.{PairRoom, PairsAdded, Rising, Below, grownPairs, Behind};
 
 // The order of pairs: the age first, then the row.
@@ -260,7 +260,7 @@ pub fn add_grown(
 {
     if fits_behind(old_ages, m, by, most, ages, n) {
         put_grown(old_ages, m, by, ages, n);
-        shelf::copy_words(old_values, m * 4, values, n * 4);
+        entries::copy_words(old_values, m * 4, values, n * 4);
         return n + m;
     }
     add_each_grown(old_ages, old_values, m, by, most, ages, values, n)

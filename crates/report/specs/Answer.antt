@@ -5,11 +5,11 @@ use mathlib.Core.List.{List}
 use lib.Dec.{ltb}
 use Rattle.meaning.specs.Outcome.{Outcome, refused, given, notAReport}
 use Rattle.meaning.specs.Report.{pointsIn, freeIn, countIn, rowsBefore, inForm}
-use Rattle.report.specs.declared.Counted.{Counted}
-use Rattle.report.specs.declared.Counted.the-variants.{Rows, Refused}
+use Rattle.report.specs.declared.RowCount.{RowCount}
+use Rattle.report.specs.declared.RowCount.the-variants.{Rows, Refused}
 use Rattle.report.specs.declared.Part.{Part}
 
-abbrev pub answerOf : Counted → Outcome ℕ
+abbrev pub answerOf : RowCount → Outcome ℕ
 answerOf (Rows n) = given n
 answerOf Refused = refused notAReport 0
 

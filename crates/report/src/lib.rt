@@ -14,7 +14,7 @@ ghost use Rattle.rowset.specs.Rows.{wordsOf};
 ghost use Rattle.report.specs.Form.{four, rowsFrom, WordAt, sizesFit, Sized, Summed, Sum};
 
 // What reading the row count of an entry answers. Refused is 01's number 17, place 0.
-pub enum Counted {
+pub enum RowCount {
     Rows(u32),
     Refused,
 }
@@ -192,13 +192,13 @@ fn start_of(report: &[u32], k: usize) -> usize
 }
 
 // The row count of entry `k`.
-pub fn row_count(report: &[u32], k: usize) -> Counted
+pub fn row_count(report: &[u32], k: usize) -> RowCount
     ensures { λ r. ⌜ answerOf r ≡ readCount (now (report .entry)) k ⌝ }
 {
     if has_entry(report, k) {
-        Counted::Rows(report[3 + 3 * k + 2])
+        RowCount::Rows(report[3 + 3 * k + 2])
     } else {
-        Counted::Refused
+        RowCount::Refused
     }
 }
 

@@ -1,2 +1,2 @@
 -- Facts about sets laid one after the other.
-pub mod Laid
+pub mod SetsInOrder

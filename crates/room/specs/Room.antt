@@ -15,12 +15,12 @@ abbrev pub setAt : List ℕ → List ℕ → ℕ → Point → Point → List (L
 setAt rows at first low j = setIn rows at (first + (j .0 - low .0))
 
 -- n sets stand in the words
-pub record Laid (rows at : List ℕ) (n : ℕ) : Type 0 where
+pub record SetsInOrder (rows at : List ℕ) (n : ℕ) : Type 0 where
   pub marks : n < length at
   pub steps : (q : ℕ) → q < n → getD at q 0 ≤ getD at (q + 1) 0
   pub words : getD at n 0 * 4 ≤ length rows
 
 -- n sets stand in the words, of at most 32 rows each
 pub record Sets (rows at : List ℕ) (n : ℕ) : Type 0 where
-  pub laid : Laid rows at n
+  pub laid : SetsInOrder rows at n
   pub few : (q : ℕ) → q < n → getD at (q + 1) 0 - getD at q 0 ≤ mostRows

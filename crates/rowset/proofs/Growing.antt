@@ -15,7 +15,7 @@ use Rattle.meaning.proofs.Points.{Tested, passed, failed, tested, first, second
 use Rattle.meaning.proofs.LookUp.{look-member}
 use Rattle.rowset.specs.declared.Row.{Row}
 use Rattle.rowset.specs.Rows.{wordsOf, rowAt, rowsFrom, mostHeld, addCapped, addAllCapped}
-use Rattle.rowset.specs.Sets.{Room, Added}
+use Rattle.rowset.specs.Sets.{SetRoom, Added}
 use Rattle.rowset.proofs.Saturation.{in-turn, whole, crowded}
 use Rattle.rowset.proofs.Ascending.{addAll-ascends}
 use Rattle.rowset.proofs.Places.{insert-found}
@@ -55,7 +55,7 @@ module _ {A : Type 0} {at : ℕ → A} {gives : List A → List (List ℕ)} {to 
     ended none l = subst Put (sym (append-nil (t .done)) ∙ ap (λ us. t .done ++ us) (sym (ap gives (run-end at to i l) ∙ none)) ∙ t .parts) (t .put)
 
 -- rows put into a set: none, and one list after another
-pub added-none : {ws : List ℕ} {n : ℕ} → Room ws n → Added ws n ws n []
+pub added-none : {ws : List ℕ} {n : ℕ} → SetRoom ws n → Added ws n ws n []
 added-none h = record { most = h .most; long = refl; set = refl }
 
 pub added-then : {old : List ℕ} {n : ℕ} {mid : List ℕ} {m : ℕ} {new : List ℕ} {k : ℕ} {xs ys : List (List ℕ)} → Added old n mid m xs → Added mid m new k ys → Added old n new k (xs ++ ys)
@@ -67,10 +67,10 @@ abbrev pub Through : {A : Type 0} → (ℕ → A) → (List A → List (List ℕ
 Through at gives to old n all new k i = Turns at gives to all (Added old n new k) i
 
 module _ {A : Type 0} {at : ℕ → A} {gives : List A → List (List ℕ)} {to : ℕ} {old : List ℕ} {n : ℕ} where
-  pub begun : {i : ℕ} → i ≤ to → Room old n → Through at gives to old n (gives (map at (range i (to - i)))) old n i
+  pub begun : {i : ℕ} → i ≤ to → SetRoom old n → Through at gives to old n (gives (map at (range i (to - i)))) old n i
   begun l h = starts l (added-none h)
 
-  pub begun-all : Room old n → Through at gives to old n (gives (map at (range 0 to))) old n 0
+  pub begun-all : SetRoom old n → Through at gives to old n (gives (map at (range 0 to))) old n 0
   begun-all h = starts-all (added-none h)
 
   pub turned : {all : List (List ℕ)} {new : List ℕ} {k i : ℕ} → Through at gives to old n all new k i → (one : A → List (List ℕ)) → ((x : A) (xs : List A) → gives (x ∷ xs) ≡ one x ++ gives xs) → i < to

@@ -20,7 +20,7 @@ pub record Found (ws : List ℕ) (from to : ℕ) (r : List ℕ) (p : ℕ) : Type
   pub there : p < to → sameRow r (rowAt ws p) ≡ true
 
 -- a set of n rows at the front of the words, which have room for the most that a set holds
-pub record Room (ws : List ℕ) (n : ℕ) : Type 0 where
+pub record SetRoom (ws : List ℕ) (n : ℕ) : Type 0 where
   pub most : n ≤ mostHeld
   pub there : mostHeld * 4 ≤ length ws
 

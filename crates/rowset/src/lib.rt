@@ -9,7 +9,7 @@ ghost use Rattle.meaning.specs.Lists.{sameRow};
 ghost use Rattle.meaning.specs.Order.{before, ascending};
 ghost use Rattle.meaning.specs.Evaluator.{lookUp};
 ghost use Rattle.rowset.specs.Rows.{wordsOf, rowAt, setRow, rowsFrom, placeOf};
-ghost use Rattle.rowset.specs.Sets.{Run, Room, Found, Added};
+ghost use Rattle.rowset.specs.Sets.{Run, SetRoom, Found, Added};
 
 // A valuation: the values of variables 0 to 3, 0 where one isn't free.
 pub struct Row {
@@ -145,7 +145,7 @@ fn put_in(out: &mut [u32], n: usize, p: usize, r: Row)
 
 // Puts a row into a set of n rows, unless it is there or the set is full; the number of rows then.
 pub fn add(out: &mut [u32], n: usize, r: Row) -> usize
-    requires { ⌜ Room (now out) n ⌝ }
+    requires { ⌜ SetRoom (now out) n ⌝ }
     ensures { λ k. ⌜ Added (now (out .entry)) n (now (out .exit)) k (wordsOf r ∷ []) ⌝ }
 {
     if n < 33 {
@@ -161,7 +161,7 @@ pub fn add(out: &mut [u32], n: usize, r: Row) -> usize
 
 // Puts a row into a set where the test passed.
 pub fn add_if(ok: bool, out: &mut [u32], n: usize, r: Row) -> usize
-    requires { ⌜ Room (now out) n ⌝ }
+    requires { ⌜ SetRoom (now out) n ⌝ }
     ensures { λ k. ⌜ Added (now (out .entry)) n (now (out .exit)) k (cond ok (wordsOf r ∷ []) []) ⌝ }
 {
     if ok {
@@ -200,7 +200,7 @@ fn before_in_turn(p: usize, n: usize) -> usize {
 
 // Puts a row into an ascending set of n rows as `add` does, where it is mostly there already.
 fn add_sought(out: &mut [u32], n: usize, r: Row) -> Gathered
-    requires { ⌜ Room (now out) n × (ascending (rowsFrom (now out) 0 n) ≡ true) ⌝ }
+    requires { ⌜ SetRoom (now out) n × (ascending (rowsFrom (now out) 0 n) ≡ true) ⌝ }
     ensures { λ g. ⌜ Added (now (out .entry)) n (now (out .exit)) (g .count) (wordsOf r ∷ []) ⌝ }
 {
     let p = find(out, 0, n, r);
@@ -218,7 +218,7 @@ fn add_sought(out: &mut [u32], n: usize, r: Row) -> Gathered
 
 // Puts a row into an ascending set of n rows as `add` does. It is looked for first at the row `near`: rows that come round in turn, youngest first, stand one before the other.
 fn add_near(out: &mut [u32], n: usize, near: usize, r: Row) -> Gathered
-    requires { ⌜ Room (now out) n × (ascending (rowsFrom (now out) 0 n) ≡ true) ⌝ }
+    requires { ⌜ SetRoom (now out) n × (ascending (rowsFrom (now out) 0 n) ≡ true) ⌝ }
     ensures { λ g. ⌜ Added (now (out .entry)) n (now (out .exit)) (g .count) (wordsOf r ∷ []) ⌝ }
 {
     if is_at(out, n, near, r) {
@@ -232,7 +232,7 @@ fn add_near(out: &mut [u32], n: usize, near: usize, r: Row) -> Gathered
 
 // The same where the test passed.
 pub fn add_near_if(ok: bool, out: &mut [u32], n: usize, near: usize, r: Row) -> Gathered
-    requires { ⌜ Room (now out) n × (ascending (rowsFrom (now out) 0 n) ≡ true) ⌝ }
+    requires { ⌜ SetRoom (now out) n × (ascending (rowsFrom (now out) 0 n) ≡ true) ⌝ }
     ensures { λ g. ⌜ Added (now (out .entry)) n (now (out .exit)) (g .count) (cond ok (wordsOf r ∷ []) []) ⌝ }
 {
     if ok {
@@ -244,7 +244,7 @@ pub fn add_near_if(ok: bool, out: &mut [u32], n: usize, near: usize, r: Row) -> 
 // Puts the rows from..to into an ascending set of n rows, each looked for as `add_near` does; nothing is called for a row that stands near.
 pub fn add_rows(rows: &[u32], from: usize, to: usize, out: &mut [u32], n: usize) -> usize
     requires { ⌜ Run (now rows) from to ⌝ }
-    requires { ⌜ Room (now out) n × (ascending (rowsFrom (now out) 0 n) ≡ true) ⌝ }
+    requires { ⌜ SetRoom (now out) n × (ascending (rowsFrom (now out) 0 n) ≡ true) ⌝ }
     ensures { λ k. ⌜ Added (now (out .entry)) n (now (out .exit)) k (rowsFrom (now (rows .entry)) from (to - from)) ⌝ }
 {
     let mut k = n;

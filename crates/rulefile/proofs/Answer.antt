@@ -11,7 +11,7 @@ use Rattle.meaning.specs.Formula.{free, reach}
 use Rattle.meaning.specs.RuleFile.{Accepted as Answer, nodeCount, sizesFit, maskOf, pattern}
 use Rattle.meaning.proofs.Points.{first, second}
 use Rattle.rulefile.specs.declared.Checked.the-variants.{NotOneParent}
-use Rattle.rulefile.specs.declared.Weighed.the-variants.{Free, Refused}
+use Rattle.rulefile.specs.declared.Tested.the-variants.{Free, Refused}
 use Rattle.rulefile.specs.declared.Stray.{Stray}
 use Rattle.rulefile.specs.declared.Stray.the-variants.{At, Nowhere}
 use Rattle.rulefile.specs.Weighing.{Sized, NodesPass, Tells, FirstStray, fromNodes}

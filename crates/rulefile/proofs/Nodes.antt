@@ -20,8 +20,8 @@ use Rattle.ruleshape.proofs.Sound.{node-sound}
 use Rattle.rulefree.specs.Mask.{nodeMask, nodeFits}
 use Rattle.rulefree.proofs.Free.{mask-right, fits-right}
 use Rattle.rulefile.specs.declared.Checked.{Checked}
-use Rattle.rulefile.specs.declared.Weighed.{Weighed}
-use Rattle.rulefile.specs.declared.Weighed.the-variants.{Free, Refused}
+use Rattle.rulefile.specs.declared.Tested.{Tested}
+use Rattle.rulefile.specs.declared.Tested.the-variants.{Free, Refused}
 use Rattle.rulefile.specs.Checked.{answerOf}
 use Rattle.rulefile.specs.Weighing.{weighedBy, weighing, afterNodes, fromNodes, Tells, NodesPass}
 use Rattle.rulefile.proofs.Ranges.{range-first}
@@ -37,7 +37,7 @@ pub record WeighedTo (b masks : List ℕ) (x : ℕ) : Type 0 where
   pub passed : fromNodes b ≡ weighNodes b (range x (nodeCount b - x)) (afterNodes b)
 
 -- what a weighed node answers, where `rest` follows it
-abbrev after : Weighed → Outcome Answer → Outcome Answer
+abbrev after : Tested → Outcome Answer → Outcome Answer
 after (Free m) rest = rest
 after (Refused c) rest = answerOf c
 
@@ -64,11 +64,11 @@ tests-pass true false f x m k e = absurd (let z : _≡_ {A = ℕ} 0 1 = cc in om
 tests-pass false r f x m k e = absurd (let z : _≡_ {A = ℕ} 0 1 = cc in omega arith)
 
 -- node x weighed with the masks of the nodes below it
-abbrev pub weighingAt : List ℕ → ℕ → List ℕ → Weighed
+abbrev pub weighingAt : List ℕ → ℕ → List ℕ → Tested
 weighingAt b x masks = weighing b x (headAt b x) (bodyAt (bodies b) x) (nodeAt b x) masks
 
 -- a node that is made of its head and body, and weighed so
-pub node-read : (b : List ℕ) (x : ℕ) (masks : List ℕ) (h : Head) (w : Body) (a : ℕ) (n : Node) (v : Weighed) → h ≡ headAt b x → w ≡ bodyAt (bodies b) x → a ≡ arity b (h .left) → n ≡ nodeOf a h w
+pub node-read : (b : List ℕ) (x : ℕ) (masks : List ℕ) (h : Head) (w : Body) (a : ℕ) (n : Node) (v : Tested) → h ≡ headAt b x → w ≡ bodyAt (bodies b) x → a ≡ arity b (h .left) → n ≡ nodeOf a h w
     → v ≡ weighing b x h w n masks → (n ≡ nodeAt b x) × (v ≡ weighingAt b x masks)
 unfolding nodeAt
 node-read b x masks h w a n v eh ew ea en ev = (cc, cc)
@@ -114,7 +114,7 @@ module _ (b masks : List ℕ) (x : ℕ) (w : WeighedTo b masks x) where
       (λ s r. node-free (record { shape = s; range = r }))
 
   -- the nodes from x on, with node x weighed
-  nodes-answer : x < nodeCount b → (v : Weighed) → weighingAt b x masks ≡ v → fromNodes b ≡ after v (weighNodes b (range (x + 1) (nodeCount b - (x + 1))) (afterNodes b))
+  nodes-answer : x < nodeCount b → (v : Tested) → weighingAt b x masks ≡ v → fromNodes b ≡ after v (weighNodes b (range (x + 1) (nodeCount b - (x + 1))) (afterNodes b))
   nodes-answer l v e =
       w .passed ∙ ap (λ s. weighNodes b s (afterNodes b)) (range-first x (nodeCount b) l)
       ∙ node-answers (weighNodes b (range (x + 1) (nodeCount b - (x + 1))) (afterNodes b))

@@ -60,11 +60,11 @@ abbrev childrenTo : List ℕ → ℕ → List ℕ
 childrenTo b x = gather (λ y. childrenOf (nodeAt b y)) (range 0 x)
 
 -- the children of the first x nodes are counted
-pub record Counted (b uses : List ℕ) (x : ℕ) : Type 0 where
+pub record UsesCounted (b uses : List ℕ) (x : ℕ) : Type 0 where
   pub right : (y : ℕ) → getD uses y 0 ≡ occurrences y (childrenTo b x)
   pub few : (y : ℕ) → getD uses y 0 ≤ 2 * x
 
-pub counted-none : (b uses : List ℕ) → ((y : ℕ) → getD uses y 0 ≡ 0) → Counted b uses 0
+pub counted-none : (b uses : List ℕ) → ((y : ℕ) → getD uses y 0 ≡ 0) → UsesCounted b uses 0
 counted-none b uses h = record { right = h; few = λ y. omega (arith, h y) }
 
 two-children : (l : Children) (y : ℕ) → occurrences y (childrenIn l) ≤ 2
@@ -72,8 +72,8 @@ two-children None y = omega arith
 two-children (One a) y = omega (arith, occurrences-bound y (a ∷ []))
 two-children (Two a b) y = occurrences-bound y (a ∷ b ∷ [])
 
-pub counted-more : (b uses more : List ℕ) (x : ℕ) (l : Children) → Counted b uses x → childrenIn l ≡ childrenOf (nodeAt b x)
-    → ((y : ℕ) → getD more y 0 ≡ getD uses y 0 + occurrences y (childrenIn l)) → Counted b more (x + 1)
+pub counted-more : (b uses more : List ℕ) (x : ℕ) (l : Children) → UsesCounted b uses x → childrenIn l ≡ childrenOf (nodeAt b x)
+    → ((y : ℕ) → getD more y 0 ≡ getD uses y 0 + occurrences y (childrenIn l)) → UsesCounted b more (x + 1)
 counted-more b uses more x l k e h = record {
   right = λ y.
       h y ∙ ap (λ n. n + occurrences y (childrenIn l)) (k .right y) ∙ ap (λ s. occurrences y (childrenTo b x) + occurrences y s) e
@@ -83,7 +83,7 @@ counted-more b uses more x l k e h = record {
   few = λ y. omega (arith, h y, k .few y, two-children l y);
 }
 
-pub counted-all : (b uses : List ℕ) (x : ℕ) → x ≡ nodeCount b → Counted b uses x → (y : ℕ) → getD uses y 0 ≡ timesChild b y
+pub counted-all : (b uses : List ℕ) (x : ℕ) → x ≡ nodeCount b → UsesCounted b uses x → (y : ℕ) → getD uses y 0 ≡ timesChild b y
 unfolding timesChild
 counted-all b uses x e k y = k .right y ∙ ap (λ n. occurrences y (childrenTo b n)) e
 

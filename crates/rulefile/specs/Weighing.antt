@@ -15,8 +15,8 @@ use Rattle.meaning.specs.declared.Node.{Node}
 use Rattle.ruleshape.specs.Sound.{NodeFits}
 use Rattle.rulefree.specs.Mask.{nodeMask, nodeFits}
 use Rattle.rulefile.specs.declared.Checked.the-variants.{Misshapen, WindowOut, FreeBroken}
-use Rattle.rulefile.specs.declared.Weighed.{Weighed}
-use Rattle.rulefile.specs.declared.Weighed.the-variants.{Free, Refused}
+use Rattle.rulefile.specs.declared.Tested.{Tested}
+use Rattle.rulefile.specs.declared.Tested.the-variants.{Free, Refused}
 use Rattle.rulefile.specs.declared.Stray.{Stray}
 use Rattle.rulefile.specs.declared.Stray.the-variants.{At, Nowhere}
 use Rattle.rulefile.specs.Checked.{answerOf}
@@ -33,12 +33,12 @@ pub record AllFit (b : List ℕ) : Type 0 where
   pub each : (y : ℕ) → y < nodeCount b → NodeFits b y
 
 -- what tests of shape, window and free variables say of node x, whose free variables are the mask m
-abbrev pub weighedBy : Bool → Bool → Bool → ℕ → ℕ → Weighed
+abbrev pub weighedBy : Bool → Bool → Bool → ℕ → ℕ → Tested
 weighedBy shape window free x m =
     cond shape (cond window (cond free (Free m) (Refused (FreeBroken x))) (Refused (WindowOut x))) (Refused (Misshapen x))
 
 -- node x, of this head and body, weighed with the masks of the nodes below it
-abbrev pub weighing : List ℕ → ℕ → Head → Body → Node → List ℕ → Weighed
+abbrev pub weighing : List ℕ → ℕ → Head → Body → Node → List ℕ → Tested
 weighing b x h w n masks = weighedBy (shapeFits b x h w) (rangeFits h w) (nodeFits masks n) x (nodeMask masks n)
 
 -- the list has the mask of each node's free variables
@@ -53,7 +53,7 @@ abbrev pub fromNodes : List ℕ → Outcome Answer
 fromNodes b = weighNodes b (range 0 (nodeCount b)) (afterNodes b)
 
 -- what is weighed tells the answer o, the reach apart
-abbrev pub Tells : List ℕ → List ℕ → Outcome Answer → Weighed → Type 0
+abbrev pub Tells : List ℕ → List ℕ → Outcome Answer → Tested → Type 0
 Tells b masks o (Free m) = (o ≡ given (record { reach = reach (pattern b); free = m })) × Masked b masks
 Tells b masks o (Refused c) = (o ≡ answerOf c) × (isAccepted o ≡ false)
 
@@ -65,7 +65,7 @@ pub record NodesPass (b masks uses : List ℕ) (m : ℕ) : Type 0 where
   pub mask : m ≡ maskOf (free (pattern b))
 
 -- all nodes weighed
-abbrev pub NodesWeighed : List ℕ → List ℕ → List ℕ → Weighed → Type 0
+abbrev pub NodesWeighed : List ℕ → List ℕ → List ℕ → Tested → Type 0
 NodesWeighed b masks uses (Free m) = NodesPass b masks uses m
 NodesWeighed b masks uses (Refused c) = Tells b masks (fromNodes b) (Refused c)
 

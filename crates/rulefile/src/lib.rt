@@ -2,6 +2,7 @@
 use meaning::Body;
 use meaning::Children;
 use meaning::Head;
+use meaning::MOST_NODES;
 use meaning::Node;
 use meaning::Times;
 use rulefree::node_fits;
@@ -28,6 +29,9 @@ ghost use Rattle.ruleshape.specs.Sound.{windowReach};
 ghost use Rattle.rulefile.specs.Checked.{answerOf};
 ghost use Rattle.rulefile.specs.Weighing.{Sized, AllFit, weighing, NodesWeighed, Masked, Tells, firstOf, FirstStray, fromNodes};
 
+// Nodes at most that a rule has, as a byte.
+const NODES: u8 = MOST_NODES as u8;
+
 // The answer: the reach and the mask of free variables, or the refusal, with its node where it has one.
 pub enum Checked {
     Accepted(u32, u8),
@@ -41,7 +45,7 @@ pub enum Checked {
 }
 
 // A node weighed, or a whole rule: the mask of free variables, or the refusal.
-pub enum Weighed {
+pub enum Tested {
     Free(u8),
     Refused(Checked),
 }
@@ -68,11 +72,11 @@ fn sizes_fit(rule: &[u8]) -> bool
         & (arity_fits(rule, 5) & (arity_fits(rule, 6) & arity_fits(rule, 7)));
     let arities = arity_fits(rule, 0)
         & (arity_fits(rule, 1) & (arity_fits(rule, 2) & (arity_fits(rule, 3) & later)));
-    (1 <= rule[1]) & (rule[1] <= 8) & (1 <= rule[2]) & (rule[2] <= 32) & (rule[3] == 0) & arities
+    (1 <= rule[1]) & (rule[1] <= 8) & (1 <= rule[2]) & (rule[2] <= NODES) & (rule[3] == 0) & arities
 }
 
 // Refusals 4, 5 and 6 of node x, of this head and body, with the masks of the nodes below it.
-fn weigh_node(rule: &[u8], x: u8, h: Head, w: Body, node: Node, masks: &[u8]) -> Weighed
+fn weigh_node(rule: &[u8], x: u8, h: Head, w: Body, node: Node, masks: &[u8]) -> Tested
     requires { ⌜ 12 ≤ length (now rule) ⌝ }
     ensures { λ r. ⌜ r ≡ weighing (now (rule .entry)) x h w node (now (masks .entry)) ⌝ }
 {
@@ -80,15 +84,15 @@ fn weigh_node(rule: &[u8], x: u8, h: Head, w: Body, node: Node, masks: &[u8]) ->
     let window = range_fits(h, w);
     let free = node_fits(masks, node);
     if !shape {
-        return Weighed::Refused(Checked::Misshapen(x));
+        return Tested::Refused(Checked::Misshapen(x));
     }
     if !window {
-        return Weighed::Refused(Checked::WindowOut(x));
+        return Tested::Refused(Checked::WindowOut(x));
     }
     if !free {
-        return Weighed::Refused(Checked::FreeBroken(x));
+        return Tested::Refused(Checked::FreeBroken(x));
     }
-    Weighed::Free(node_mask(masks, node))
+    Tested::Free(node_mask(masks, node))
 }
 
 // Counts a child.
@@ -116,7 +120,7 @@ fn count_children(uses: &mut [u8], children: Children)
 }
 
 // All nodes, lowest first, each read once; where they pass, the lent bytes hold the mask of each and how often it is a child.
-fn weigh_nodes(rule: &[u8], masks: &mut [u8], uses: &mut [u8]) -> Weighed
+fn weigh_nodes(rule: &[u8], masks: &mut [u8], uses: &mut [u8]) -> Tested
     requires { ⌜ Sized (now rule) × (32 ≤ length (now masks)) × (32 ≤ length (now uses)) × ((y : ℕ) → getD (now uses) y 0 ≡ 0) ⌝ }
     ensures { λ r. ⌜ NodesWeighed (now (rule .entry)) (now (masks .exit)) (now (uses .exit)) r ⌝ }
 {
@@ -127,7 +131,7 @@ fn weigh_nodes(rule: &[u8], masks: &mut [u8], uses: &mut [u8]) -> Weighed
         let w = body_of(rule, x);
         let node = node_of(arity_at(rule, h.left), h, w);
         let weighed = weigh_node(rule, x, h, w, node, masks);
-        let Weighed::Free(mask) = weighed else {
+        let Tested::Free(mask) = weighed else {
             return weighed;
         };
         masks[x as usize] = mask;
@@ -135,7 +139,7 @@ fn weigh_nodes(rule: &[u8], masks: &mut [u8], uses: &mut [u8]) -> Weighed
         x += 1;
     }
     let last = (n - 1) as usize;
-    Weighed::Free(masks[last])
+    Tested::Free(masks[last])
 }
 
 // The stray node found so far; else node y, where its count isn't 1.
@@ -166,37 +170,37 @@ fn first_stray(uses: &[u8], n: u8) -> Stray
 }
 
 // Refusals 4 to 7 of a file whose sizes and length are right.
-fn check_nodes(rule: &[u8], masks: &mut [u8]) -> Weighed
+fn check_nodes(rule: &[u8], masks: &mut [u8]) -> Tested
     requires { ⌜ Sized (now rule) × (32 ≤ length (now masks)) ⌝ }
     ensures { λ r. ⌜ Tells (now (rule .entry)) (now (masks .exit)) (fromNodes (now (rule .entry))) r ⌝ }
 {
-    let mut uses = [0u8; 32];
+    let mut uses = [0u8; MOST_NODES];
     let weighed = weigh_nodes(rule, masks, &mut uses);
-    let Weighed::Free(mask) = weighed else {
+    let Tested::Free(mask) = weighed else {
         return weighed;
     };
     let Stray::At(y) = first_stray(&uses, rule[2] - 1) else {
-        return Weighed::Free(mask);
+        return Tested::Free(mask);
     };
-    Weighed::Refused(Checked::NotOneParent(y))
+    Tested::Refused(Checked::NotOneParent(y))
 }
 
 // Everything of "Check a rule" but the reach: any bytes. Where no refusal applies, the lent bytes hold the mask of each node's free variables.
-fn weigh_rule(rule: &[u8], masks: &mut [u8]) -> Weighed
+fn weigh_rule(rule: &[u8], masks: &mut [u8]) -> Tested
     requires { ⌜ 32 ≤ length (now masks) ⌝ }
     ensures { λ r. ⌜ Tells (now (rule .entry)) (now (masks .exit)) (checking (now (rule .entry))) r ⌝ }
 {
     if rule.len() < 12 {
-        return Weighed::Refused(Checked::Cut);
+        return Tested::Refused(Checked::Cut);
     }
     if rule[0] != 1 {
-        return Weighed::Refused(Checked::OtherVersion);
+        return Tested::Refused(Checked::OtherVersion);
     }
     if !sizes_fit(rule) {
-        return Weighed::Refused(Checked::SizeOut);
+        return Tested::Refused(Checked::SizeOut);
     }
     if rule.len() != 12 + 20 * (rule[2] as usize) {
-        return Weighed::Refused(Checked::Cut);
+        return Tested::Refused(Checked::Cut);
     }
     check_nodes(rule, masks)
 }
@@ -208,8 +212,8 @@ pub fn accepts(rule: &[u8], masks: &mut [u8]) -> bool
     ensures known { λ r. ⌜ (r ≡ true → Masked (now (rule .entry)) (now (masks .exit))) ⌝ }
 {
     match weigh_rule(rule, masks) {
-        Weighed::Free(_) => true,
-        Weighed::Refused(_) => false,
+        Tested::Free(_) => true,
+        Tested::Refused(_) => false,
     }
 }
 
@@ -254,9 +258,9 @@ fn reach_of(rule: &[u8], x: u8) -> u32
 pub fn check(rule: &[u8]) -> Checked
     ensures { λ r. ⌜ answerOf r ≡ checking (now (rule .entry)) ⌝ }
 {
-    let mut masks = [0u8; 32];
+    let mut masks = [0u8; MOST_NODES];
     match weigh_rule(rule, &mut masks) {
-        Weighed::Free(mask) => Checked::Accepted(reach_of(rule, rule[2] - 1), mask),
-        Weighed::Refused(refusal) => refusal,
+        Tested::Free(mask) => Checked::Accepted(reach_of(rule, rule[2] - 1), mask),
+        Tested::Refused(refusal) => refusal,
     }
 }

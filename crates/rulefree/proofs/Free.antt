@@ -59,20 +59,20 @@ within-alike f g p q h k = cc (h 0 (omega arith), h 1 (omega arith), h 2 (omega 
 
 module _ (masks : List ℕ) (g : ℕ → Formula) where
   -- the list has the child's free variables
-  abbrev pub Known : ℕ → Type 0
-  Known c = getD masks c 0 ≡ maskOf (free (g c))
+  abbrev pub MasksBelow : ℕ → Type 0
+  MasksBelow c = getD masks c 0 ≡ maskOf (free (g c))
 
   abbrev setAt : ℕ → ℕ → Bool
   setAt c = variableIn (getD masks c 0)
 
-  set-alike : (c : ℕ) → Known c → Alike (setAt c) (free (g c))
+  set-alike : (c : ℕ) → MasksBelow c → Alike (setAt c) (free (g c))
   set-alike c e v l = ap (λ m. variableIn m v) e ∙ mask-set (free (g c)) v l
 
-  both-within : (a b : ℕ) → Known a → Known b → within (setAt a) (setAt b) ≡ within (free (g a)) (free (g b))
+  both-within : (a b : ℕ) → MasksBelow a → MasksBelow b → within (setAt a) (setAt b) ≡ within (free (g a)) (free (g b))
   both-within a b p q = within-alike (setAt a) (setAt b) (free (g a)) (free (g b)) (set-alike a p) (set-alike b q)
 
   abbrev pub ChildrenKnown : Node → Type 0
-  ChildrenKnown n = (c : ℕ) → List·Memᴰ c (childrenOf n) → Known c
+  ChildrenKnown n = (c : ℕ) → List·Memᴰ c (childrenOf n) → MasksBelow c
 
   pub mask-right : (n : Node) → ChildrenKnown n → nodeMask masks n ≡ maskOf (free (formulaOf g n))
   mask-right (Atom r t) k = refl

@@ -1,4 +1,4 @@
--- What a node gives at a point over the words of its children's sets, kind by kind; that any Sight that says what stands there gives the same; and what the count of rows says of it.
+-- What a node gives at a point over the words of its children's sets, kind by kind; that any Inputs that say what stands there gives the same; and what the count of rows says of it.
 use Prim.Native.Nat.{ℕ, _≤_, _<_, min}
 use native.Mathlib.Omega.{arith}
 use mathlib.Core.Path.{_≡_, refl, sym, ap, ap₂, fun-ext, _∙_}
@@ -26,9 +26,9 @@ use Rattle.meaning.specs.declared.Times.{Times}
 use Rattle.meaning.specs.declared.Times.the-variants.{Past, Future}
 use Rattle.meaning.proofs.Points.{Tested, passed, failed, tested}
 use Rattle.method.specs.Stored.{stampIn}
-use Rattle.method.specs.Settle.{Sight, found, rowsSince, pairsSince, candidates, settle, leftOf, rightOf, hasPairs}
+use Rattle.method.specs.Settle.{Inputs, found, rowsSince, pairsSince, candidates, settle, leftOf, rightOf, hasPairs}
 use Rattle.method.proofs.Views.{Branches, none, single, double, viewed}
-use Rattle.rowset.specs.Sets.{Room, Added}
+use Rattle.rowset.specs.Sets.{SetRoom, Added}
 use Rattle.rowset.proofs.Growing.{added-as, set-whole, set-crowded}
 use Rattle.kinds.specs.Kinds.{inMask, pairsFrom}
 use Rattle.room.specs.declared.Child.{Child}
@@ -36,7 +36,7 @@ use Rattle.untils.specs.Until.{leftTest, Stand}
 use Rattle.untils.proofs.Spans.{stand-part}
 use Rattle.since.specs.Since.{heldIn, rowsIn, pairsIn, PairsPut}
 use Rattle.settling.specs.Children.{childSet}
-use Rattle.settling.specs.Sights.{Seen, SeenAll, Sees, ChildThere, ChildrenThere, asked, rightIn, SetMade, PointSettled, PairsSettled}
+use Rattle.settling.specs.Inputs.{ChildInputs, ChildrenInputs, InputsStand, ChildThere, ChildrenThere, asked, rightIn, SetMade, PointSettled, PairsSettled}
 use Rattle.settling.proofs.Agreeing.{Alike, cut-same, and-same, rows-same, pairs-same, until-same}
 
 pub added-none : {old : List ℕ} {n : ℕ} → Room old n → Added old n old n []
@@ -51,8 +51,8 @@ none-put : {ages values : List ℕ} → PairsPut ages values ages values 0 []
 unfolding pairsFrom
 none-put = record { agesLong = refl; valuesLong = refl; counted = omega arith; set = λ l. refl }
 
--- a Sight that says of node y what stands of a child says of its sets what stands, and the same of a row that is looked up in one
-module _ {v : Sight} {rows at : List ℕ} {y : ℕ} {c : Child} (s : Seen v rows at y c) where
+-- a Inputs that say of node y what stands of a child says of its sets what stands, and the same of a row that is looked up in one
+module _ {v : Inputs} {rows at : List ℕ} {y : ℕ} {c : Child} (s : ChildInputs v rows at y c) where
   seen-free : Alike (inMask (c .mask)) (v .free y)
   seen-free x l = sym (s .free x l)
 
@@ -86,10 +86,10 @@ module _ (b w rows at times : List ℕ) (base : Point) (oldAges oldValues : List
   given (Once x t) = sinceIn Always left t
   given (Eventually x t) = untilIn Always left t
 
-  module _ (v : Sight) where
-    -- since and until over a test of left, by what the Sight says of the children c and d
+  module _ (v : Inputs) where
+    -- since and until over a test of left, by what the Inputs says of the children c and d
     module _ (l : Left) {c d : Child} {x y : ℕ} (t : Window) where
-      module _ (h : ChildThere rows at start i Past c) (k : ChildThere rows at start i Past d) (p : Seen v rows at x c) (q : Seen v rows at y d) where
+      module _ (h : ChildThere rows at start i Past c) (k : ChildThere rows at start i Past d) (p : ChildInputs v rows at x c) (q : ChildInputs v rows at y d) where
         since-test : (j : Point) → start .0 ≤ j .0 → j .0 ≤ i .0 → (u : List ℕ) → leftTest l (c .mask) (childSet rows at c) u j ≡ passes l (found v x u j)
         since-test j m o u = ap (passes l) (seen-found p j (omega (arith, h .sets .low-most)) (omega (arith, h .settled)) u)
 
@@ -109,14 +109,14 @@ module _ (b w rows at times : List ℕ) (base : Point) (oldAges oldValues : List
             → PairsPut ages values ages' values' k (setOf (pairsSince (v .stamps) t (λ u k. passes l (found v x u k)) (v .rows y) (heldIn oldAges oldValues) start i))
         since-put e put = rw e (rw since-pairs at put)
 
-      until-rows : ChildThere rows at start i Future c → ChildThere rows at start i Future d → Seen v rows at x c → Seen v rows at y d
+      until-rows : ChildThere rows at start i Future c → ChildThere rows at start i Future d → ChildInputs v rows at x c → ChildInputs v rows at y d
           → untilRows (stampIn base times) (min (c .count) (d .count)) t (leftTest l (c .mask) (childSet rows at c)) (childSet rows at d) i ≡ untilRows (stampIn base times) (min (c .count) (d .count)) t (λ u k. passes l (found v x u k)) (v .rows y) i
       until-rows h k p q =
           until-same (stampIn base times) (min (c .count) (d .count)) t (leftTest l (c .mask) (childSet rows at c)) (λ u k. passes l (found v x u k)) (childSet rows at d) (v .rows y) i
           (λ j m o u. ap (passes l) (seen-found p j (omega (arith, h .sets .low-most)) (omega arith) u)) (λ j m o. seen-set q j (omega (arith, k .sets .low-most)) (omega arith))
 
-    -- a Sight that says what stands gives the same
-    given-same : (node : Node) → asked b w rows at oldAges oldValues left right start i node → Sees v b w rows at times base left right node → given node ≡ candidates v (heldIn oldAges oldValues) start i node
+    -- a Inputs that say what stands gives the same
+    given-same : (node : Node) → asked b w rows at oldAges oldValues left right start i node → InputsStand v b w rows at times base left right node → given node ≡ candidates v (heldIn oldAges oldValues) start i node
     given-same (Atom r t) d s = ap (atomRows r (termsOf t)) (sym (s .event))
     given-same (And x y) d s =
         let (p, q) = s .children in
@@ -162,7 +162,7 @@ module _ (b w rows at times : List ℕ) (base : Point) (oldAges oldValues : List
   unfolding settle
   point-settled {kind = kind} e d h = rw e (record { gives = λ v s. set-made (added-as h (given-same v kind d s)) })
 
-  -- the sets of left and right of a since, and what a Sight says of them
+  -- the sets of left and right of a since, and what Inputs say of them
   module _ (node : Node) (past : viewOf node .times ≡ Past) where
     abbrev cs : Children
     cs = viewOf node .children
@@ -183,10 +183,10 @@ module _ (b w rows at times : List ℕ) (base : Point) (oldAges oldValues : List
         go (One x) n h = (h, h)
         go (Two x y) n h = h
 
-    past-seen : (v : Sight) → SeenAll v rows at (childrenOf node) left right → Seen v rows at (leftOf cs) left × Seen v rows at (rightOf cs) (rightIn cs left right)
+    past-seen : (v : Inputs) → ChildrenInputs v rows at (childrenOf node) left right → ChildInputs v rows at (leftOf cs) left × ChildInputs v rows at (rightOf cs) (rightIn cs left right)
     past-seen v = go cs has-child
       where
-        go : (c : Children) → (c ≡ None → ⊥) → SeenAll v rows at (childrenIn c) left right → Seen v rows at (leftOf c) left × Seen v rows at (rightOf c) (rightIn c left right)
+        go : (c : Children) → (c ≡ None → ⊥) → ChildrenInputs v rows at (childrenIn c) left right → ChildInputs v rows at (leftOf c) left × ChildInputs v rows at (rightOf c) (rightIn c left right)
         go None n h = absurd (n refl)
         go (One x) n h = (h, h)
         go (Two x y) n h = h

@@ -1,3 +1,3 @@
 -- What the contracts of this crate cite beside the definitions of `meaning`, `method`, `room`, `kinds` and `untils`.
 pub mod Children
-pub mod Sights
+pub mod Inputs

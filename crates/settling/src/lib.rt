@@ -20,11 +20,11 @@ ghost use Rattle.meaning.specs.Formula.{inWindow, compares};
 ghost use Rattle.meaning.specs.Definition2.{value};
 ghost use Rattle.meaning.specs.Evaluator.{cutTo, valuationOf, andRows, untilRows, lookUp};
 ghost use Rattle.method.specs.Stored.{stampIn};
-ghost use Rattle.rowset.specs.Sets.{Room, Added};
+ghost use Rattle.rowset.specs.Sets.{SetRoom, Added};
 ghost use Rattle.kinds.specs.Kinds.{inMask, PairsThere};
 ghost use Rattle.untils.specs.Until.{leftTest, Stand};
 ghost use Rattle.settling.specs.Children.{childSet, SetStands};
-ghost use Rattle.settling.specs.Sights.{asked, rightIn, PointSettled, PairsSettled};
+ghost use Rattle.settling.specs.Inputs.{asked, rightIn, PointSettled, PairsSettled};
 
 // The window holds what has elapsed from point j to point k.
 fn due(times: &[u32], base: Point, w: Window, j: Point, k: Point) -> bool
@@ -37,7 +37,7 @@ fn due(times: &[u32], base: Point, w: Window, j: Point, k: Point) -> bool
 // Puts in a child's set at point j.
 fn copy_at(c: Child, rows: &[u32], at: &[u32], j: Point, out: &mut [u32], n: usize) -> usize
     requires { ⌜ SetStands (now rows) (now at) c j ⌝ }
-    requires { ⌜ Room (now out) n ⌝ }
+    requires { ⌜ SetRoom (now out) n ⌝ }
     ensures { λ k. ⌜ Added (now (out .entry)) n (now (out .exit)) k (childSet (now (rows .entry)) (now (at .entry)) c j) ⌝ }
 {
     let p = untils::set_part(at, c.first, c.low, j);
@@ -47,7 +47,7 @@ fn copy_at(c: Child, rows: &[u32], at: &[u32], j: Point, out: &mut [u32], n: usi
 // The same where the test passed, into an empty set.
 fn copy_if(ok: bool, c: Child, rows: &[u32], at: &[u32], j: Point, out: &mut [u32]) -> usize
     requires { ⌜ SetStands (now rows) (now at) c j ⌝ }
-    requires { ⌜ Room (now out) 0 ⌝ }
+    requires { ⌜ SetRoom (now out) 0 ⌝ }
     ensures { λ k. ⌜ Added (now (out .entry)) 0 (now (out .exit)) k (cond ok (childSet (now (rows .entry)) (now (at .entry)) c j) []) ⌝ }
 {
     if ok {
@@ -60,7 +60,7 @@ fn copy_if(ok: bool, c: Child, rows: &[u32], at: &[u32], j: Point, out: &mut [u3
 fn and_at(a: Child, b: Child, rows: &[u32], at: &[u32], i: Point, out: &mut [u32]) -> usize
     requires { ⌜ SetStands (now rows) (now at) a i ⌝ }
     requires { ⌜ SetStands (now rows) (now at) b i ⌝ }
-    requires { ⌜ Room (now out) 0 ⌝ }
+    requires { ⌜ SetRoom (now out) 0 ⌝ }
     ensures { λ k. ⌜ Added (now (out .entry)) 0 (now (out .exit)) k (andRows (inMask (a .mask)) (inMask (b .mask)) (childSet (now (rows .entry)) (now (at .entry)) a i) (childSet (now (rows .entry)) (now (at .entry)) b i)) ⌝ }
 {
     let p = untils::set_part(at, a.first, a.low, i);
@@ -72,7 +72,7 @@ fn and_at(a: Child, b: Child, rows: &[u32], at: &[u32], i: Point, out: &mut [u32
 fn and_not_at(a: Child, b: Child, rows: &[u32], at: &[u32], i: Point, out: &mut [u32]) -> usize
     requires { ⌜ SetStands (now rows) (now at) a i ⌝ }
     requires { ⌜ SetStands (now rows) (now at) b i ⌝ }
-    requires { ⌜ Room (now out) 0 ⌝ }
+    requires { ⌜ SetRoom (now out) 0 ⌝ }
     ensures { λ k. ⌜ Added (now (out .entry)) 0 (now (out .exit)) k (select (λ u. not (lookUp (cutTo (inMask (b .mask)) (valuationOf u)) (childSet (now (rows .entry)) (now (at .entry)) b i))) (childSet (now (rows .entry)) (now (at .entry)) a i)) ⌝ }
 {
     let p = untils::set_part(at, a.first, a.low, i);
@@ -91,7 +91,7 @@ fn keep_at(
     out: &mut [u32],
 ) -> usize
     requires { ⌜ SetStands (now rows) (now at) a i ⌝ }
-    requires { ⌜ Room (now out) 0 ⌝ }
+    requires { ⌜ SetRoom (now out) 0 ⌝ }
     ensures { λ k. ⌜ Added (now (out .entry)) 0 (now (out .exit)) k (select (λ u. compares c (value (valuationOf u) (s .first)) (value (valuationOf u) (s .second))) (childSet (now (rows .entry)) (now (at .entry)) a i)) ⌝ }
 {
     let p = untils::set_part(at, a.first, a.low, i);
@@ -104,7 +104,7 @@ fn keep_at(
 fn or_at(a: Child, b: Child, rows: &[u32], at: &[u32], i: Point, out: &mut [u32]) -> usize
     requires { ⌜ SetStands (now rows) (now at) a i ⌝ }
     requires { ⌜ SetStands (now rows) (now at) b i ⌝ }
-    requires { ⌜ Room (now out) 0 ⌝ }
+    requires { ⌜ SetRoom (now out) 0 ⌝ }
     ensures { λ k. ⌜ Added (now (out .entry)) 0 (now (out .exit)) k (childSet (now (rows .entry)) (now (at .entry)) a i ++ childSet (now (rows .entry)) (now (at .entry)) b i) ⌝ }
 {
     let k = copy_at(a, rows, at, i, out, 0);
@@ -114,7 +114,7 @@ fn or_at(a: Child, b: Child, rows: &[u32], at: &[u32], i: Point, out: &mut [u32]
 // "exists" at point i.
 fn exists_at(a: Child, x: u32, rows: &[u32], at: &[u32], i: Point, out: &mut [u32]) -> usize
     requires { ⌜ SetStands (now rows) (now at) a i ⌝ }
-    requires { ⌜ Room (now out) 0 ⌝ }
+    requires { ⌜ SetRoom (now out) 0 ⌝ }
     ensures { λ k. ⌜ Added (now (out .entry)) 0 (now (out .exit)) k (map (λ u. cutTo (λ y. not (eqb y x)) (valuationOf u)) (childSet (now (rows .entry)) (now (at .entry)) a i)) ⌝ }
 {
     let p = untils::set_part(at, a.first, a.low, i);
@@ -133,7 +133,7 @@ fn previous_at(
     out: &mut [u32],
 ) -> usize
     requires { ⌜ (0 < i .0 → SetStands (now rows) (now at) a (pointBefore i)) ⌝ }
-    requires { ⌜ Room (now out) 0 ⌝ }
+    requires { ⌜ SetRoom (now out) 0 ⌝ }
     ensures { λ k. ⌜ Added (now (out .entry)) 0 (now (out .exit)) k (cond (ltb 0 (i .0) && inWindow w (elapsed (stampIn base (now (times .entry)) (pointBefore i)) (stampIn base (now (times .entry)) i))) (childSet (now (rows .entry)) (now (at .entry)) a (pointBefore i)) []) ⌝ }
 {
     if 0 < i.0 {
@@ -156,7 +156,7 @@ fn next_at(
     out: &mut [u32],
 ) -> usize
     requires { ⌜ (i .0 + 1 < a .count) × SetStands (now rows) (now at) a (point (i .0 + 1)) ⌝ }
-    requires { ⌜ Room (now out) 0 ⌝ }
+    requires { ⌜ SetRoom (now out) 0 ⌝ }
     ensures { λ k. ⌜ Added (now (out .entry)) 0 (now (out .exit)) k (cond (inWindow w (elapsed (stampIn base (now (times .entry)) i) (stampIn base (now (times .entry)) (pointAfter i)))) (childSet (now (rows .entry)) (now (at .entry)) a (pointAfter i)) []) ⌝ }
 {
     let j = Point(i.0 + 1);
@@ -179,7 +179,7 @@ fn until_at(
 ) -> usize
     requires { ⌜ Stand (now rows) (now at) (a .first) (a .low) i (min (a .count) (b .count)) ⌝ }
     requires { ⌜ Stand (now rows) (now at) (b .first) (b .low) i (min (a .count) (b .count)) ⌝ }
-    requires { ⌜ Room (now out) 0 ⌝ }
+    requires { ⌜ SetRoom (now out) 0 ⌝ }
     ensures { λ k. ⌜ Added (now (out .entry)) 0 (now (out .exit)) k (untilRows (stampIn base (now (times .entry))) (min (a .count) (b .count)) w (leftTest left (a .mask) (childSet (now (rows .entry)) (now (at .entry)) a)) (childSet (now (rows .entry)) (now (at .entry)) b) i) ⌝ }
 {
     let m = progress::lower(a.count, b.count);
@@ -220,7 +220,7 @@ pub fn settle_point(
     out: &mut [u32],
 ) -> usize
     requires { ⌜ asked (now rule) (now event) (now rows) (now at) (now «old_ages») (now «old_values») left right start i node ⌝ }
-    requires { ⌜ Room (now out) 0 ⌝ }
+    requires { ⌜ SetRoom (now out) 0 ⌝ }
     ensures { λ k. ⌜ PointSettled (now (rule .entry)) (now (event .entry)) (now (rows .entry)) (now (at .entry)) (now (times .entry)) base (now («old_ages» .entry)) (now («old_values» .entry)) left right start i node (now (out .exit)) k ⌝ }
 {
     match node {

@@ -19,7 +19,7 @@ ghost use Rattle.meaning.specs.Evaluator.{setOf};
 ghost use Rattle.meaning.specs.Kept.{belowEnd, countedAge};
 ghost use Rattle.method.specs.Stored.{stampIn};
 ghost use Rattle.rowset.specs.Rows.{wordsOf, rowsFrom};
-ghost use Rattle.rowset.specs.Sets.{Run, Room, Added};
+ghost use Rattle.rowset.specs.Sets.{Run, SetRoom, Added};
 ghost use Rattle.kinds.specs.Kinds.{PairsThere};
 ghost use Rattle.room.specs.Room.{setAt};
 ghost use Rattle.untils.specs.Until.{leftTest, leads, Stand};
@@ -89,7 +89,7 @@ fn put_point_if(
 ) -> usize
     requires { ⌜ Stand (now rows) (now at) (a .first) (a .low) (point (j .0 + 1)) (end .0) ⌝ }
     requires { ⌜ Stand (now rows) (now at) (b .first) (b .low) j (j .0 + 1) ⌝ }
-    requires { ⌜ Room (now out) n ⌝ }
+    requires { ⌜ SetRoom (now out) n ⌝ }
     ensures { λ k. ⌜ Added (now (out .entry)) n (now (out .exit)) k (cond ok (select (leads left (a .mask) (setAt (now (rows .entry)) (now (at .entry)) (a .first) (a .low)) (point (j .0 + 1)) end) (setAt (now (rows .entry)) (now (at .entry)) (b .first) (b .low) j)) []) ⌝ }
 {
     if ok {
@@ -138,7 +138,7 @@ fn put_fresh(
     requires { ⌜ i .0 + 1 < 4294967296 ⌝ }
     requires { ⌜ Stand (now rows) (now at) (a .first) (a .low) start (i .0 + 1) ⌝ }
     requires { ⌜ Stand (now rows) (now at) (b .first) (b .low) start (i .0 + 1) ⌝ }
-    requires { ⌜ Room (now out) 0 ⌝ }
+    requires { ⌜ SetRoom (now out) 0 ⌝ }
     ensures { λ k. ⌜ Added (now (out .entry)) 0 (now (out .exit)) k (freshRows (stampIn base (now (times .entry))) w (leftTest left (a .mask) (setAt (now (rows .entry)) (now (at .entry)) (a .first) (a .low))) (setAt (now (rows .entry)) (now (at .entry)) (b .first) (b .low)) start i) ⌝ }
 {
     let here = progress::time_in(times, base, i);
@@ -165,7 +165,7 @@ fn put_aged(
     n: usize,
 ) -> usize
     requires { ⌜ PairsThere (now «old_ages») (now «old_values») (length (now «old_ages»)) × (ascending (heldIn (now «old_ages») (now «old_values»)) ≡ true) ⌝ }
-    requires { ⌜ Room (now out) n × (ascending (rowsFrom (now out) 0 n) ≡ true) ⌝ }
+    requires { ⌜ SetRoom (now out) n × (ascending (rowsFrom (now out) 0 n) ≡ true) ⌝ }
     ensures { λ k. ⌜ Added (now (out .entry)) n (now (out .exit)) k (olderRows w by (λ _. true) (heldIn (now («old_ages» .entry)) (now («old_values» .entry)))) ⌝ }
 {
     let bounds = bounds_of(w);
@@ -213,7 +213,7 @@ fn put_older(
     requires { ⌜ i .0 + 1 < 4294967296 ⌝ }
     requires { ⌜ Stand (now rows) (now at) (a .first) (a .low) start (i .0 + 1) ⌝ }
     requires { ⌜ PairsThere (now «old_ages») (now «old_values») (length (now «old_ages»)) ⌝ }
-    requires { ⌜ Room (now out) n × (ascending (rowsFrom (now out) 0 n) ≡ true) ⌝ }
+    requires { ⌜ SetRoom (now out) n × (ascending (rowsFrom (now out) 0 n) ≡ true) ⌝ }
     ensures { λ k. ⌜ Added (now (out .entry)) n (now (out .exit)) k (olderRows w by (leads left (a .mask) (setAt (now (rows .entry)) (now (at .entry)) (a .first) (a .low)) start (point (i .0 + 1))) (heldIn (now («old_ages» .entry)) (now («old_values» .entry)))) ⌝ }
 {
     let bounds = bounds_of(w);
@@ -254,7 +254,7 @@ pub fn rows_at(
     requires { ⌜ Stand (now rows) (now at) (a .first) (a .low) start (i .0 + 1) ⌝ }
     requires { ⌜ Stand (now rows) (now at) (b .first) (b .low) start (i .0 + 1) ⌝ }
     requires { ⌜ PairsThere (now «old_ages») (now «old_values») (length (now «old_ages»)) × (ascending (heldIn (now «old_ages») (now «old_values»)) ≡ true) ⌝ }
-    requires { ⌜ Room (now out) 0 ⌝ }
+    requires { ⌜ SetRoom (now out) 0 ⌝ }
     ensures { λ k. ⌜ Added (now (out .entry)) 0 (now (out .exit)) k (rowsIn left (now (rows .entry)) (now (at .entry)) (now (times .entry)) base w a b (heldIn (now («old_ages» .entry)) (now («old_values» .entry))) start i) ⌝ }
 {
     let by = grown_by(times, base, start, i);

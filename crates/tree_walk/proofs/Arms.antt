@@ -13,7 +13,7 @@ use Rattle.meaning.specs.RuleFile.{Accepted, checking, nodeCount, nodeAt, child
 use Rattle.meaning.proofs.Accepted.{nodes-most}
 use Rattle.meaning.proofs.Points.{Tested, passed, failed, tested}
 use Rattle.room.specs.Room.{Sets}
-use Rattle.shelf.specs.Appended.{Extended}
+use Rattle.entries.specs.Appended.{Extended}
 use Rattle.method.specs.Stored.{Stored}
 use Rattle.method.specs.Step.{crowdedNow}
 use Rattle.method.specs.Room.{weight, leftLighter, heavier, lighter, need, rowsMost, setsMost}

@@ -9,8 +9,8 @@ use lib.ListN.{length, getD}
 use lib.Dec.{eqb}
 use borrow.Author.Tests.{ne-eqb}
 use Rattle.room.specs.Room.{Sets}
-use Rattle.room.proofs.Laid.{laid-fewer}
-use Rattle.shelf.specs.Appended.{Extended}
+use Rattle.room.proofs.SetsInOrder.{laid-fewer}
+use Rattle.entries.specs.Appended.{Extended}
 use Rattle.method.specs.Stored.{Stored}
 use Rattle.method.specs.Step.{crowdedNow}
 use Rattle.method.specs.Room.{setsMost}

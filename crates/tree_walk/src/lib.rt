@@ -1,5 +1,6 @@
 // The walk over a rule's tree in a call: a node's children first, of two the heavier first, then the node itself, whose sets take the place of its children's.
 use meaning::Children;
+use node_step::NO_NODE;
 use node_step::Place;
 use node_step::Spot;
 use node_step::own_step;
@@ -86,7 +87,7 @@ fn stood(figures: &[u32], x: u8, low: u8) -> usize
     requires { ⌜ (x * 9 + 9 ≤ length (now figures)) × (lowIn (now figures) x ≤ afterIn (now figures) x) ⌝ }
     ensures { λ r. ⌜ r ≡ cond (eqb low 32) (afterIn (now (figures .entry)) x - lowIn (now (figures .entry)) x) 0 ⌝ }
 {
-    if low == 32 {
+    if low == NO_NODE {
         return sets_of(figures, x);
     }
     0
@@ -148,7 +149,7 @@ fn climb(
     match children {
         Children::None => p,
         Children::One(a) => {
-            if p.low < 32 {
+            if p.low < NO_NODE {
                 return p;
             }
             let d = sets_of(figures, a);
@@ -200,7 +201,7 @@ fn climb(
                 p.kept,
             );
             let low = lower(p.low, q.low);
-            if low < 32 {
+            if low < NO_NODE {
                 return Place { kept: q.kept, low };
             }
             let e = sets_of(figures, second);
@@ -249,7 +250,7 @@ fn tree(
     requires { ⌜ TreeReady (called (now rule) points (now stamps) (now owners) (now numbers) (now values)) (now event) (now rows) (now at) (now «out_numbers») (now «out_values») (now blocks) x h kept ⌝ }
     ensures { λ r. ⌜ TreeWalks (called (now (rule .entry)) points (now (stamps .entry)) (now (owners .entry)) (now (numbers .entry)) (now (values .entry))) (now (event .entry)) x h (now (rows .entry)) (now (at .entry)) (now (rows .exit)) (now (at .exit)) (now («out_numbers» .entry)) (now («out_values» .entry)) (now (blocks .entry)) (now («out_numbers» .exit)) (now («out_values» .exit)) (now (blocks .exit)) kept r ⌝ }
 {
-    let mut path = [0u8; 32];
+    let mut path = [0u8; meaning::MOST_NODES];
     let mut k = descend(rule, figures, &mut path, x);
     let spot = Spot {
         below: h,

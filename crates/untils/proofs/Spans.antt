@@ -7,13 +7,13 @@ use lib.ListN.{getD}
 use Rattle.meaning.specs.declared.Point.{Point}
 use Rattle.rowset.specs.Rows.{rowsFrom}
 use Rattle.rowset.specs.Sets.{Run}
-use Rattle.room.proofs.Laid.{laid-fewer}
-use Rattle.room.specs.Room.{Laid, setAt}
+use Rattle.room.proofs.SetsInOrder.{laid-fewer}
+use Rattle.room.specs.Room.{SetsInOrder, setAt}
 use Rattle.untils.specs.Until.{Stand}
 
 module _ {rows at : List ℕ} where
   -- a node's sets are among those laid
-  pub stand-in : {n : ℕ} → Laid rows at n → (first : ℕ) (low i : Point) (m : ℕ) → low .0 ≤ i .0 → i .0 ≤ m → first + (m - low .0) ≤ n → Stand rows at first low i m
+  pub stand-in : {n : ℕ} → SetsInOrder rows at n → (first : ℕ) (low i : Point) (m : ℕ) → low .0 ≤ i .0 → i .0 ≤ m → first + (m - low .0) ≤ n → Stand rows at first low i m
   stand-in h first low i m l o k = record { low-most = l; ordered = o; laid = laid-fewer h (first + (m - low .0)) k }
 
   -- fewer points
@@ -25,7 +25,7 @@ module _ {rows at : List ℕ} where
     pub set-run : Run rows from to
     set-run =
         let g : first + (k .0 + 1 - low .0) ≡ first + (k .0 - low .0) + 1 = omega (arith, s .low-most) in
-        let h : Laid rows at (first + (k .0 - low .0) + 1) = rw g at (s .laid) in
+        let h : SetsInOrder rows at (first + (k .0 - low .0) + 1) = rw g at (s .laid) in
         record { ordered = omega (arith, h .steps (first + (k .0 - low .0)) (omega arith)); there = omega (arith, h .words) }
 
     pub set-read : rowsFrom rows from (to - from) ≡ setAt rows at first low k

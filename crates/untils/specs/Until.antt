@@ -9,7 +9,7 @@ use Rattle.meaning.specs.declared.Point.{Point}
 use Rattle.meaning.specs.View.{passes}
 use Rattle.meaning.specs.declared.Left.{Left}
 use Rattle.kinds.specs.Kinds.{inMask}
-use Rattle.room.specs.Room.{Laid}
+use Rattle.room.specs.Room.{SetsInOrder}
 
 -- left passes at point k for a row that is cut down already
 abbrev pub passesAt : Left → (Point → List (List ℕ)) → List ℕ → Point → Bool
@@ -27,4 +27,4 @@ leads l mask sets i j u = all (leftTest l mask sets u) (pointsFrom i (j .0 - i .
 pub record Stand (rows at : List ℕ) (first : ℕ) (low i : Point) (m : ℕ) : Type 0 where
   pub low-most : low .0 ≤ i .0
   pub ordered : i .0 ≤ m
-  pub laid : Laid rows at (first + (m - low .0))
+  pub laid : SetsInOrder rows at (first + (m - low .0))

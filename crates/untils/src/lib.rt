@@ -16,7 +16,7 @@ ghost use Rattle.meaning.specs.Evaluator.{leading, untilRows, lookUp};
 ghost use Rattle.meaning.specs.View.{passes};
 ghost use Rattle.method.specs.Stored.{stampIn};
 ghost use Rattle.rowset.specs.Rows.{wordsOf, rowsFrom};
-ghost use Rattle.rowset.specs.Sets.{Run, Room, Added};
+ghost use Rattle.rowset.specs.Sets.{Run, SetRoom, Added};
 ghost use Rattle.room.specs.Room.{setAt};
 ghost use Rattle.untils.specs.Until.{passesAt, leftTest, leads, Stand};
 
@@ -149,7 +149,7 @@ pub fn put_leading(
 ) -> usize
     requires { ⌜ Stand (now rows) (now at) fa la i (j .0) ⌝ }
     requires { ⌜ Run (now rows) from to ⌝ }
-    requires { ⌜ Room (now out) n ⌝ }
+    requires { ⌜ SetRoom (now out) n ⌝ }
     ensures { λ k. ⌜ Added (now (out .entry)) n (now (out .exit)) k (select (leads left mask (setAt (now (rows .entry)) (now (at .entry)) fa la) i j) (rowsFrom (now (rows .entry)) from (to - from))) ⌝ }
 {
     let mut k = n;
@@ -181,7 +181,7 @@ fn put_point_if(
 ) -> usize
     requires { ⌜ Stand (now rows) (now at) fa la i (j .0) ⌝ }
     requires { ⌜ Stand (now rows) (now at) fb lb j (j .0 + 1) ⌝ }
-    requires { ⌜ Room (now out) n ⌝ }
+    requires { ⌜ SetRoom (now out) n ⌝ }
     ensures { λ k. ⌜ Added (now (out .entry)) n (now (out .exit)) k (cond ok (leading (leftTest left mask (setAt (now (rows .entry)) (now (at .entry)) fa la)) (setAt (now (rows .entry)) (now (at .entry)) fb lb) i j) []) ⌝ }
 {
     if ok {
@@ -211,7 +211,7 @@ pub fn until(
 ) -> usize
     requires { ⌜ Stand (now rows) (now at) fa la i m ⌝ }
     requires { ⌜ Stand (now rows) (now at) fb lb i m ⌝ }
-    requires { ⌜ Room (now out) n ⌝ }
+    requires { ⌜ SetRoom (now out) n ⌝ }
     ensures { λ k. ⌜ Added (now (out .entry)) n (now (out .exit)) k (untilRows (stampIn base (now (times .entry))) m w (leftTest left mask (setAt (now (rows .entry)) (now (at .entry)) fa la)) (setAt (now (rows .entry)) (now (at .entry)) fb lb) i) ⌝ }
 {
     let start = progress::time_in(times, base, i);

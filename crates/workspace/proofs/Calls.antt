@@ -32,12 +32,12 @@ use Rattle.kinds.specs.Kinds.{inMask}
 use Rattle.room.specs.Room.{setIn, setAt}
 use Rattle.writer.specs.Words.{reportedFrom, words, Reportable}
 use Rattle.writer.proofs.Reports.{reportable}
-use Rattle.weighing.specs.declared.Refusal.{Refusal}
-use Rattle.weighing.specs.declared.Refusal.the-variants.{Crowded}
-use Rattle.weighing.specs.declared.Weighed.{Weighed}
-use Rattle.weighing.specs.declared.Weighed.the-variants.{Refused, Written}
-use Rattle.weighing.specs.Weighs.{weighedOf, afterCrowds, Weighs}
-use Rattle.weighing.proofs.Weighing.{words-few, not-written}
+use Rattle.limits.specs.declared.Refusal.{Refusal}
+use Rattle.limits.specs.declared.Refusal.the-variants.{Crowded}
+use Rattle.limits.specs.declared.Weighed.{Weighed}
+use Rattle.limits.specs.declared.Weighed.the-variants.{Refused, Written}
+use Rattle.limits.specs.Weighs.{weighedOf, afterCrowds, Weighs}
+use Rattle.limits.proofs.Weighing.{words-few, not-written}
 use Rattle.node_step.specs.declared.Place.{Place}
 use Rattle.node_step.specs.Figures.{called, CallReady, NodeFigures, beforeIn, afterIn, lowIn, maskIn}
 use Rattle.node_step.specs.Walks.{blockIn, OutThere, Walked}

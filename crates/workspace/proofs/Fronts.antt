@@ -10,7 +10,7 @@ use lib.Dec.{ltb}
 use borrow.Author.Tests.{ltb-true, ltb-false}
 use Rattle.meaning.specs.Lists.{range, gather}
 use Rattle.meaning.proofs.Points.{Tested, passed, failed, tested}
-use Rattle.shelf.specs.Appended.{WordsPut, atFront}
+use Rattle.entries.specs.Appended.{WordsPut, atFront}
 use Rattle.workspace.specs.Blocks.{ListPut}
 
 -- ---- numbers in a row

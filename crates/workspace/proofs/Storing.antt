@@ -11,8 +11,8 @@ use Rattle.meaning.specs.Kept.{Entry, entryOf}
 use Rattle.meaning.proofs.Lists.{range-length, gather-append}
 use Rattle.method.proofs.Turns.{map-append}
 use Rattle.rowset.specs.Rows.{rowAt}
-use Rattle.shelf.specs.Appended.{WordsPut, atFront}
-use Rattle.shelf.proofs.Listed.{listed-append, map-twice}
+use Rattle.entries.specs.Appended.{WordsPut, atFront}
+use Rattle.entries.proofs.Listed.{listed-append, map-twice}
 use Rattle.writer.proofs.Gathers.{gather-map}
 use Rattle.node_step.specs.Walks.{blockWord, blockIn}
 use Rattle.workspace.specs.Stores.{ownerOf, EntriesStored, Storable}

@@ -8,7 +8,7 @@ use Rattle.meaning.specs.Kept.{Entry}
 use Rattle.meaning.specs.Log.{point}
 use Rattle.meaning.specs.Outcome.{mostPoints}
 use Rattle.meaning.specs.RuleFile.{nodeCount, lastNode}
-use Rattle.shelf.specs.Appended.{WordsPut}
+use Rattle.entries.specs.Appended.{WordsPut}
 use Rattle.writer.specs.declared.Points.{Points}
 use Rattle.writer.specs.Words.{words, Reportable}
 use Rattle.node_step.specs.Figures.{maskIn, lowIn, beforeIn, afterIn}

@@ -8,10 +8,10 @@ use Rattle.meaning.specs.RuleFile.{nodeCount, lastNode}
 use Rattle.meaning.specs.Keeper.{weighed, bufferAfter}
 use Rattle.method.specs.Stored.{Stored}
 use Rattle.method.specs.Step.{countAfter, storedNow, crowdedNow, reportNow}
-use Rattle.weighing.specs.Weighs.{weighedOf}
-use Rattle.weighing.specs.declared.Refusal.{Refusal}
-use Rattle.weighing.specs.declared.Weighed.{Weighed}
-use Rattle.weighing.specs.declared.Weighed.the-variants.{Refused, Written}
+use Rattle.limits.specs.Weighs.{weighedOf}
+use Rattle.limits.specs.declared.Refusal.{Refusal}
+use Rattle.limits.specs.declared.Weighed.{Weighed}
+use Rattle.limits.specs.declared.Weighed.the-variants.{Refused, Written}
 use Rattle.node_step.specs.Figures.{called, CallReady}
 use Rattle.workspace.specs.Stores.{EntriesStored}
 use Rattle.workspace.specs.declared.Settled.{Settled}

@@ -5,7 +5,7 @@ use mathlib.Core.List.{List, map}
 use lib.ListN.{length}
 use Rattle.meaning.specs.Lists.{range, gather}
 use Rattle.meaning.specs.Kept.{Entry}
-use Rattle.shelf.specs.Appended.{atFront}
+use Rattle.entries.specs.Appended.{atFront}
 use Rattle.node_step.specs.Walks.{blockWord, blockIn}
 
 -- an entry's owner in one word: its node twice, and its mark

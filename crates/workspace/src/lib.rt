@@ -1,7 +1,8 @@
 // The room of a call, chosen by how many rows it needs and how many entries it may keep: the walk over the tree, refusals 13 to 16, the report, and the entries that are then kept, stored.
 use meaning::Point;
-use weighing::Refusal;
-use weighing::Weighed;
+use node_step::NO_NODE;
+use limits::Refusal;
+use limits::Weighed;
 use writer::Points;
 ghost use mathlib.Core.Path.{_≡_};
 ghost use Prim.Native.Nat.{_+_, _-_, _*_, _≤_, _<_};
@@ -13,7 +14,7 @@ ghost use Rattle.method.specs.Room.{rowsNeeded, marksNeeded};
 ghost use Rattle.node_step.specs.Figures.{afterIn};
 ghost use Rattle.node_step.specs.Walks.{blockIn};
 ghost use Rattle.writer.specs.Words.{words};
-ghost use Rattle.weighing.specs.Weighs.{Weighs};
+ghost use Rattle.limits.specs.Weighs.{Weighs};
 ghost use Rattle.workspace.specs.Stores.{EntriesStored, Storable};
 ghost use Rattle.workspace.specs.Blocks.{EntriesPut, BlockStorable, lastPoints, LastReady};
 ghost use Rattle.workspace.specs.Settles.{callIn, ReadyIn, RoomToKeep, SettledCall, Tried};
@@ -46,9 +47,6 @@ const MARKS: usize = 391;
 
 const TABLE: usize = 96;
 
-// The number that stands for no node: one more than the last of 32.
-const NO_NODE: u8 = 32;
-
 // A call that was tried: settled, or more entries would be kept than there was room for.
 pub enum Settled {
     Done(Weighed),
@@ -74,10 +72,10 @@ fn store_block(
     let pairs = blocks[at + 1] as usize;
     let to = blocks[at + 2] as usize;
     let owner = (x as u32) * 2;
-    shelf::fill(owner, pairs - from, owners, k);
-    shelf::fill(owner + 1, to - pairs, owners, k + (pairs - from));
-    shelf::copy_words(&out_numbers[from..to], to - from, numbers, k);
-    shelf::copy_words(
+    entries::fill(owner, pairs - from, owners, k);
+    entries::fill(owner + 1, to - pairs, owners, k + (pairs - from));
+    entries::copy_words(&out_numbers[from..to], to - from, numbers, k);
+    entries::copy_words(
         &out_values[from * 4..to * 4],
         (to - from) * 4,
         values,
@@ -141,7 +139,7 @@ fn weigh_last(
         base: Point(points + 1 - stamps.len() as u32),
         mask: figures[x] as u8,
     };
-    weighing::weigh(report, rows, at, stamps, p, points + 1 - after, kept)
+    limits::weigh(report, rows, at, stamps, p, points + 1 - after, kept)
 }
 
 // A call in lent room: all nodes, refusals 13 to 16, and where none applies the report and the entries that are then kept.

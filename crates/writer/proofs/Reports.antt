@@ -18,8 +18,8 @@ use Rattle.method.specs.Stored.{stampIn}
 use Rattle.rowset.specs.declared.Row.{Row}
 use Rattle.rowset.specs.Rows.{wordsOf, rowAt, rowsFrom}
 use Rattle.rowset.proofs.Runs.{rows-length, rows-append}
-use Rattle.room.proofs.Laid.{marks-rise, laid-fewer}
-use Rattle.room.specs.Room.{setAt, Laid}
+use Rattle.room.proofs.SetsInOrder.{marks-rise, laid-fewer}
+use Rattle.room.specs.Room.{setAt, SetsInOrder}
 use Rattle.kinds.specs.Kinds.{inMask}
 use Rattle.writer.specs.declared.Points.{Points}
 use Rattle.writer.specs.declared.Part.the-variants.{Sizes, Triples, Rows}
@@ -160,7 +160,7 @@ rows-ordered {at} {p} m = marks-rise at (firstSet p) (p .count) (m .steps)
 
 -- points can be reported whose sets are among those that stand in the words, and these have their marks
 module _ {rows at : List ℕ} {p : Points} where
-  pub reportable : {n : ℕ} → p .low .0 ≤ p .from .0 → Laid rows at n → endSet p ≤ n → p .from .0 + p .count < 2 ^ 32 → Reportable rows at p
+  pub reportable : {n : ℕ} → p .low .0 ≤ p .from .0 → SetsInOrder rows at n → endSet p ≤ n → p .from .0 + p .count < 2 ^ 32 → Reportable rows at p
   reportable h l k m = record { from = h; laid = laid-fewer l _ k; numbers = m }
 
   pub marked : Reportable rows at p → Marked at p

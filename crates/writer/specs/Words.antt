@@ -10,7 +10,7 @@ use Rattle.meaning.specs.Keeper.{reportRow}
 use Rattle.meaning.specs.declared.Point.{Point}
 use Rattle.method.specs.Stored.{stampIn}
 use Rattle.rowset.specs.Rows.{rowsFrom}
-use Rattle.room.specs.Room.{setAt, Laid}
+use Rattle.room.specs.Room.{setAt, SetsInOrder}
 use Rattle.kinds.specs.Kinds.{inMask}
 use Rattle.writer.specs.declared.Points.{Points}
 use Rattle.writer.specs.declared.Part.{Part}
@@ -72,5 +72,5 @@ pub record Marked (at : List ℕ) (p : Points) : Type 0 where
 -- the points can be reported: their sets stand in the words, and their numbers are words
 pub record Reportable (rows at : List ℕ) (p : Points) : Type 0 where
   pub from : p .low .0 ≤ p .from .0
-  pub laid : Laid rows at (endSet p)
+  pub laid : SetsInOrder rows at (endSet p)
   pub numbers : p .from .0 + p .count < 2 ^ 32

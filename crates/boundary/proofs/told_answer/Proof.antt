@@ -1,6 +1,6 @@
 -- `told_answer` meets its contract, answer by answer.
 use mathlib.Core.Path.{sym, ap, _∙_}
-use Rattle.lent.specs.Lent.{answerOf}
+use Rattle.lent_state.specs.Lent.{answerOf}
 use Rattle.boundary.specs.Numbers.{toldOf}
 use borrow.Author.Needs.{needs}
 use Rattle.boundary.proofs.told_answer.Statement.{statement}

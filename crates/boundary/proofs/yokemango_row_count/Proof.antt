@@ -2,7 +2,7 @@
 use mathlib.Core.Path.{sym, ap, _∙_}
 use borrow.Author.Needs.{needs}
 use Rattle.report.specs.Answer.{answerOf}
-use Rattle.report.specs.declared.Counted.{Counted}
+use Rattle.report.specs.declared.RowCount.{RowCount}
 use Rattle.boundary.specs.Exported.{countOrNone}
 use Rattle.boundary.proofs.yokemango_row_count.Statement.{statement}
 use Rattle.boundary.proofs.yokemango_row_count.Tie as tie
@@ -20,10 +20,10 @@ enum-told : tie.Need-enum-told
 enum-told c = search needs
 
 returns : tie.Need-returns
-returns c = sym (ap (λ (a : Counted). countOrNone (answerOf a)) (c .before .n .given .1)) ∙ ap countOrNone (c .before .before .before .row-count .ensures)
+returns c = sym (ap (λ (a : RowCount). countOrNone (answerOf a)) (c .before .n .given .1)) ∙ ap countOrNone (c .before .before .before .row-count .ensures)
 
 returns-2 : tie.Need-returns-2
-returns-2 c = sym (ap (λ (a : Counted). countOrNone (answerOf a)) (c .enum-told .given .1)) ∙ ap countOrNone (c .before .before .row-count .ensures)
+returns-2 c = sym (ap (λ (a : RowCount). countOrNone (answerOf a)) (c .enum-told .given .1)) ∙ ap countOrNone (c .before .before .row-count .ensures)
 
 pub yokemango-row-count-spec : {M : Type 1} → statement M
 yokemango-row-count-spec =

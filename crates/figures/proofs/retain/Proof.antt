@@ -10,7 +10,7 @@ use borrow.Author.Needs.{needs}
 use Rattle.meaning.specs.declared.Point.{Point}
 use Rattle.method.specs.Stored.{firstRetained}
 use Rattle.method.proofs.Least.{least-most}
-use Rattle.shelf.specs.Appended.{atFront}
+use Rattle.entries.specs.Appended.{atFront}
 use Rattle.figures.proofs.Front.{put-front}
 use Rattle.figures.proofs.retain.Statement.{statement}
 use Rattle.figures.proofs.retain.Tie as tie

@@ -5,7 +5,7 @@ use mathlib.Core.Bool.{false≢true}
 use borrow.Author.Needs.{needs}
 use Rattle.meaning.specs.Log.{point}
 use Rattle.meaning.proofs.Accepted.{accepted, nodes-most}
-use Rattle.shelf.specs.Entries.{entriesFrom}
+use Rattle.entries.specs.Entries.{entriesFrom}
 use Rattle.formed.proofs.Placing.{placed-as}
 use Rattle.formed.proofs.Whole.{kept-many, kept-tested}
 use Rattle.formed.proofs.kept_fit.Statement.{statement}

@@ -4,7 +4,7 @@ use native.Mathlib.Omega.{arith}
 use mathlib.Core.Path.{refl, sym, _∙_}
 use borrow.Author.Tests.{not-true, not-false}
 use borrow.Author.Needs.{needs}
-use Rattle.shelf.specs.Entries.{isWord}
+use Rattle.entries.specs.Entries.{isWord}
 use Rattle.formed.proofs.Runs.{PairsFound, pairs-found, SetsTo}
 use Rattle.formed.proofs.Ordered.{Streaked, own-run, sets-fit}
 use Rattle.formed.proofs.Climbs.{said-so, said-not}

@@ -9,7 +9,7 @@ use Rattle.meaning.specs.Outcome.{given, mostPoints}
 use Rattle.meaning.specs.RuleFile.{Accepted, checking, isAccepted}
 use Rattle.meaning.proofs.Accepted.{accepted, nodes-most, last-is-node}
 use Rattle.method.proofs.Formed.{is-accepted}
-use Rattle.formed.specs.Parts.{Counted}
+use Rattle.formed.specs.Parts.{CountsStand}
 use Rattle.formed.proofs.Whole.{part-within, part-long, well-refused, well-times, well-kept, known, places}
 use Rattle.formed.proofs.well_formed.Statement.{statement}
 use Rattle.formed.proofs.well_formed.Tie as tie
@@ -48,7 +48,7 @@ part-kept-fit-end c = let (a, e) = rule-is (c .before .before .before .before .b
 counts-stand : (c : tie.Else2) →
     let p = c .before .before .before .before .before in
     let a = p .before .before .before .before .before .before .before .before .before .before .before .before .before .before .before .args in
-    (a .points ≤ mostPoints) × Counted (a .rule .now) (a .points) (a .times .now) (c .before .before .before .times-fit .last .1 .1 .1 .0)
+    (a .points ≤ mostPoints) × CountsStand (a .rule .now) (a .points) (a .times .now) (c .before .before .before .times-fit .last .1 .1 .1 .0)
 counts-stand c = c .before .before .before .times-fit .ensures .1 (not-false _ (c .if2 .left))
 
 kept-fit-requires : tie.Need-kept-fit-requires

@@ -7,7 +7,7 @@ use mathlib.Core.List.{List}
 use lib.ListN.{length, getD, set}
 use lib.Seq.{take-length, paste, paste-zero, paste-suc}
 use borrow.Author.Needs.{needs}
-use Rattle.shelf.specs.Appended.{atFront}
+use Rattle.entries.specs.Appended.{atFront}
 use Rattle.monitor.proofs.copy_bytes.Statement.{statement}
 use Rattle.monitor.proofs.copy_bytes.Tie as tie
 

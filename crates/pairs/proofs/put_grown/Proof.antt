@@ -4,8 +4,8 @@ use native.Mathlib.Omega.{arith}
 use mathlib.Core.Path.{_≡_, refl}
 use lib.ListN.{getD}
 use Rattle.meaning.specs.Order.{before}
-use Rattle.shelf.specs.Appended.{WordsPut}
-use Rattle.shelf.proofs.Putting.{put-none, put-more}
+use Rattle.entries.specs.Appended.{WordsPut}
+use Rattle.entries.proofs.Putting.{put-none, put-more}
 use Rattle.pairs.proofs.put_grown.Statement.{statement}
 use Rattle.pairs.proofs.put_grown.Tie as tie
 

@@ -2,7 +2,7 @@
 use mathlib.Core.Path.{sym, ap, _∙_}
 use borrow.Author.Tests.{not-true, not-false}
 use borrow.Author.Needs.{needs}
-use Rattle.rulefile.specs.declared.Weighed.the-variants.{Free}
+use Rattle.rulefile.specs.declared.Tested.the-variants.{Free}
 use Rattle.rulefile.proofs.weigh_node.Statement.{statement}
 use Rattle.rulefile.proofs.weigh_node.Tie as tie
 

@@ -1,4 +1,4 @@
--- `rulefile::weigh_nodes` meets its contract. The loop keeps `WeighedTo` and `Counted`: the nodes passed so far fit, their masks are in the lent bytes, and their children are counted.
+-- `rulefile::weigh_nodes` meets its contract. The loop keeps `WeighedTo` and `UsesCounted`: the nodes passed so far fit, their masks are in the lent bytes, and their children are counted.
 use Prim.Native.Nat.{_≤_, _<_, _-_}
 use native.Mathlib.Omega.{arith}
 use mathlib.Core.Path.{_≡_, sym, ap, subst, _∙_}
@@ -8,12 +8,12 @@ use Rattle.meaning.specs.RuleFile.{nodeAt, childrenOf}
 use Rattle.meaning.specs.View.{childrenIn}
 use Rattle.rulefile.specs.Weighing.{NodesWeighed}
 use Rattle.rulefile.proofs.Nodes.{WeighedTo, weighingAt, node-read, weighed-none, weighed-more, weighed-all, node-refused, passing-lower}
-use Rattle.rulefile.proofs.Parents.{Counted, counted-none, counted-more, counted-all}
+use Rattle.rulefile.proofs.Parents.{UsesCounted, counted-none, counted-more, counted-all}
 use Rattle.rulefile.proofs.weigh_nodes.Statement.{statement}
 use Rattle.rulefile.proofs.weigh_nodes.Tie as tie
 
 abbrev Inv-loop : tie.InvT-loop
-Inv-loop rule masks₀ uses₀ n x₀ masks uses x = (x ≤ n) × (length masks ≡ length masks₀) × (length uses ≡ length uses₀) × WeighedTo rule masks x × Counted rule uses x
+Inv-loop rule masks₀ uses₀ n x₀ masks uses x = (x ≤ n) × (length masks ≡ length masks₀) × (length uses ≡ length uses₀) × WeighedTo rule masks x × UsesCounted rule uses x
 
 abbrev μ-loop : tie.MeasureT-loop
 μ-loop rule masks₀ uses₀ n x₀ masks uses x = n - x

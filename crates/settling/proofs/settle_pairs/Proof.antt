@@ -13,7 +13,7 @@ use Rattle.meaning.specs.declared.View.{View}
 use Rattle.method.specs.Settle.{hasPairs}
 use Rattle.room.specs.declared.Child.{Child}
 use Rattle.since.specs.Since.{heldIn, pairsIn, PairsPut}
-use Rattle.settling.specs.Sights.{ChildThere, rightIn, PairsSettled}
+use Rattle.settling.specs.Inputs.{ChildThere, rightIn, PairsSettled}
 use Rattle.settling.proofs.Gives.{past-there, past-settled, no-pairs}
 use Rattle.settling.proofs.settle_pairs.Statement.{statement}
 use Rattle.settling.proofs.settle_pairs.Tie as tie

@@ -9,7 +9,7 @@ use Rattle.meaning.specs.declared.Node.{Node}
 use Rattle.rowset.specs.Sets.{Added}
 use Rattle.rowset.proofs.Growing.{added-as}
 use Rattle.kinds.proofs.Atoms.{atom-reads}
-use Rattle.settling.specs.Sights.{asked, PointSettled}
+use Rattle.settling.specs.Inputs.{asked, PointSettled}
 use Rattle.settling.proofs.Gives.{given, point-settled, both-stand}
 use Rattle.settling.proofs.settle_point.Statement.{statement}
 use Rattle.settling.proofs.settle_point.Tie as tie

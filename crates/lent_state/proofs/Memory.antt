@@ -1,0 +1,143 @@
+-- From what a taking over slices leaves to what is lent then.
+use Prim.Native.Nat.{ℕ, _+_, _≤_, _<_}
+use native.Mathlib.Omega.{arith}
+use mathlib.Core.Path.{_≡_, refl, sym, _∙_, ap, ap₂, subst}
+use mathlib.Core.Bool.{true, false, _&&_}
+use mathlib.Core.List.{List}
+use lib.ListN.{length, take}
+use lib.Dec.{leb}
+use borrow.Author.Tests.{eqb-true, leb-true, leb-false}
+use Rattle.meaning.specs.Outcome.{refused, given, notWellFormed, mostPoints}
+use Rattle.meaning.specs.Keeper.{bufferAfter}
+use Rattle.meaning.proofs.Points.{first, second, Tested, passed, failed, tested}
+use Rattle.meaning.proofs.Takings.{admitted-given}
+use Rattle.method.specs.Stored.{Stored}
+use Rattle.method.specs.Step.{latestStored, storedNow, reportNow, answerNow}
+use Rattle.method.specs.WellFormed.{wellFormed}
+use Rattle.formed.specs.NodeFigures.{storedIn}
+use Rattle.limits.specs.Weighs.{refusalOf}
+use Rattle.limits.specs.declared.Refusal.{Refusal}
+use Rattle.limits.specs.declared.Refusal.the-variants.{NotWellFormed, NotAnEvent, RowOut, TimeFalls, LogFull, Crowded, Backlog, KeptOver, BufferShort}
+use Rattle.figures.proofs.Slices.{front-length, front-take, entries-many, long-rule, many-times, many-entries}
+use Rattle.lent_state.specs.Answers.{takenOf, takeAnswer, TakesIn}
+use Rattle.lent_state.specs.Lent.{Lent, lent, lengthsFit, fitting, SizedWords, stored, lentWith, answerOf, answerIn, lentAfter, TakesLent}
+use Rattle.lent_state.specs.declared.Answer.{Answer}
+use Rattle.lent_state.specs.declared.Answer.the-variants.{Written, Refused}
+use Rattle.lent_state.specs.declared.Taken.{Taken}
+use Rattle.lent_state.specs.declared.Taken.the-variants as taken
+
+-- the lengths of a state's arrays
+pub record Sized (rule times owners numbers values : List ℕ) : Type 0 where
+  pub rule-long : length rule ≡ 652
+  pub times-long : length times ≡ 65
+  pub owners-long : length owners ≡ 512
+  pub numbers-long : length numbers ≡ 512
+  pub values-long : length values ≡ 2048
+
+pub fits-sized : (rule times os ns vs : List ℕ) → lengthsFit rule times os ns vs ≡ true → Sized rule times os ns vs
+unfolding lengthsFit
+fits-sized rule times os ns vs f =
+    record {
+      rule-long = eqb-true (length rule) 652 (search first);
+      times-long = eqb-true (length times) 65 (search (first, second));
+      owners-long = eqb-true (length os) 512 (search (first, second));
+      numbers-long = eqb-true (length ns) 512 (search (first, second));
+      values-long = eqb-true (length vs) 2048 (search (first, second));
+    }
+
+pub sized-fits : {rule times os ns vs : List ℕ} → Sized rule times os ns vs → lengthsFit rule times os ns vs ≡ true
+unfolding lengthsFit
+sized-fits h = rw (h .rule-long, h .times-long, h .owners-long, h .numbers-long, h .values-long)
+
+-- slices of a state's lengths, of which so many words are its
+pub sized-words : {rule times os ns vs : List ℕ} {retained count : ℕ} → Sized rule times os ns vs → retained ≤ 64 → count ≤ 512 → SizedWords times os ns vs retained count
+sized-words z r c = record { times-long = z .times-long; owners-long = z .owners-long; numbers-long = z .numbers-long; values-long = z .values-long; few-times = r; few-kept = c }
+
+stays : (m : Lent) (w : List ℕ) (r : Refusal) → m ≡ lentAfter (refusalOf r) m w
+stays m w NotWellFormed = refl
+stays m w NotAnEvent = refl
+stays m w (RowOut k) = refl
+stays m w TimeFalls = refl
+stays m w LogFull = refl
+stays m w (Crowded x) = refl
+stays m w Backlog = refl
+stays m w KeptOver = refl
+stays m w (BufferShort n) = refl
+
+-- an event that is answered with words is taken, so there was room for its point
+given-room : (s : Stored) (w : List ℕ) (room words : ℕ) → takeAnswer s w room ≡ given words → s .points < mostPoints
+unfolding takeAnswer answerNow
+given-room s w room words e = go (tested (wellFormed s))
+  where
+    go : Tested (wellFormed s) → s .points < mostPoints
+    go (passed t) = admitted-given (s .rule) w (latestStored s w) (s .points) _ words (rw t at e) .room
+    go (failed t) =
+        let z : refused notWellFormed 0 ≡ given words = rw t at e in
+        let q : _≡_ {A = ℕ} 0 1 = cc in
+        absurd (omega arith)
+
+module _ (m : Lent) (w buffer : List ℕ) where
+  -- a length isn't a state's
+  pub taken-unfit : fitting m ≡ false → TakesLent m w buffer (Refused NotWellFormed) m buffer
+  unfolding answerIn
+  taken-unfit unfit = record { answered = rw unfit; moved = rw unfit; written = rw unfit }
+
+  module _ (fit : fitting m ≡ true) where
+    -- a figure isn't
+    pub taken-bad : wellFormed (stored m) ≡ false → TakesLent m w buffer (Refused NotWellFormed) m buffer
+    unfolding answerIn takeAnswer
+    taken-bad bad = record { answered = rw (fit, bad); moved = rw (fit, bad); written = rw (fit, bad) }
+
+    module _ {buffer' times' os' ns' vs' : List ℕ} {s : Stored} {r : Taken} (is : s ≡ stored m)
+        (t : TakesIn s w buffer buffer' (m .times) (m .owners) (m .numbers) (m .values) times' os' ns' vs' (takeAnswer s w (length buffer)) r) where
+      takes : TakesIn (stored m) w buffer buffer' (m .times) (m .owners) (m .numbers) (m .values) times' os' ns' vs' (takeAnswer (stored m) w (length buffer)) r
+      takes = subst (λ q. TakesIn q w buffer buffer' (m .times) (m .owners) (m .numbers) (m .values) times' os' ns' vs' (takeAnswer q w (length buffer)) r) is t
+
+      answer-is : takenOf r ≡ answerIn m w (length buffer)
+      unfolding answerIn
+      answer-is = rw fit (takes .outcome)
+
+      left-as : (m' : Lent) (a : Answer) → takenOf r ≡ answerOf a → m' ≡ lentAfter (takenOf r) m w → TakesLent m w buffer a m' buffer'
+      left-as m' a e k = record { answered = sym e ∙ answer-is; moved = k ∙ ap (λ o. lentAfter o m w) answer-is; written = takes .written ∙ ap (λ o. bufferAfter o (reportNow (stored m) w) buffer) answer-is }
+
+      -- a refusal
+      pub taken-refused : (q : Refusal) → r ≡ taken.Refused q → TakesLent m w buffer (Refused q) (lent (m .rule) (m .bytes) (m .points) times' (m .retained) os' ns' vs' (m .count)) buffer'
+      taken-refused q e =
+          let (et, eo, en, ev) = takes .stays q e in
+          let same : lent (m .rule) (m .bytes) (m .points) times' (m .retained) os' ns' vs' (m .count) ≡ m = rw (et, eo, en, ev) in
+          left-as _ (Refused q) (ap takenOf e) (same ∙ rw e (stays m w q))
+
+      points-now : storedNow (stored m) w .points ≡ m .points + 1
+      unfolding storedNow
+      points-now = refl
+
+      -- the event is taken
+      module _ (words retained kept : ℕ) (e : r ≡ taken.Done words retained kept) where
+        pub taken-done : TakesLent m w buffer (Written words) (lent (m .rule) (m .bytes) (m .points + 1) times' retained os' ns' vs' kept) buffer'
+        taken-done =
+            let k = takes .done words retained kept e in
+            let same : lent (m .rule) (m .bytes) (m .points + 1) times' retained os' ns' vs' kept ≡ lentWith (storedNow (stored m) w) m
+            = rw (k .times-stored, k .retained-are, k .entries-stored .owners, k .entries-stored .numbers, k .entries-stored .values, k .kept-are, points-now) in
+            left-as _ (Written words) (ap takenOf e) (same ∙ rw e)
+
+        -- and there was room for its point
+        pub taken-room : m .points < mostPoints
+        taken-room = given-room (stored m) w (length buffer) words (sym (takes .outcome) ∙ ap takenOf e)
+
+-- ---- the figures
+
+pub figures-out : (m : Lent) → (leb (m .bytes) 652 && (leb (m .retained) 64 && leb (m .count) 512)) ≡ false → wellFormed (stored m) ≡ false
+figures-out m e = go (tested (leb (m .bytes) 652)) (tested (leb (m .retained) 64)) (tested (leb (m .count) 512))
+  where
+    go : Tested (leb (m .bytes) 652) → Tested (leb (m .retained) 64) → Tested (leb (m .count) 512) → wellFormed (stored m) ≡ false
+    go (failed t) u v = long-rule (stored m) (omega (arith, leb-false (m .bytes) 652 t, front-length (m .bytes) (m .rule)))
+    go (passed t) (failed u) v = many-times (stored m) (omega (arith, leb-false (m .retained) 64 u, front-length (m .retained) (m .times)))
+    go (passed t) (passed u) (failed v) = many-entries (stored m) (omega (arith, leb-false (m .count) 512 v, entries-many (m .owners) (m .numbers) (m .values) (m .count)))
+    go (passed t) (passed u) (passed v) = let z : true ≡ false = rw (t, u, v) at e in let q : _≡_ {A = ℕ} 0 1 = cc in absurd (omega arith)
+
+pub figures-in : (bytes retained count : ℕ) → (leb bytes 652 && (leb retained 64 && leb count 512)) ≡ true → (bytes ≤ 652) × (retained ≤ 64) × (count ≤ 512)
+figures-in bytes retained count e = (leb-true bytes 652 (search first), leb-true retained 64 (search (first, second)), leb-true count 512 (search (first, second)))
+
+-- what is stored in the parts is what is stored at their front
+pub stored-parts : (m : Lent) (n : ℕ) → n ≡ m .bytes → m .bytes ≤ length (m .rule) → m .retained ≤ length (m .times) → storedIn (take n (m .rule)) (m .points) (take (m .retained) (m .times)) (m .owners) (m .numbers) (m .values) (m .count) ≡ stored m
+stored-parts m n e b t = rw e (ap₂ (λ r ts. storedIn r (m .points) ts (m .owners) (m .numbers) (m .values) (m .count)) (sym (front-take (m .bytes) (m .rule) b)) (sym (front-take (m .retained) (m .times) t)))

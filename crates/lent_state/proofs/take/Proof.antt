@@ -1,0 +1,99 @@
+-- `take` meets its contract, by the tests of the lengths and of the figures, and by what the taking over slices has left.
+use Prim.Native.Nat.{_-_, _≤_}
+use native.Mathlib.Omega.{arith}
+use mathlib.Core.Path.{_≡_, sym, _∙_}
+use mathlib.Core.Bool.{true}
+use lib.ListN.{take}
+use borrow.Author.Needs.{needs}
+use borrow.Author.Tests.{not-true, not-false}
+use denote.Ref.{now}
+use Rattle.formed.specs.NodeFigures.{storedIn}
+use Rattle.lent_state.specs.Lent.{lent, lengthsFit, stored}
+use Rattle.lent_state.proofs.Memory.{fits-sized, sized-words, figures-out, figures-in, stored-parts, taken-unfit, taken-bad, taken-refused, taken-done, taken-room}
+use Rattle.lent_state.proofs.take.Statement.{statement}
+use Rattle.lent_state.proofs.take.Tie as tie
+
+-- past the first test the lengths are a state's
+fit : (c : tie.Else1) → let a = c .before .before .before .before .before .before .before .before .before .before .before .before .before .args in lengthsFit (now (a .rule)) (now (a .times)) (now (a .owners)) (now (a .numbers)) (now (a .values)) ≡ true
+fit c = sym (c .before .lengths-fit .ensures) ∙ not-false _ (c .if1 .left)
+
+-- past the second the figures are
+few : (c : tie.Else2) → let a = c .before .before .before .before .before .before .before .before .before .before .before .before .before .before .before .args in (a .bytes ≤ 652) × (a .retained ≤ 64) × (a .count ≤ 512)
+few c = figures-in _ _ _ (sym (c .before .figures-fit .ensures) ∙ not-false _ (c .if2 .left))
+
+-- what is taken is what is stored
+same : (c : tie.Else2)
+    → let a = c .before .before .before .before .before .before .before .before .before .before .before .before .before .before .before .args in
+    storedIn (take (a .bytes - 0) (now (a .rule))) (a .points) (take (a .retained) (now (a .times))) (now (a .owners)) (now (a .numbers)) (now (a .values)) (a .count)
+    ≡ stored (lent (now (a .rule)) (a .bytes) (a .points) (now (a .times)) (a .retained) (now (a .owners)) (now (a .numbers)) (now (a .values)) (a .count))
+same c =
+    let a = c .before .before .before .before .before .before .before .before .before .before .before .before .before .before .before .args in
+    let z = fits-sized _ _ _ _ _ (fit (c .before .before)) in
+    stored-parts (lent (now (a .rule)) (a .bytes) (a .points) (now (a .times)) (a .retained) (now (a .owners)) (now (a .numbers)) (now (a .values)) (a .count)) (a .bytes - 0) (omega arith) (omega (arith, few c, z)) (omega (arith, few c, z))
+
+returns : tie.Need-returns
+returns c = rw (c .as-it-was .ensures) (taken-unfit _ _ _ (sym (c .before .before .lengths-fit .ensures) ∙ not-true _ (c .before .if1 .taken)))
+
+returns-2 : tie.Need-returns-2
+returns-2 c =
+    let a = c .before .before .before .before .before .before .before .before .before .before .before .before .before .before .before .before .args in
+    rw (c .as-it-was2 .ensures)
+    (taken-bad _ _ _ (fit (c .before .before .before))
+    (figures-out (lent (now (a .rule)) (a .bytes) (a .points) (now (a .times)) (a .retained) (now (a .owners)) (now (a .numbers)) (now (a .values)) (a .count))
+    (sym (c .before .before .figures-fit .ensures) ∙ not-true _ (c .before .if2 .taken))))
+
+part-take-stored-end : tie.Need-part-take-stored-end
+part-take-stored-end c = omega (arith, few c, fits-sized _ _ _ _ _ (fit (c .before .before)))
+
+take-stored-requires : tie.Need-take-stored-requires
+take-stored-requires c κs = let (bytes, retained, count) = few (c .before .before .before .before .before .before) in sized-words (fits-sized _ _ _ _ _ (fit (c .before .before .before .before .before .before .before .before))) retained count
+
+add-t47 : tie.Need-add-t47
+add-t47 c =
+    let a = c .before .before .before .before .before .before .before .before .before .before .before .before .before .before .before .before .before .before .before .before .before .before .before .before .before .before .before .before .before .before .before .before .before .before .before .args in
+    omega (arith, taken-room (lent (now (a .rule)) (a .bytes) (a .points) (now (a .times)) (a .retained) (now (a .owners)) (now (a .numbers)) (now (a .values)) (a .count)) _ _ (fit (c .before .before .before .before .before .before .before .before .before .before .before .before .before .before .before .before .before .before .before .before .before .before)) (same (c .before .before .before .before .before .before .before .before .before .before .before .before .before .before .before .before .before .before .before .before)) (c .before .before .before .before .before .before .before .before .before .before .before .before .before .take-stored .ensures) _ _ _ (c .before .taken2 .given .1))
+
+returns-3 : tie.Need-returns-3
+returns-3 c = rw (c .as-it-was3 .ensures) (taken-refused _ _ _ (fit (c .before .before .before .before .before .before .before .before .before .before .before .before .before .before .before .before .before .before .before .before .before .before .before)) (same (c .before .before .before .before .before .before .before .before .before .before .before .before .before .before .before .before .before .before .before .before .before)) (c .before .before .before .before .before .before .before .before .before .before .before .before .before .before .take-stored .ensures) _ (c .before .before .taken .given .1))
+
+returns-4 : tie.Need-returns-4
+returns-4 c = taken-done _ _ _ (fit (c .before .before .before .before .before .before .before .before .before .before .before .before .before .before .before .before .before .before .before .before .before .before)) (same (c .before .before .before .before .before .before .before .before .before .before .before .before .before .before .before .before .before .before .before .before)) (c .before .before .before .before .before .before .before .before .before .before .before .before .before .take-stored .ensures) _ _ _ (c .before .taken2 .given .1)
+
+pub take-spec : {M : Type 1} → statement M
+take-spec =
+    tie.close
+    (tie.spec
+    (λ c κs. search needs)
+    (λ c κs. search needs)
+    (λ c. search needs)
+    (λ c. search needs)
+    (λ c. search needs)
+    (λ c. search needs)
+    returns
+    (λ c κs. search needs)
+    (λ c κs. search needs)
+    (λ c. search needs)
+    (λ c. search needs)
+    (λ c. search needs)
+    (λ c. search needs)
+    returns-2
+    (λ c. search needs)
+    (λ c. search needs)
+    part-take-stored-end
+    take-stored-requires
+    (λ c. search needs)
+    (λ c κs. search needs)
+    (λ c. search needs)
+    add-t47
+    (λ c. search needs)
+    (λ c. search needs)
+    (λ c. search needs)
+    (λ c. search needs)
+    (λ c. search needs)
+    returns-3
+    (λ c. search needs)
+    (λ c. search needs)
+    (λ c. search needs)
+    (λ c. search needs)
+    (λ c. search needs)
+    returns-4)
