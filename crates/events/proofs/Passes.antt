@@ -54,7 +54,3 @@ module _ (b w : List ℕ) (last : Stamp) (points : ℕ) where
         order = ltb-false (getD w 0 0) (last .0) (order .0);
         room = leb-false mostPoints points (when-passed (leb mostPoints points) logFull 0 (given 0) (order .1) .0);
       }
-
-  -- from what `admit` ensures, where it answers that the event is fine
-  pub fine-passed : {r : Admitted} → ((rest : Outcome ℕ) → admitted b w last points rest ≡ outcomeOf r rest) → r ≡ Fine → Passed b w last points
-  fine-passed h e = event-passed (h (given 0) ∙ ap (λ r. outcomeOf r (given 0)) e)

@@ -11,6 +11,7 @@ use borrow.Author.Tests.{lt-ltb, le-ltb}
 use Rattle.meaning.specs.Lists.{select}
 use Rattle.meaning.specs.Outcome.{mostRows, mostOpen, mostKept}
 use Rattle.meaning.specs.Formula.{variables}
+use Rattle.meaning.proofs.Points.{select-most}
 use Rattle.kinds.specs.Kinds.{inMask}
 use Rattle.writer.specs.declared.Wrote.{Wrote}
 use Rattle.writer.specs.declared.Wrote.the-variants.{Words, Short}
@@ -24,15 +25,6 @@ use Rattle.limits.specs.declared.Weighed.the-variants.{Refused, Written}
 use Rattle.limits.specs.declared.Weighed.{Weighed}
 use Rattle.limits.specs.Weighs.{Weighs}
 
--- at most four variables are free
-selected-most : (p : ℕ → Bool) (xs : List ℕ) → length (select p xs) ≤ length xs
-selected-most p [] = omega arith
-selected-most p (x ∷ xs) = go (p x) (selected-most p xs)
-  where
-    go : (t : Bool) → length (select p xs) ≤ length xs → length (cond t (x ∷ select p xs) (select p xs)) ≤ suc (length xs)
-    go true h = omega arith
-    go false h = omega arith
-
 -- n sets of at most 32 rows each
 run-few : (at : List ℕ) (a n : ℕ) → ((q : ℕ) → a ≤ q → q < a + n → getD at (q + 1) 0 - getD at q 0 ≤ mostRows) → getD at (a + n) 0 - getD at a 0 ≤ 32 * n
 run-few at a zero h = let e : a + 0 ≡ a = omega arith in rw e (omega arith)
@@ -43,7 +35,7 @@ pub words-few : {rows at : List ℕ} {p : Points} → Reportable rows at p → (
 words-few {rows} {at} {p} h few-rows few-points times =
     let total = endRow at p - firstRow at p in
     let few : total ≤ 32 * p .count = run-few at (firstSet p) (p .count) few-rows in
-    let four : freeCount (p .mask) ≤ 4 = selected-most (inMask (p .mask)) variables in
+    let four : freeCount (p .mask) ≤ 4 = select-most (inMask (p .mask)) variables in
     omega (arith, words-length rows at times p (marked h), mul-le-mul-right total four)
 
 -- a refusal isn't a report

@@ -6,6 +6,7 @@ use mathlib.Core.Logic.{_⊎_, inl, inr}
 use mathlib.Core.List.{List, [], _∷_, _++_}
 use native.Mathlib.Nat.{eq-or-lt-of-le, zero-add, add-zero}
 use native.Mathlib.Omega.{arith}
+use lib.ListN.{length}
 use Rattle.meaning.specs.Lists.{all, select, gather}
 use Rattle.meaning.specs.Log.{point, pointAfter, pointsFrom}
 use Rattle.meaning.specs.declared.Point.{Point}
@@ -97,3 +98,12 @@ gather-same p q f g a (suc n) h k =
     go true false e here rest = absurd (false≢true (sym e))
     go false true e here rest = absurd (false≢true e)
     go false false e here rest = rest
+
+-- no more are selected than there are
+pub select-most : {A : Type 0} (f : A → Bool) (xs : List A) → length (select f xs) ≤ length xs
+select-most f [] = omega arith
+select-most f (x ∷ xs) = go (f x) (select-most f xs)
+  where
+    go : (t : Bool) → length (select f xs) ≤ length xs → length (cond t (x ∷ select f xs) (select f xs)) ≤ suc (length xs)
+    go true e = omega arith
+    go false e = omega arith

@@ -300,6 +300,3 @@ setOf-mem rows long r = (λ m. elim (insertAll-at [] rows m) [ inl k ↦ absurd 
 
 pub setOf-ascends : (rows : List (List ℕ)) → ascending (setOf rows) ≡ true
 setOf-ascends rows = insertAll-ascends [] rows refl
-
-pub setOf-same : {n : ℕ} (rows : List (List ℕ)) → OfLength n rows → ascending rows ≡ true → setOf rows ≡ rows
-setOf-same rows long h = ascending-same (setOf rows) rows (setOf-ascends rows) h (setOf-mem rows long)

@@ -27,13 +27,13 @@ pub sum-each : (k : ℕ) (xs : List ℕ) → sum (λ x. k) xs ≡ length xs * k
 sum-each k [] = omega arith
 sum-each k (x ∷ xs) = omega (arith, sum-each k xs)
 
-sum-append : (f : ℕ → ℕ) (xs ys : List ℕ) → sum f (xs ++ ys) ≡ sum f xs + sum f ys
-sum-append f [] ys = omega arith
-sum-append f (x ∷ xs) ys = omega (arith, sum-append f xs ys)
+pub total-append : {A : Type 0} (f : A → ℕ) (xs ys : List A) → total (map f (xs ++ ys)) ≡ total (map f xs) + total (map f ys)
+total-append f [] ys = omega arith
+total-append f (x ∷ xs) ys = omega (arith, total-append f xs ys)
 
 pub sum-gather : (f : ℕ → ℕ) (g : ℕ → List ℕ) (xs : List ℕ) → sum f (gather g xs) ≡ sum (λ x. sum f (g x)) xs
 sum-gather f g [] = refl
-sum-gather f g (x ∷ xs) = omega (arith, sum-append f (g x) (gather g xs), sum-gather f g xs)
+sum-gather f g (x ∷ xs) = omega (arith, total-append f (g x) (gather g xs), sum-gather f g xs)
 
 pub length-gather : {A : Type 0} (g : ℕ → List A) (xs : List ℕ) → length (gather g xs) ≡ sum (λ x. length (g x)) xs
 length-gather g [] = refl

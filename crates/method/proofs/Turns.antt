@@ -76,9 +76,6 @@ map-append f (x ∷ xs) ys = ap (λ zs. f x ∷ zs) (map-append f xs ys)
 -- ---- newly settled points
 
 module _ (v : Inputs) (node : Node) (start : Point) (count : ℕ) (held : List (List ℕ)) where
-  pub newRows-length : length (newRows v node start count held) ≡ count
-  newRows-length = length-map (pointsFrom start count) _ ∙ points-length start count
-
   pub newRows-at : (q : ℕ) → q < count → getD (newRows v node start count held) q [] ≡ settle v held start (point (start .0 + q)) node
   newRows-at q h = getD-points (λ i. settle v held start i node) [] (start .0) count q h
 

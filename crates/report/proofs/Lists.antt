@@ -9,7 +9,7 @@ use lib.Dec.{eqb}
 use lib.ListN.{length, getD, take, drop, length-append}
 use lib.Seq.{split-at}
 use borrow.Author.Tests.{eqb-true}
-use Rattle.meaning.specs.Lists.{all, range, gather, total}
+use Rattle.meaning.specs.Lists.{all, range, gather}
 use Rattle.meaning.proofs.Lists.{gather-append}
 use Rattle.report.proofs.Forms.{both}
 
@@ -42,10 +42,6 @@ module _ {A : Type 0} where
       (map-range h g d xs (suc first) (λ k l.
       let s : first + suc k ≡ suc first + k = omega arith in
       rw s at (e (suc k) (omega arith))))
-
-  pub total-append : (f : A → ℕ) (xs ys : List A) → total (map f (xs ++ ys)) ≡ total (map f xs) + total (map f ys)
-  total-append f [] ys = omega arith
-  total-append f (x ∷ xs) ys = omega (arith, total-append f xs ys)
 
 module _ {A B : Type 0} (f : A → List B) where
   -- what one element gives, between what the others give

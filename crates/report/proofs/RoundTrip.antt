@@ -16,8 +16,9 @@ use Rattle.meaning.specs.Outcome.{given}
 use Rattle.meaning.specs.Report.{Reported, triple, rowWords, reportWords, pointIn, countIn, rowsBefore, rowsIn, inForm, readRows}
 use Rattle.report.specs.Form.{rowsFrom, sizesFit}
 use Rattle.report.specs.Reports.{ReadsBack, nothing}
+use Rattle.method.proofs.Sums.{total-append}
 use Rattle.report.proofs.Forms.{both, words-test, sumTest, pointsTest, rowsTest, rows-decide}
-use Rattle.report.proofs.Lists.{all-at, all-take, all-map, map-range, total-append, gather-split, equal-lengths}
+use Rattle.report.proofs.Lists.{all-at, all-take, all-map, map-range, gather-split, equal-lengths}
 use Rattle.report.proofs.Reading.{entryTest, count-given}
 use Rattle.report.proofs.Runs.{rows-run}
 use Rattle.report.proofs.Sums.{before-next}

@@ -17,6 +17,7 @@ use Rattle.meaning.specs.Report.{Reported}
 use Rattle.meaning.specs.Keeper.{reportRow}
 use Rattle.meaning.specs.declared.Point.{Point}
 use Rattle.meaning.specs.declared.Stamp.{Stamp}
+use Rattle.meaning.proofs.Points.{select-most}
 use Rattle.meaning.proofs.Rows.{all-of, head-before, ascending-tail}
 use Rattle.method.proofs.Sets.{RowsOf}
 use Rattle.method.proofs.Turns.{points-length}
@@ -47,14 +48,6 @@ shown-width f v (x ∷ xs) = go (f x) (shown-width f v xs)
     go : (t : Bool) → length (gather (λ y. cond (f y) (v y ∷ []) []) xs) ≡ length (select f xs) → length (cond t (v x ∷ []) [] ++ gather (λ y. cond (f y) (v y ∷ []) []) xs) ≡ length (cond t (x ∷ select f xs) (select f xs))
     go true e = ap suc e
     go false e = e
-
-select-most : (f : ℕ → Bool) (xs : List ℕ) → length (select f xs) ≤ length xs
-select-most f [] = omega arith
-select-most f (x ∷ xs) = go (f x) (select-most f xs)
-  where
-    go : (t : Bool) → length (select f xs) ≤ length xs → length (cond t (x ∷ select f xs) (select f xs)) ≤ suc (length xs)
-    go true e = omega arith
-    go false e = omega arith
 
 -- ---- ascending lists
 
