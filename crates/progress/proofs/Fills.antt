@@ -1,10 +1,10 @@
 -- Filling a buffer with the counts of a rule's nodes, lowest first: nothing filled, one node more, all.
-use Prim.Native.Nat.{ℕ, zero, suc, _+_, _-_, _≤_, _<_}
+use Prim.Native.Nat.{ℕ, _+_, _-_, _≤_, _<_}
 use native.Mathlib.Numerals.{add-one}
 use native.Mathlib.Omega.{arith}
 use mathlib.Core.Path.{_≡_, refl, _∙_}
 use mathlib.Core.List.{List}
-use lib.ListN.{length, getD, take, drop, set, length-set, length-append}
+use lib.ListN.{length, getD, take, drop, set, length-set}
 use lib.Seq.{take-suc-set, drop-set-lt}
 use Rattle.meaning.specs.View.{viewOf}
 use Rattle.meaning.specs.RuleFile.{nodeCount, nodeAt}
@@ -13,13 +13,6 @@ use Rattle.meaning.specs.declared.Stamp.{Stamp}
 use Rattle.method.specs.Counts.{advance, countsTo}
 use Rattle.progress.specs.Filled.{Filled}
 use Rattle.progress.proofs.Withins.{counts-within}
-
--- there are as many counts as nodes
-pub counts-length : (b : List ℕ) (τ : Point → Stamp) (n : ℕ) (from : ℕ → ℕ) (x : ℕ) → length (countsTo b τ n from x) ≡ x
-counts-length b τ n from zero = refl
-counts-length b τ n from (suc x) =
-    let e : length (countsTo b τ n from x) ≡ x = counts-length b τ n from x in
-    simp length-append (omega arith)
 
 -- the counts of the first x nodes are in place
 pub record Filling (rule : List ℕ) (τ : Point → Stamp) (n : ℕ) (from before : List ℕ) (x : ℕ) (after : List ℕ) : Type 0 where
