@@ -2,7 +2,7 @@
 -- and an atom reads an event's rows as the log has them.
 use Prim.Native.Nat.{ℕ, zero, suc, _+_, _≤_, _<_}
 use mathlib.Core.Path.{_≡_, refl, sym, ap, ap₂, _∙_}
-use mathlib.Core.Bool.{Bool, true, false, cond, _&&_}
+use mathlib.Core.Bool.{true, false, cond, _&&_}
 use mathlib.Core.List.{List, [], _∷_, _++_, map}
 use native.Mathlib.Numerals.{add-one, add-two, add-three}
 use native.Mathlib.Omega.{arith}
@@ -35,30 +35,30 @@ termAt ts k = getD (ts .first ∷ ts .second ∷ ts .third ∷ []) k (ts .fourth
 abbrev pub columnAt : Words → ℕ → ℕ
 columnAt c k = getD (c .v0 ∷ c .v1 ∷ c .v2 ∷ []) k (c .v3)
 
--- four words with the column's value at the variable that the term is, where it is used
-abbrev pub putIn : Bool → Term → ℕ → List ℕ → List ℕ
-putIn used t a us = map (λ x. cond (used && isVariable x t) a (getD us x 0)) variables
+-- four words with the column's value at the variable that the term is
+abbrev pub putIn : Term → ℕ → List ℕ → List ℕ
+putIn t a us = map (λ x. cond (isVariable x t) a (getD us x 0)) variables
 
-module _ (ts : Terms) (c : Words) where
-  pub bound-four : (n x : ℕ)
-      → bound (take n (allTerms ts)) (take n (wordsOf c)) x
-      ≡ cond (ltb 0 n && isVariable x (ts .first)) (c .v0) (cond (ltb 1 n && isVariable x (ts .second)) (c .v1) (cond (ltb 2 n && isVariable x (ts .third)) (c .v2) (cond (ltb 3 n && isVariable x (ts .fourth)) (c .v3) 0)))
-  bound-four zero x = refl
-  bound-four (suc zero) x = refl
-  bound-four (suc (suc zero)) x = refl
-  bound-four (suc (suc (suc zero))) x = refl
-  bound-four (suc (suc (suc (suc n)))) x =
-      let m : ℕ = suc (suc (suc (suc n))) in
-      rw (lt-ltb 0 m (omega arith), lt-ltb 1 m (omega arith), lt-ltb 2 m (omega arith), lt-ltb 3 m (omega arith), take-nil {A = Term} n)
+-- the value of a variable, column by column
+pub bound-four : (ts : Terms) (c : Words) (n x : ℕ)
+    → bound (take n (allTerms ts)) (take n (wordsOf c)) x
+    ≡ cond (ltb 0 n && isVariable x (ts .first)) (c .v0) (cond (ltb 1 n && isVariable x (ts .second)) (c .v1) (cond (ltb 2 n && isVariable x (ts .third)) (c .v2) (cond (ltb 3 n && isVariable x (ts .fourth)) (c .v3) 0)))
+bound-four ts c zero x = refl
+bound-four ts c (suc zero) x = refl
+bound-four ts c (suc (suc zero)) x = refl
+bound-four ts c (suc (suc (suc zero))) x = refl
+bound-four ts c (suc (suc (suc (suc n)))) x =
+    let m : ℕ = suc (suc (suc (suc n))) in
+    rw (lt-ltb 0 m (omega arith), lt-ltb 1 m (omega arith), lt-ltb 2 m (omega arith), lt-ltb 3 m (omega arith), take-nil {A = Term} n)
 
-  -- the four variables' values, put in column by column from the last
-  pub bound-row : (n : ℕ) {last third second all : List ℕ}
-      → last ≡ putIn (ltb 3 n) (ts .fourth) (c .v3) (0 ∷ 0 ∷ 0 ∷ 0 ∷ []) → third ≡ putIn (ltb 2 n) (ts .third) (c .v2) last → second ≡ putIn (ltb 1 n) (ts .second) (c .v1) third → all ≡ putIn (ltb 0 n) (ts .first) (c .v0) second
-      → all ≡ map (bound (take n (allTerms ts)) (take n (wordsOf c))) variables
-  bound-row n e₃ e₂ e₁ e₀ =
-      rw (bound-four n 0, bound-four n 1, bound-four n 2, bound-four n 3)
-      (e₀ ∙ ap (putIn (ltb 0 n) (ts .first) (c .v0)) (e₁ ∙ ap (putIn (ltb 1 n) (ts .second) (c .v1)) (e₂ ∙ ap (putIn (ltb 2 n) (ts .third) (c .v2)) e₃)))
+-- the values of the four variables, where all four terms are used
+pub bound-all : (ts : Terms) (c : Words) (n : ℕ) → 4 ≤ n
+    → putIn (ts .first) (c .v0) (putIn (ts .second) (c .v1) (putIn (ts .third) (c .v2) (putIn (ts .fourth) (c .v3) (0 ∷ 0 ∷ 0 ∷ 0 ∷ []))))
+    ≡ map (bound (take n (allTerms ts)) (take n (wordsOf c))) variables
+bound-all ts c n l =
+    rw (bound-four ts c n 0, bound-four ts c n 1, bound-four ts c n 2, bound-four ts c n 3, lt-ltb 0 n (omega arith), lt-ltb 1 n (omega arith), lt-ltb 2 n (omega arith), lt-ltb 3 n (omega arith))
 
+-- where the terms' values are the columns, they are so at each place
 module _ (ts : Terms) (c : Words) (v : Term → ℕ) where
   equal-at : (n k : ℕ) → k < n → map v (take n (allTerms ts)) ≡ take n (wordsOf c) → v (termAt ts k) ≡ columnAt c k
   equal-at zero k l e = absurd (omega (arith, l))

@@ -308,29 +308,25 @@ fn bound_of(ts: Terms, c: Row, x: u32) -> u32
     let t1 = ts.second;
     let t2 = ts.third;
     let t3 = ts.fourth;
-    if count <= 0 {
-        return 0;
+    if 0 < count {
+        if is_variable(x, t0) {
+            return c.v0;
+        }
     }
-    if is_variable(x, t0) {
-        return c.v0;
+    if 1 < count {
+        if is_variable(x, t1) {
+            return c.v1;
+        }
     }
-    if count <= 1 {
-        return 0;
+    if 2 < count {
+        if is_variable(x, t2) {
+            return c.v2;
+        }
     }
-    if is_variable(x, t1) {
-        return c.v1;
-    }
-    if count <= 2 {
-        return 0;
-    }
-    if is_variable(x, t2) {
-        return c.v2;
-    }
-    if count <= 3 {
-        return 0;
-    }
-    if is_variable(x, t3) {
-        return c.v3;
+    if 3 < count {
+        if is_variable(x, t3) {
+            return c.v3;
+        }
     }
     0
 }
@@ -376,7 +372,7 @@ fn column_at(c: Row, k: u8) -> u32
     c.v3
 }
 
-// The columns are the terms' values. It is a loop because the compiler would make tests of all four terms ahead, for every node.
+// The columns are the terms' values. It is a loop since tests of four terms would be made ahead, for a node of any kind.
 fn columns_match(ts: Terms, c: Row) -> bool
     ensures { λ t. ⌜ t ≡ sameRow (map (value (bound (termsOf ts) (take (ts .count) (wordsOf c)))) (termsOf ts)) (take (ts .count) (wordsOf c)) ⌝ }
 {
@@ -430,28 +426,20 @@ fn with_value(x: u32, c: u32, r: Row) -> Row
     r
 }
 
-// The row with the column's value at the variable that the term is, where the term is used; else the row itself.
-fn with_column(used: bool, t: Term, c: u32, r: Row) -> Row
-    ensures { λ s. ⌜ wordsOf s ≡ map (λ x. cond (used && isVariable x t) c (valuationOf (wordsOf r) x)) variables ⌝ }
+// The row with the column's value at the variable that the term is; the row itself where it is a constant.
+fn with_column(t: Term, c: u32, r: Row) -> Row
+    ensures { λ s. ⌜ wordsOf s ≡ map (λ x. cond (isVariable x t) c (valuationOf (wordsOf r) x)) variables ⌝ }
 {
-    if used {
-        match t {
-            Term::Variable(x) => {
-                return with_value(x, c, r);
-            }
-            Term::Constant(_) => {
-                return r;
-            }
-        }
+    match t {
+        Term::Variable(x) => with_value(x, c, r),
+        Term::Constant(_) => r,
     }
-    r
 }
 
 // The values that the columns give to the four variables: the first column's are put in last.
 fn bound_row(ts: Terms, c: Row) -> Row
     ensures { λ r. ⌜ wordsOf r ≡ map (bound (termsOf ts) (take (ts .count) (wordsOf c))) variables ⌝ }
 {
-    let count = ts.count;
     let none = Row {
         v0: 0,
         v1: 0,
@@ -462,10 +450,26 @@ fn bound_row(ts: Terms, c: Row) -> Row
     let t1 = ts.second;
     let t2 = ts.third;
     let t3 = ts.fourth;
-    let last = with_column(3 < count, t3, c.v3, none);
-    let third = with_column(2 < count, t2, c.v2, last);
-    let second = with_column(1 < count, t1, c.v1, third);
-    with_column(0 < count, t0, c.v0, second)
+    let count = ts.count;
+    if count == 0 {
+        return none;
+    }
+    if count == 1 {
+        return with_column(t0, c.v0, none);
+    }
+    if count == 2 {
+        let last = with_column(t1, c.v1, none);
+        return with_column(t0, c.v0, last);
+    }
+    if count == 3 {
+        let last = with_column(t2, c.v2, none);
+        let second = with_column(t1, c.v1, last);
+        return with_column(t0, c.v0, second);
+    }
+    let last = with_column(t3, c.v3, none);
+    let third = with_column(t2, c.v2, last);
+    let second = with_column(t1, c.v1, third);
+    with_column(t0, c.v0, second)
 }
 
 // The columns of row k of an event of m rows.

@@ -11,7 +11,6 @@ use rulenodes::arity_at;
 use rulenodes::body_of;
 use rulenodes::children_of;
 use rulenodes::head_at;
-use rulenodes::node_at;
 use rulenodes::node_of;
 use rulenodes::view_of;
 use ruleshape::range_fits;
@@ -244,7 +243,8 @@ fn reach_of(rule: &[u8], x: u8) -> u32
     requires { ⌜ AllFit (now rule) × (x < nodeCount (now rule)) ⌝ }
     ensures { λ r. ⌜ r ≡ reach (formulaAt (now (rule .entry)) x) ⌝ }
 {
-    let node = node_at(rule, x);
+    let h = head_at(rule, x);
+    let node = node_of(arity_at(rule, h.left), h, body_of(rule, x));
     let own = window_reach(node);
     let children = children_of(node);
     match children {

@@ -44,7 +44,7 @@ use Rattle.node_step.specs.Walks.{blockIn, OutThere, Walked}
 use Rattle.workspace.specs.Stores.{EntriesStored, Storable}
 use Rattle.workspace.specs.Blocks.{lastPoints, LastReady}
 use Rattle.workspace.specs.Rooms.{largestRows}
-use Rattle.workspace.specs.Settles.{callIn, ReadyIn, weighedNow, SettledCall}
+use Rattle.workspace.specs.Settles.{callIn, ReadyIn, RoomToKeep, weighedNow, SettledCall}
 use Rattle.workspace.specs.declared.Settled.the-variants.{Done, Full}
 
 pub either-way : {A B C : Type 0} → (A → C) → (B → C) → A ⊎ B → C
@@ -156,7 +156,7 @@ module _ {b : List ℕ} {points : ℕ} {stamps os ns vs : List ℕ} {count : ℕ
   -- what the walk asks, where the entries that it is given are the first of the words
   pub walk-asks : {os' ns' vs' : List ℕ} (rows at on ov bl : List ℕ) → os' ≡ take count os → ns' ≡ take count ns → vs' ≡ take (count * 4) vs
       → (rowsNeeded s w * 4 ≤ length rows) × (marksNeeded s w < length at)
-      → (length on ≤ mostKept) × (length on * 4 ≤ length ov) × (nodeCount b * 3 ≤ length bl)
+      → RoomToKeep b on ov bl
       → CallReady (called b points stamps os' ns' vs') w os' ns' vs' stamps f
       × (((rowsNeeded (called b points stamps os' ns' vs') w * 4 ≤ length rows) × (marksNeeded (called b points stamps os' ns' vs') w < length at))
       × OutThere (called b points stamps os' ns' vs') w on ov bl 0)
