@@ -21,7 +21,7 @@ use Rattle.room.proofs.SetsInOrder.{laid-fewer}
 use Rattle.entries.specs.Appended.{Space, Extended, Pushed}
 use Rattle.entries.proofs.Growth.{pushed-set, extended-none, extended-as, extended-then, extended-next}
 use Rattle.since.specs.Since.{heldIn}
-use Rattle.settling.specs.Inputs.{asked, SetMade, PointSettled}
+use Rattle.settling.specs.Inputs.{PointSettled}
 use Rattle.node_step.specs.Parts.{NextReady, NextSettled, SeesFirst, PointsReady, PointsSettled}
 use Rattle.node_step.proofs.Laying.{run-few, sets-more, extended-front}
 
@@ -151,9 +151,3 @@ module _ {b w rows at times : List ℕ} {base : Point} {oldAges oldValues : List
           there = λ d. u .there;
           crowded = λ d. absurd (false≢true (sym d));
         }
-
-  -- behind the last point
-  pub going-last : {rows' at' : List ℕ} {i : Point} → Going b w rows at times base oldAges oldValues left right n start end node rows' at' i → i .0 + 1 ≡ end .0 → {rows'' at'' : List ℕ} {done : Bool}
-      → NextSettled b w rows' at' times base oldAges oldValues left right (n + (i .0 - start .0)) start i node rows'' at'' done → PointsSettled b w rows at times base oldAges oldValues left right n start end node rows'' at'' done
-  going-last t e {done = true} p = going-all (going-more t (omega arith) p refl) (omega arith)
-  going-last t e {done = false} p = going-crowded t (omega arith) p refl

@@ -39,7 +39,7 @@ use Rattle.settling.specs.Children.{childSet}
 use Rattle.settling.specs.Inputs.{ChildInputs, ChildrenInputs, InputsStand, ChildThere, ChildrenThere, asked, rightIn, SetMade, PointSettled, PairsSettled}
 use Rattle.settling.proofs.Agreeing.{Alike, cut-same, and-same, rows-same, pairs-same, until-same}
 
-pub added-none : {old : List ℕ} {n : ℕ} → Room old n → Added old n old n []
+pub added-none : {old : List ℕ} {n : ℕ} → SetRoom old n → Added old n old n []
 added-none h = record { most = h .most; long = refl; set = refl }
 
 -- rows put into an empty set are the set of them, as far as it goes

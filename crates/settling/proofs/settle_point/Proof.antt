@@ -81,13 +81,13 @@ rows-at-requires : tie.Need-rows-at-requires
 rows-at-requires c κs =
     let s = c .before .before .before .before .before .before .before .before .before .before .before .before in
     let t = told s (c .before .before .node6 .given .1) in
-    (omega (arith, t .children .0 .settled), (t .children .0 .sets, (t .children .1 .sets, ((t .pairs, t .ascends), s .pre .1))))
+    (omega (arith, t .children .0 .settled, s .good .1 .1 .1 .1 .0), (t .children .0 .sets, (t .children .1 .sets, ((t .pairs, t .ascends), s .pre .1))))
 
 rows-at-requires-2 : tie.Need-rows-at-requires-2
 rows-at-requires-2 c κs =
     let s = c .before .before .before .before .before .before .before .before .before .before .before .before in
     let t = told s (c .before .before .node7 .given .1) in
-    (omega (arith, t .children .0 .settled), (t .children .0 .sets, (t .children .1 .sets, ((t .pairs, t .ascends), s .pre .1))))
+    (omega (arith, t .children .0 .settled, s .good .1 .1 .1 .1 .0), (t .children .0 .sets, (t .children .1 .sets, ((t .pairs, t .ascends), s .pre .1))))
 
 until-at-requires : tie.Need-until-at-requires
 until-at-requires c κs =
