@@ -1,13 +1,13 @@
 // The operations for programs in other languages. A slice is passed as its address and then its length.
 use figures::Open;
 use lent_state::Answer;
+use limits::Refusal;
 use monitor::State;
 use refusals::of_event;
 use refusals::of_rule;
 use report::RowCount;
 use rulefile::Checked;
 use rulefile::check;
-use limits::Refusal;
 ghost use mathlib.Core.Path.{_≡_};
 ghost use Rattle.meaning.specs.RuleFile.{checking};
 ghost use Rattle.rulefile.specs.Checked.{answerOf};

@@ -1,13 +1,13 @@
 // What is printed for a taking's answer and at the end of a run, put to the front of lent bytes.
 use figures::Open;
 use lent_state::Answer;
+use limits::Refusal;
 use lines::Next;
 use lines::put_last;
 use lines::put_refused;
 use lines::put_report;
 use monitor::State;
 use refusals::of_event;
-use limits::Refusal;
 ghost use Prim.Native.Nat.{_+_, _≤_};
 ghost use lib.ListN.{length};
 ghost use Rattle.writer.specs.Puts.{Put};

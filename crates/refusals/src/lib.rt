@@ -1,6 +1,6 @@
 // The numbers and places of 01 for the refusals.
-use rulefile::Checked;
 use limits::Refusal;
+use rulefile::Checked;
 ghost use mathlib.Core.Path.{_≡_};
 ghost use Rattle.rulefile.specs.Checked.{answerOf};
 ghost use Rattle.limits.specs.Weighs.{refusalOf};

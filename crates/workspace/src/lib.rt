@@ -1,8 +1,8 @@
 // The room of a call, chosen by how many rows it needs and how many entries it may keep: the walk over the tree, refusals 13 to 16, the report, and the entries that are then kept, stored.
-use meaning::Point;
-use node_step::NO_NODE;
 use limits::Refusal;
 use limits::Weighed;
+use meaning::Point;
+use node_step::NO_NODE;
 use writer::Points;
 ghost use mathlib.Core.Path.{_≡_};
 ghost use Prim.Native.Nat.{_+_, _-_, _*_, _≤_, _<_};
