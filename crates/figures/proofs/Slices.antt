@@ -19,7 +19,7 @@ use Rattle.method.proofs.Turns.{from-getD}
 use Rattle.method.proofs.Formed.{formed}
 use Rattle.method.proofs.Bounds.{before-most}
 use Rattle.entries.specs.Entries.{entryAt, entriesFrom}
-use Rattle.formed.specs.NodeFigures.{storedIn, NodeFigures}
+use Rattle.formed.specs.StateFigures.{storedIn, StateFigures}
 use Rattle.figures.specs.Fronts.{front, storedFront, openOf, openAnswer}
 use Rattle.figures.specs.declared.Open.the-variants.{Points, NotWellFormed}
 
@@ -77,7 +77,7 @@ pub not-open : (s : Stored) → wellFormed s ≡ false → openOf NotWellFormed 
 unfolding openAnswer
 not-open s w = rw w
 
-module _ (s : Stored) {masks counts lows : List ℕ} (ok : wellFormed s ≡ true) (k : NodeFigures s masks counts lows) where
+module _ (s : Stored) {masks counts lows : List ℕ} (ok : wellFormed s ≡ true) (k : StateFigures s masks counts lows) where
   -- what the last node has settled stands in the counts
   last-count : getD counts (lastNode (s .rule)) 0 ≡ countBefore s (lastNode (s .rule))
   unfolding countBefore

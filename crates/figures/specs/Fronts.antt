@@ -8,7 +8,7 @@ use Rattle.meaning.specs.Outcome.{Outcome, refused, given, notWellFormed}
 use Rattle.method.specs.Stored.{Stored}
 use Rattle.method.specs.Step.{openStored}
 use Rattle.method.specs.WellFormed.{wellFormed}
-use Rattle.formed.specs.NodeFigures.{storedIn}
+use Rattle.formed.specs.StateFigures.{storedIn}
 use Rattle.figures.specs.declared.Open.{Open}
 use Rattle.figures.specs.declared.Open.the-variants.{Points, NotWellFormed}
 

@@ -21,7 +21,7 @@ ghost use Rattle.method.specs.Stored.{firstRetained};
 ghost use Rattle.method.specs.Room.{isPrevious, othersIn, need, needOfTwo};
 ghost use Rattle.entries.specs.Entries.{EntriesWithin};
 ghost use Rattle.entries.specs.Appended.{atFront};
-ghost use Rattle.formed.specs.NodeFigures.{storedIn};
+ghost use Rattle.formed.specs.StateFigures.{storedIn};
 ghost use Rattle.figures.specs.Tables.{TableOf, rowsIn, Weighty, CallTable};
 ghost use Rattle.figures.specs.Counts.{bare, Counting, Figured};
 ghost use Rattle.figures.specs.Fronts.{storedFront, openOf, openAnswer};

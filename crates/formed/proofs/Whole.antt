@@ -26,7 +26,7 @@ use Rattle.rulefile.specs.Weighing.{Masked}
 use Rattle.kinds.specs.Kinds.{inMask}
 use Rattle.entries.specs.Entries.{entryAt, entriesFrom}
 use Rattle.node_sets.specs.Shelved.{setEntries, agedEntries}
-use Rattle.formed.specs.NodeFigures.{storedIn, NodeFigures, EntryPlaces}
+use Rattle.formed.specs.StateFigures.{storedIn, StateFigures, EntryPlaces}
 use Rattle.formed.specs.Walk.{ownRuns, ownFit, entriesFit}
 use Rattle.formed.specs.Parts.{countsIn, CountsStand, timesFit, keptFit}
 use Rattle.formed.specs.Tests.{MaskOf}
@@ -140,7 +140,7 @@ module _ (b : List ℕ) (points : ℕ) (times os ns vs : List ℕ) (count : ℕ)
     well-kept t c = ap (λ cs. keptFit b cs (entriesFrom os ns vs 0 count) count) (part-exact c) ∙ sym (well-is ∙ rw (ok, t))
 
   pub known : (masks counts lows : List ℕ) → ((x : ℕ) → x < nodeCount b → MaskOf b x (getD masks x 0)) → CountsStand b points times counts
-      → ((x : ℕ) → x < nodeCount b → getD lows x 0 ≡ wantedFrom b (λ y. getD (take (nodeCount b - 0) counts) y 0) x .0) → NodeFigures s masks counts lows
+      → ((x : ℕ) → x < nodeCount b → getD lows x 0 ≡ wantedFrom b (λ y. getD (take (nodeCount b - 0) counts) y 0) x .0) → StateFigures s masks counts lows
   unfolding countsIn countsStored countBefore
   known masks counts lows m c l =
       record {

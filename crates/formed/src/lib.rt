@@ -26,7 +26,7 @@ ghost use Rattle.progress.specs.Bounds.{Within};
 ghost use Rattle.rowset.specs.Rows.{wordsOf};
 ghost use Rattle.kinds.specs.Kinds.{pairAt, pairsFrom};
 ghost use Rattle.entries.specs.Entries.{entriesFrom, EntriesWithin};
-ghost use Rattle.formed.specs.NodeFigures.{storedIn, NodeFigures, EntryPlaces};
+ghost use Rattle.formed.specs.StateFigures.{storedIn, StateFigures, EntryPlaces};
 ghost use Rattle.formed.specs.Parts.{CountsStand, timesFit, keptFit};
 ghost use Rattle.formed.specs.Walk.{entriesFit};
 ghost use Rattle.formed.specs.Tests.{Tells, MaskOf, rowCut, mostOf, rowUnder, joinedBits, BitsOf, Ascends, Rising, FewAlike, SetsFit, ageFits, agedFit};
@@ -479,7 +479,7 @@ pub fn well_formed(
     requires { ⌜ (32 ≤ length (now masks)) × (32 ≤ length (now counts)) × (32 ≤ length (now lows)) ⌝ }
     requires { ⌜ (33 ≤ length (now begins)) × (32 ≤ length (now pairs)) ⌝ }
     ensures answer { λ r. ⌜ r ≡ wellFormed (storedIn (now (rule .entry)) points (now (times .entry)) (now (owners .entry)) (now (numbers .entry)) (now (values .entry)) count) ⌝ }
-    ensures known { λ r. ⌜ (r ≡ true → NodeFigures (storedIn (now (rule .entry)) points (now (times .entry)) (now (owners .entry)) (now (numbers .entry)) (now (values .entry)) count) (now (masks .exit)) (now (counts .exit)) (now (lows .exit))) ⌝ }
+    ensures known { λ r. ⌜ (r ≡ true → StateFigures (storedIn (now (rule .entry)) points (now (times .entry)) (now (owners .entry)) (now (numbers .entry)) (now (values .entry)) count) (now (masks .exit)) (now (counts .exit)) (now (lows .exit))) ⌝ }
     ensures placed { λ r. ⌜ (r ≡ true → EntryPlaces (storedIn (now (rule .entry)) points (now (times .entry)) (now (owners .entry)) (now (numbers .entry)) (now (values .entry)) count) (now (owners .entry)) (now (numbers .entry)) (now (values .entry)) count (now (begins .exit)) (now (pairs .exit))) ⌝ }
 {
     if !accepts(rule, masks) {

@@ -14,7 +14,7 @@ use Rattle.meaning.proofs.Takings.{admitted-given}
 use Rattle.method.specs.Stored.{Stored}
 use Rattle.method.specs.Step.{latestStored, storedNow, reportNow, answerNow}
 use Rattle.method.specs.WellFormed.{wellFormed}
-use Rattle.formed.specs.NodeFigures.{storedIn}
+use Rattle.formed.specs.StateFigures.{storedIn}
 use Rattle.limits.specs.Weighs.{refusalOf}
 use Rattle.limits.specs.declared.Refusal.{Refusal}
 use Rattle.limits.specs.declared.Refusal.the-variants.{NotWellFormed, NotAnEvent, RowOut, TimeFalls, LogFull, Crowded, Backlog, KeptOver, BufferShort}

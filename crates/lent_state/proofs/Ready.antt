@@ -22,7 +22,7 @@ use Rattle.kinds.specs.Kinds.{inMask, EventThere}
 use Rattle.entries.specs.Entries.{entryAt, entriesFrom, EntriesWithin}
 use Rattle.entries.specs.Appended.{atFront}
 use Rattle.entries.proofs.Listed.{listed-same}
-use Rattle.formed.specs.NodeFigures.{storedIn, NodeFigures, EntryPlaces}
+use Rattle.formed.specs.StateFigures.{storedIn, StateFigures, EntryPlaces}
 use Rattle.limits.specs.Weighs.{weighedOf}
 use Rattle.limits.specs.declared.Refusal.{Refusal}
 use Rattle.limits.specs.declared.Weighed.{Weighed}
@@ -59,7 +59,7 @@ module _ (b : List ℕ) (points : ℕ) (times os ns vs : List ℕ) (count : ℕ)
 
   -- ---- what the counts start from
 
-  pub counting : {masks counts lows ts : List ℕ} → NodeFigures s masks counts lows → (n : ℕ) → n ≡ nodeCount b → ts ≡ times → Counting (bare b points ts) (take n counts)
+  pub counting : {masks counts lows ts : List ℕ} → StateFigures s masks counts lows → (n : ℕ) → n ≡ nodeCount b → ts ≡ times → Counting (bare b points ts) (take n counts)
   unfolding countsStored
   counting {masks} {counts} k n e et =
       subst (λ q. Counting (bare b points q) (take n counts)) (sym et)
@@ -83,7 +83,7 @@ module _ (b : List ℕ) (points : ℕ) (times os ns vs : List ℕ) (count : ℕ)
     unfolding countAfter countsAfter countBefore countsStored stampsNow
     bare-wanted x = refl
 
-    module _ {masks counts lows begins pairs ts times₀ stamps₀ after table : List ℕ} {retained needed : ℕ} (z : SizedWords times₀ os ns vs retained count) (k : NodeFigures s masks counts lows) (p : EntryPlaces s os ns vs count begins pairs)
+    module _ {masks counts lows begins pairs ts times₀ stamps₀ after table : List ℕ} {retained needed : ℕ} (z : SizedWords times₀ os ns vs retained count) (k : StateFigures s masks counts lows) (p : EntryPlaces s os ns vs count begins pairs)
         (n : ℕ) (e : n ≡ nodeCount b) (et : ts ≡ times) (t₀ : CallTable (bare b points ts) w masks (take n counts) lows begins pairs stamps₀ after table needed)
         (m : ℕ) (em : m ≡ length times + 1) where
       t : CallTable (bare b points times) w masks (take n counts) lows begins pairs stamps₀ after table needed

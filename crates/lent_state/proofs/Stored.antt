@@ -20,7 +20,7 @@ use Rattle.method.specs.Stored.{Stored}
 use Rattle.method.specs.Step.{latestStored, reportNow, answerNow}
 use Rattle.method.specs.WellFormed.{wellFormed, Formed}
 use Rattle.kinds.specs.Kinds.{EventThere}
-use Rattle.formed.specs.NodeFigures.{storedIn, NodeFigures, EntryPlaces}
+use Rattle.formed.specs.StateFigures.{storedIn, StateFigures, EntryPlaces}
 use Rattle.events.specs.Answers.{RuleSizes, outcomeOf}
 use Rattle.events.specs.declared.Admitted.{Admitted}
 use Rattle.events.specs.declared.Admitted.the-variants.{Fine}
@@ -41,8 +41,8 @@ module _ (b : List ℕ) (points : ℕ) (os ns vs : List ℕ) (count : ℕ) {ts t
   pub well-is : wellFormed (storedIn b points ts os ns vs count) ≡ wellFormed (storedIn b points times os ns vs count)
   well-is = ap (λ q. wellFormed (storedIn b points q os ns vs count)) e
 
-  pub known-is : {masks counts lows : List ℕ} → NodeFigures (storedIn b points ts os ns vs count) masks counts lows → NodeFigures (storedIn b points times os ns vs count) masks counts lows
-  known-is {masks} {counts} {lows} = subst (λ q. NodeFigures (storedIn b points q os ns vs count) masks counts lows) e
+  pub known-is : {masks counts lows : List ℕ} → StateFigures (storedIn b points ts os ns vs count) masks counts lows → StateFigures (storedIn b points times os ns vs count) masks counts lows
+  known-is {masks} {counts} {lows} = subst (λ q. StateFigures (storedIn b points q os ns vs count) masks counts lows) e
 
   pub places-is : {begins pairs : List ℕ} → EntryPlaces (storedIn b points ts os ns vs count) os ns vs count begins pairs → EntryPlaces (storedIn b points times os ns vs count) os ns vs count begins pairs
   places-is {begins} {pairs} = subst (λ q. EntryPlaces (storedIn b points q os ns vs count) os ns vs count begins pairs) e

@@ -16,7 +16,7 @@ ghost use lib.Dec.{leb};
 ghost use Rattle.meaning.specs.Outcome.{Outcome};
 ghost use Rattle.method.specs.WellFormed.{Formed};
 ghost use Rattle.kinds.specs.Kinds.{EventThere};
-ghost use Rattle.formed.specs.NodeFigures.{storedIn, NodeFigures, EntryPlaces};
+ghost use Rattle.formed.specs.StateFigures.{storedIn, StateFigures, EntryPlaces};
 ghost use Rattle.events.specs.Answers.{outcomeOf};
 ghost use Rattle.events.specs.declared.Admitted.the-variants.{Fine};
 ghost use Rattle.limits.specs.Weighs.{refusalOf};
@@ -31,6 +31,9 @@ const MOST_BYTES: u32 = RULE_BYTES as u32;
 const RETAINED: u32 = MOST_TIMES as u32;
 
 const KEPT: u32 = MOST_KEPT as u32;
+
+// The words for the values of the entries.
+const VALUES: usize = MOST_KEPT * 4;
 
 // The answer of a taking: the words written, or the refusal.
 pub enum Answer {
@@ -86,7 +89,7 @@ fn take_admitted(
 ) -> Taken
     requires { ⌜ SizedWords (now times) (now owners) (now numbers) (now values) retained count ⌝ }
     requires { ⌜ Formed (storedIn (now rule) points (take retained (now times)) (now owners) (now numbers) (now values) count) ⌝ }
-    requires { ⌜ NodeFigures (storedIn (now rule) points (take retained (now times)) (now owners) (now numbers) (now values) count) (now masks) (now counts) (now lows) × EntryPlaces (storedIn (now rule) points (take retained (now times)) (now owners) (now numbers) (now values) count) (now owners) (now numbers) (now values) count (now begins) (now pairs) ⌝ }
+    requires { ⌜ StateFigures (storedIn (now rule) points (take retained (now times)) (now owners) (now numbers) (now values) count) (now masks) (now counts) (now lows) × EntryPlaces (storedIn (now rule) points (take retained (now times)) (now owners) (now numbers) (now values) count) (now owners) (now numbers) (now values) count (now begins) (now pairs) ⌝ }
     requires { ⌜ EventThere (now event) × (points < 10000000) ⌝ }
     requires { ⌜ (32 ≤ length (now masks)) × (32 ≤ length (now counts)) × (32 ≤ length (now lows)) × (33 ≤ length (now begins)) × (32 ≤ length (now pairs)) ⌝ }
     ensures { λ r. ⌜ TakesIn (storedIn (now (rule .entry)) points (take retained (now (times .entry))) (now (owners .entry)) (now (numbers .entry)) (now (values .entry)) count) (now (event .entry)) (now (report .entry)) (now (report .exit)) (now (times .entry)) (now (owners .entry)) (now (numbers .entry)) (now (values .entry)) (now (times .exit)) (now (owners .exit)) (now (numbers .exit)) (now (values .exit)) (weighedNow (storedIn (now (rule .entry)) points (take retained (now (times .entry))) (now (owners .entry)) (now (numbers .entry)) (now (values .entry)) count) (now (event .entry)) (length (now (report .entry)))) r ⌝ }
@@ -217,7 +220,7 @@ fn lengths_fit(rule: &[u8], times: &[u32], owners: &[u32], numbers: &[u32], valu
     if numbers.len() != MOST_KEPT {
         return false;
     }
-    values.len() == MOST_KEPT * 4
+    values.len() == VALUES
 }
 
 // What a refusal leaves beside the slices.

@@ -6,7 +6,7 @@ use borrow.Author.Tests.{not-true, not-false}
 use denote.Ref.{now}
 use Rattle.method.specs.WellFormed.{wellFormed}
 use Rattle.method.proofs.Formed.{formed}
-use Rattle.formed.specs.NodeFigures.{storedIn}
+use Rattle.formed.specs.StateFigures.{storedIn}
 use Rattle.figures.proofs.Slices.{node-sizes, not-open, last-most, open-counted}
 use borrow.Author.Needs.{needs}
 use Rattle.figures.proofs.open_stored.Statement.{statement}

@@ -7,7 +7,7 @@ use lib.ListN.{take}
 use borrow.Author.Needs.{needs}
 use borrow.Author.Tests.{not-true, not-false}
 use denote.Ref.{now}
-use Rattle.formed.specs.NodeFigures.{storedIn}
+use Rattle.formed.specs.StateFigures.{storedIn}
 use Rattle.lent_state.specs.Lent.{lent, lengthsFit, stored}
 use Rattle.lent_state.proofs.Memory.{fits-sized, sized-words, figures-out, figures-in, stored-parts, taken-unfit, taken-bad, taken-refused, taken-done, taken-room}
 use Rattle.lent_state.proofs.take.Statement.{statement}

@@ -10,7 +10,7 @@ use borrow.Author.Tests.{not-true, not-false}
 use denote.Ref.{now}
 use Rattle.method.specs.WellFormed.{wellFormed}
 use Rattle.method.proofs.Formed.{formed}
-use Rattle.formed.specs.NodeFigures.{storedIn}
+use Rattle.formed.specs.StateFigures.{storedIn}
 use Rattle.lent_state.proofs.Stored.{from-first, well-is, known-is, places-is, latest-is, rule-sizes, not-formed, fine-event, refused-first, taken-on}
 use borrow.Author.Needs.{needs}
 use Rattle.lent_state.proofs.take_stored.Statement.{statement}

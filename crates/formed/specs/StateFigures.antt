@@ -15,7 +15,7 @@ abbrev pub storedIn : List ℕ → ℕ → List ℕ → List ℕ → List ℕ �
 storedIn b points times os ns vs count = record { rule = b; points = points; times = times; entries = entriesFrom os ns vs 0 count }
 
 -- for each node the mask of its free variables, how many points it has settled, and from which point on its rows are kept
-pub record NodeFigures (s : Stored) (masks counts lows : List ℕ) : Type 0 where
+pub record StateFigures (s : Stored) (masks counts lows : List ℕ) : Type 0 where
   pub masks-free : (x : ℕ) → x < nodeCount (s .rule) → (v : ℕ) → v < 4 → inMask (getD masks x 0) v ≡ free (formulaAt (s .rule) x) v
   pub counts-stored : take (nodeCount (s .rule)) counts ≡ countsStored s
   pub lows-wanted : (x : ℕ) → x < nodeCount (s .rule) → getD lows x 0 ≡ wantedFrom (s .rule) (countBefore s) x .0
