@@ -1,4 +1,4 @@
--- What held pairs give: a turn of the loop over them, with the window's bounds as numbers, and that the whole is what the definitions say.
+-- What held pairs give: a turn of the loop over them, with the window's bounds as numbers, that the whole is what the definitions say, and that it is a run where nothing is asked of left.
 use Prim.Native.Nat.{ℕ, zero, suc, _+_, _-_, _≤_, _<_, min}
 use mathlib.Core.Path.{_≡_, refl, sym, ap, ap₂, fun-ext, _∙_}
 use mathlib.Core.Bool.{Bool, true, cond, _&&_, and-false}

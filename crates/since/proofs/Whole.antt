@@ -1,4 +1,4 @@
--- What right's rows and the held pairs give together is what the definitions say.
+-- What right's rows and the held pairs give together is what the definitions say; pairs put into none are the set of them.
 use Prim.Native.Nat.{ℕ, _+_}
 use mathlib.Core.Path.{_≡_, ap, ap₂, _∙_}
 use mathlib.Core.Bool.{Bool}
@@ -32,7 +32,6 @@ module _ (left : Left) (mask : ℕ) (sets right : Point → List (List ℕ)) (τ
         ap (λ us. freshPairs τ w (leftTest left mask sets) right start i ++ us)
         (ap₂ (λ b p. olderPairs w b p held) e (f ∙ ap (λ end. leads left mask sets start (point end)) (add-one (i .0))))
 
--- pairs put into none are the set of them
 pub put-all : {ages values ages' values' : List ℕ} {k : ℕ} {xs : List (List ℕ)} → PairsAdded ages values 0 ages' values' k xs → PairsPut ages values ages' values' k (setOf xs)
 put-all {ages} {values} {ages'} {values'} {k} {xs} g =
     let s : PairsStand ages' values' k (setOf xs) = g .put [] (record { counted = omega arith; set = λ _. pairs-none ages values }) in
