@@ -89,7 +89,7 @@ fn put_lasting(
 ) -> usize
     requires { ⌜ Stand (now rows) (now at) (a .first) (a .low) after (end .0) ⌝ }
     requires { ⌜ Run (now rows) from to ⌝ }
-    requires { ⌜ Room (now out) n ⌝ }
+    requires { ⌜ SetRoom (now out) n ⌝ }
     ensures { λ k. ⌜ Added (now (out .entry)) n (now (out .exit)) k (select (leads left (a .mask) (setAt (now (rows .entry)) (now (at .entry)) (a .first) (a .low)) after end) (rowsFrom (now (rows .entry)) from (to - from))) ⌝ }
 {
     let mut k = n;
