@@ -5,14 +5,17 @@
     text.py FILE.in ..       turns inputs of the listing program to text and back
 
 Each tree gives a text and a file: the tool must turn either into the other. The text is also tried with comments, line
-ends and parentheses that change nothing, the file with its nodes in another order and damaged in a byte, and events both
-ways; then a table of wrong texts, each with the place of its fault, the four commands as programs, and the examples.
+ends and parentheses that change nothing, the file with its nodes in another order and damaged in a byte, events both ways
+and as lines of a log, and its nodes one by one; then tables of wrong texts, each with the place of its fault, of texts with a
+warning, and of wrong logs, the commands as programs, and the examples. Nothing here needs the listing program.
 """
 import collections
 import importlib.machinery
 import importlib.util
+import io
 import pathlib
 import random
+import re
 import struct
 import subprocess
 import sys
@@ -29,7 +32,11 @@ loader.exec_module(rules)
 VARIABLES = "xyzw"
 PREFIX = {7: "previous", 8: "next", 13: "once", 14: "eventually"}
 INFIX = {9: "since", 10: "not since", 11: "until", 12: "not until"}
+KINDS = "atom and and-not keep or exists previous next since not-since until not-until once eventually".split()
 LEAST = 50  # how often each kind, comparison, arity and refusal must be met
+
+ALWAYS = "there is no `always`: a rule states the breach, so say where it fails, as in `eventually [0, 61) (a(x) and not b(x))`, " \
+    "or write `b(x) since [0, 61) a(x)`, which asks b at every point after a"
 
 # Texts with a fault, which begins where the bar stands, and what is said of it.
 WRONG = [
@@ -78,7 +85,20 @@ WRONG = [
     ("once [0, |604801) a(x)", "a window's end is at most 604800"),
     ("once [|604800, *) a(x)", "a window's start is at most 604799"),
     ("once [0 |5) a(x)", "expected `,`"),
-    ("once [0, 5|] a(x)", "expected `)`"),
+    ("once [0, 5 |a(x)", "expected `)`"),
+    ("once [0, 1800|] a(x)", "a window's end is outside it: with 1800 seconds inside, write `[0, 1801)`"),
+    ("a(x) since [5, 5|] a(x)", "a window's end is outside it: with 5 seconds inside, write `[5, 6)`"),
+    ("once [7, |5] a(x)", "a window's end is above its start, 7"),
+    ("once [9, 604800|] a(x)", "a window's end is outside it: the longest is `[9, 604800)`"),
+    ("once [9, *|] a(x)", "a window ends with `)`: write `[9, *)`"),
+    ("once [0, |30m) a(x)", "a window's end is in seconds, without a unit: for `30m` write 1800"),
+    ("once [0, |30min] a(x)", "a window's end is in seconds, without a unit: for `30min` write 1800"),
+    ("once [|2h, *) a(x)", "a window's start is in seconds, without a unit: for `2h` write 7200"),
+    ("once [0, 30 |m) a(x)", "expected `)`"),
+    ("a(x) @|15s a(3)", "a time is in seconds, without a unit: for `15s` write 15"),
+    ("a(3|m)", "expected `,` or `)`"),
+    ("|always [0, 61) a(x)", ALWAYS),
+    ("a(x) and not |always a(x)", ALWAYS),
     ("once [|*, 5) a(x)", "expected a window's start"),
     ("once [0, |) a(x)", "expected a window's end"),
     ("eventually [0, |*) a(x)", "`eventually` needs a window with an end"),
@@ -111,6 +131,41 @@ WRONG = [
     ("a(x)\n@1 a(7) |and a(8)", "expected a relation; `and` is a word of the language"),
     ("a(x)\n@1 a(7)|, a(8)", "expected a row, an event or the end"),
     ("a()\n@1" + " a()" * 32 + " |a()", "an event has at most 32 rows"),
+]
+
+# Texts whose variable stands for two things, with a bar where the second begins, or without one where no name does.
+ANOTHER = "this `x` is another one than that of `exists x`, which ends before it; `exists x (..)` reaches as far as its parentheses"
+BEFORE = "the `x` of this `exists` is another one than the `x` before it"
+WARNED = [
+    ("exists x leak(x) and close(|x)", ANOTHER),
+    ("exists x leak(x) and not close(|x, 3)", "error"),
+    ("(exists x leak(x)) and close(y, |x) and x < 3", ANOTHER),
+    ("leak(x) and not |exists x close(x)", BEFORE),
+    ("exists x (leak(x) and close(x))", None),
+    ("exists x leak(x) and not exists x close(x)", None),
+    ("exists x (exists x leak(x) and close(|x))", ANOTHER),
+    ("exists x (close(x) and |exists x leak(x))", BEFORE),
+    ("exists y leak(y) and close(x)", None),
+    ("always(x) and close(x)", None),
+]
+
+# Logs with a fault: the lines, the line of the fault, and what is said of it, for the relations a/1, b/2, c/0.
+WRONG_LOGS = [
+    ("a,7", 1, "expected a time, a whole number, and found `a`"),
+    ("1,a,7\n-2,a,7", 2, "expected a time, a whole number, and found `-2`"),
+    ("1;a;7", 1, "expected a time, a whole number, and found `1;a;7`"),
+    ("4294967296,a,7", 1, "a time is at most 4294967295"),
+    ("1,a,4294967296", 1, "a value is at most 4294967295"),
+    ("1,a,3.5", 1, "expected a value, a whole number, and found `3.5`"),
+    ("1,a,", 1, "`a` has 1 column in the rule, here 0"),
+    ("1,a,7\n\n# b\n1,b,7", 4, "`b` has 2 columns in the rule, here 1"),
+    ("1,a,7,8", 1, "`a` has 1 column in the rule, here 2"),
+    ("1,c,0", 1, "`c` has 0 columns in the rule, here 1"),
+    ("1,b,,8", 1, "expected a value, a whole number, and found ``"),
+    ("1,A,7", 1, "`A` is not a relation of the rule; it has a, b, c"),
+    ("1,,7", 1, "`` is not a relation of the rule; it has a, b, c"),
+    ("1,a,7\ntime,relation", 2, "expected a time, a whole number, and found `time`"),
+    ("1,a,7\n" * 33, 33, "an event has at most 32 rows; an empty line before it begins another of the same time"),
 ]
 
 
@@ -260,6 +315,30 @@ def loosened(rng, words):
     return f"({out} )"
 
 
+def nodes_of(tree, names, out):
+    """What is shown of each node, children first; gives the tree's number."""
+    kind, below, more = tree
+    numbers = [nodes_of(t, names, out) for t in below]
+    window = f"[{more[0]}, {more[1] or '*'})" if kind >= 7 else "-"
+    variables = ", ".join(VARIABLES[v] for v in sorted(free(tree)))
+    shown = spaced(words_of(tree, names, {"relations": {}, "variables": {}}))
+    out.append([str(len(out)), KINDS[kind - 1], ", ".join(map(str, numbers)) or "-", window, variables or "-", shown])
+    return len(out) - 1
+
+
+def lines_of(rng, events, names):
+    """The events as lines of a log, with lines and cells between them that change nothing, and the line where each begins."""
+    lines, begins = ["time,relation,values"] * rng.randrange(2), []
+    for k, (time, rows, values) in enumerate(events):
+        if k and events[k - 1][0] == time or rng.random() < 0.1:
+            lines.append(rng.choice(("", ",,", " ")))
+        lines += ["# a,b"] * (rng.random() < 0.1)
+        begins.append(len(lines) + 1)
+        lines += [str(time) + rng.choice(("", ","))] * (not rows or rng.random() < 0.1)
+        lines += [f"{time}{rng.choice((',', ' , '))}{names[r]}" + "".join(f",{w}" for w in v) + "," * rng.choice((0, 0, 2)) for r, v in zip(rows, values)]
+    return rng.choice(("\n", "\r\n")).join(lines) + rng.choice(("", "\n")), begins
+
+
 def size(tree):
     return 1 + sum(map(size, tree[1]))
 
@@ -294,8 +373,12 @@ def outcome(call, *args):
     """What a call gives, or what it says on a fault."""
     try:
         return call(*args)
-    except (rules.Wrong, rules.Unreadable) as e:
+    except (rules.Wrong, rules.Unreadable, rules.rules_run.Fault) as e:
         return f"{type(e).__name__}: {e}"
+
+
+def read_log(text, names, arities):
+    return list(rules.rules_run.csv_events(io.StringIO(text, newline=""), "log", dict(zip(names, arities))))
 
 
 def read_rule(data, names):
@@ -343,6 +426,15 @@ def try_tree(rng, met):
     met["events", "both ways"] += len(events)
     same("text to input", outcome(rules.listing_input, shown), data, shown)
     same("input to text", outcome(rules.input_text, data, names), shown, data)
+
+    # the events as lines of a log, and the nodes
+    log, begins = lines_of(rng, events, names)
+    met["events", "of equal times together"] += sum(a[0] == b[0] for a, b in zip(events, events[1:]))
+    same("lines to events", outcome(read_log, log, names, maker.arities), list(zip(begins, map(event_words, events))), log)
+    nodes = [["node", "kind", "children", "window", "free", "text"]]
+    nodes_of(tree, names, rows := [])
+    table = outcome(lambda: rules.nodes_text(rules.rule_of(file, names)))
+    same("nodes", [re.split(" {2,}", line) for line in table.splitlines()], nodes + rows, text)
     return file
 
 
@@ -369,6 +461,23 @@ def try_wrong():
         same("refused", False, True, text)
 
 
+def try_warned():
+    for marked, said in WARNED:
+        at, text = marked.find("|"), marked.replace("|", "")
+        reader = rules.Reader(text)
+        try:
+            reader.text()
+        except rules.Wrong:
+            same("refused", said, "error", text)
+            continue
+        same("warnings", [(w.at, str(w)) for w in reader.warnings()], [(at, said)] if said else [], text)
+
+
+def try_wrong_logs():
+    for log, line, said in WRONG_LOGS:
+        same("a wrong log", outcome(read_log, log, ["a", "b", "c"], [1, 2, 0]), f"Fault: log:{line}: {said}", log)
+
+
 def try_commands():
     def run(*words, stdin=b""):
         done = subprocess.run([sys.executable, TOOL, *words], input=stdin, capture_output=True)
@@ -389,6 +498,15 @@ def try_commands():
     same("a cut event", run("read-input", stdin=data[:-1]), (1, b"", "event 3 is cut short\n"), "")
     same("too few names", run("read-rule", "--names", "leak", stdin=shipped), (1, b"", "the rule has 2 relations, and 1 names are given\n"), "")
     same("no such command", run("print")[0], 2, "")
+    same("no such option", run("write-rule", "--all")[0], 2, "")
+    shown = "node  kind    children  window  free  text\n0     atom    -         -       p, q  on(p, q)\n" \
+        "1     keep    0         -       p, q  on(p, q) and q >= 3\n2     exists  1         -       p     exists q (on(p, q) and q >= 3)\n"
+    same("nodes", run("nodes", stdin=b"variables p, q exists q (on(p, q) and q >= 3) @1 on(3, 4)"), (0, shown.encode(), ""), "")
+    same("nodes of a file", run("nodes", "--names", "leak,close", str(TOP / "examples" / "leak.rule"))[1].decode().split("\n")[4],
+         "3     and-not     0, 2      -        x     leak(x) and not eventually [0, 61) close(x)", "leak.rule")
+    same("nodes of a wrong text", run("nodes", stdin=b"a(x")[:2], (1, b""), "")
+    warned = f"text:2:6: warning: {ANOTHER}\nb(7, x)\n     ^\n"
+    same("a warning", run("write-rule", stdin=b"exists x a(x) and\nb(7, x)"), (0, rules.rule_file("exists x a(x) and b(7, x)"), warned), "")
     same("help", "grammar" in run("--help")[1].decode(), True, "")
 
 
@@ -431,14 +549,16 @@ def main():
         file = try_tree(rng, met)
         try_damaged(rng, file, met)
     try_wrong()
+    try_warned()
+    try_wrong_logs()
     try_commands()
     examples = try_examples()
     for key in sorted(met, key=str):
         print(f"{key[0]} {key[1]}: {met[key]}", end="; ")
     wanted = [("kind", k) for k in range(1, 15)] + [("comparison", k) for k in range(4)] + [("arity", k) for k in range(5)] \
-        + [("refusal", k) for k in range(1, 8)] + [("window", "without"), ("order", "another"), ("nodes", "32")]
+        + [("refusal", k) for k in range(1, 8)] + [("window", "without"), ("order", "another"), ("nodes", "32"), ("events", "of equal times together")]
     rare = [key for key in wanted if count >= 3000 and met[key] < LEAST]
-    print(f"\n{count} rules as text and file, {len(WRONG)} wrong texts, {examples} examples, {failures} differ", *(f"rare: {k}" for k in rare))
+    print(f"\n{count} rules as text and file, {len(WRONG)} wrong texts, {len(WARNED)} with or without a warning, {len(WRONG_LOGS)} wrong logs, {examples} examples, {failures} differ", *(f"rare: {k}" for k in rare))
     sys.exit(failures > 0 or bool(rare))
 
 
