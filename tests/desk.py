@@ -1,0 +1,330 @@
+#!/usr/bin/env python3
+"""Runs `tools/rules run` with the listing program, and compares what is printed with plain.py and with the documents.
+
+    rt check listing
+    desk.py [CASES [SEED]]   default: 250 cases, seed 1
+
+Each case is a generated rule with a log, run from a text with events and again from a text and a log of lines, with --all and
+without, beside the lines that are made here from plain.py's answers. Then the limits that refuse an event, damaged rule files,
+pictures, progress, faults after which nothing may be printed, listing programs that fail, the words of all refusals, and every
+rule, log and report of docs/RULES.md and every command of README.md. Exits with 1 on any difference, or where something was met
+too rarely.
+"""
+import collections
+import contextlib
+import io
+import os
+import pathlib
+import pty
+import random
+import re
+import subprocess
+import sys
+import tempfile
+import xml.etree.ElementTree
+
+import plain
+import text
+
+TOP, rules = text.TOP, text.rules
+NAMES = ["leak", "close", "flow", "open_", "dry", "low", "on", "off"]
+LEAST = 20  # how often refusals, breaches and the like must be met in generated cases
+
+# Each refusal in words, from 01; a node's or a row's own text follows where the place is one.
+WORDS = {
+    1: "under 12 bytes, or a length that isn't 12 + 20 for each node",
+    2: "the version isn't 1",
+    3: "a size, an arity or the zero byte is out of range",
+    4: "an unknown kind, child, relation, variable or comparison, or a field without a meaning that isn't 0: node 5, NODE5",
+    5: "the window is out of range: node 5, NODE5",
+    6: "a condition on the free variables is broken: node 5, NODE5",
+    7: "the node isn't a child exactly once: node 5, NODE5",
+    8: "the state isn't well formed",
+    9: "under 2 words, over 32 rows, or a wrong length",
+    10: "no such relation, or an unused column that isn't 0: row 5, ROW5",
+    11: "the time is below the last point's",
+    12: "10,000,000 points were taken already",
+    13: "over 32 valuations at a point newly settled: node 5, NODE5",
+    14: "over 32 points would be open",
+    15: "over 512 entries would be kept",
+    16: "the report buffer is too short: 5 words are needed",
+}
+
+
+class Small(text.Maker):
+    """Rules and values so small that much is breached."""
+
+    def window(self, ends):
+        c = self.rng.choice((0, 0, 0, 1, 3))
+        return (c, 0) if not ends and self.rng.random() < 0.3 else (c, c + self.rng.choice((1, 3, 8, 20)))
+
+    def term(self, variables):
+        constant = not variables or self.rng.random() < 0.1
+        return (1, self.rng.randrange(3)) if constant else (0, self.rng.choice(sorted(variables)))
+
+
+def log_for(rng, arities):
+    """Events with rising, equal and falling times, some of many rows."""
+    now, events = rng.choice((0, 100, 2**32 - 60)), []
+    most = rng.choice((2, 6, 32))
+    for _ in range(rng.randint(1, rng.choice((8, 25)))):
+        rows = [rng.randrange(len(arities)) for _ in range(rng.randint(0, most))]
+        time = max(0, now - 5) if rng.random() < 0.1 else now
+        events.append((time, rows, [[rng.randint(0, rng.choice((2, 2, 9))) for _ in range(arities[r])] for r in rows]))
+        now = min(now + rng.choice((0, 0, 1, 1, 2, 3, 9)), 2**32 - 1)
+    return events
+
+
+def wanted_lines(tree, arities, names, events, begins, every, met):
+    """What must be printed, from plain.py's answers; `begins` has the line of each event."""
+    rule = plain.check(text.file_of(tree, arities))
+    nodes = []
+    text.nodes_of(tree, names, nodes)
+    columns = [text.VARIABLES[v] for v in sorted(text.free(tree))]
+    out, log, reported, breached = [f"rule {nodes[-1][5]}, reach {rule.reach[-1]}"], plain.Log(rule, []), 0, 0
+    for event, line in zip(events, begins):
+        answer, points = plain.take(rule, log, text.event_words(event))
+        if points is None:
+            number, place = answer
+            met["refused", number] += 1
+            said = WORDS[number].replace("node 5, NODE5", f"node {place}, {nodes[place][5]}")
+            out.append(f"time {event[0]} refused {number}, line {line}: {said}")
+            continue
+        log = answer
+        for i, time, rows in points:
+            reported, breached = reported + 1, breached + (len(rows) > 0)
+            met["a point", "with rows" if rows else "without"] += 1
+            met["columns", len(columns)] += len(rows)
+            out += [f"time {time} point {i}: {', '.join(f'{c} = {v}' for c, v in zip(columns, row)) or 'breach'}" for row in rows]
+            out += [f"time {time} point {i}: no breach"] * (every and not rows)
+    return out + [f"reported {reported}, breached {breached}, open {log.open()}, kept {log.kept()}"]
+
+
+def printed(*words, stdin=""):
+    """What the tool gives back and prints, run in here; standard input can't be a log then."""
+    out, err, before = io.StringIO(), io.StringIO(), sys.stdin
+    sys.stdin = io.TextIOWrapper(io.BytesIO(stdin.encode()))
+    try:
+        with contextlib.redirect_stdout(out), contextlib.redirect_stderr(err):
+            status = rules.main(["run", *map(str, words)])
+    finally:
+        sys.stdin = before
+    return status, out.getvalue(), err.getvalue()
+
+
+def program(*words, stdin=None, **more):
+    done = subprocess.run([sys.executable, text.TOOL, "run", *map(str, words)], input=stdin, capture_output=True, text=True, timeout=60, cwd=TOP, **more)
+    return done.returncode, done.stdout, done.stderr
+
+
+def try_case(rng, folder, met):
+    maker = Small(rng)
+    maker.arities = [rng.choice((0, 1, 1, 1, 2)) for _ in range(rng.randint(1, 4))]
+    tree = maker.tree(rng.randint(1, 7))
+    names, events = NAMES[:len(maker.arities)], log_for(rng, maker.arities)
+    lines, words = text.text_of(tree, maker.arities, names)
+    head = "\n".join(lines + [text.spaced(words)]) + "\n"
+    every = rng.random() < 0.5
+    alone, log = folder / "alone.text", folder / "log.csv"
+
+    # a text with events, each on a line of its own
+    body = "".join(f"@{t}" + "".join(f" {names[r]}({', '.join(map(str, v))})" for r, v in zip(rows, values)) + "\n" for t, rows, values in events)
+    begins = range(len(lines) + 2, len(lines) + 2 + len(events))
+    wanted = "\n".join(wanted_lines(tree, maker.arities, names, events, begins, every, met)) + "\n"
+    status, out, err = printed(*["--all"] * every, stdin=head + body)
+    text.same("a text with events", (status, out), (0, wanted), head + body)
+    met["warned", bool(err)] += 1
+
+    # the same as lines of a log, the rule as a text or as a file
+    csv, begins = text.lines_of(rng, events, names)
+    log.write_text(csv, newline="")
+    wanted = "\n".join(wanted_lines(tree, maker.arities, names, events, begins, every, collections.Counter())) + "\n"
+    if rng.random() < 0.5:
+        alone.write_text(head)
+        got = printed(alone, log, *["--all"] * every)
+    else:
+        alone.write_bytes(text.file_of(tree, maker.arities))
+        got = printed("--names", ",".join(names), *["--all"] * every, alone, log)
+    text.same("a log of lines", got[:2], (0, wanted), head + csv)
+
+
+def try_limits(met):
+    """Events that just pass and just don't: 32 and 33 valuations, open points, 512 kept."""
+    a, b = (1, (), (0, [(0, 0)])), (1, (), (1, [(0, 1)]))
+    crowds = [(1, [0] * m + [1] * n, [[k] for k in (*range(m), *range(n))]) for m, n in ((8, 4), (11, 3))]
+    ahead = [(5, [0], [[k]]) for k in range(34)]
+    kept = [(k, [0] * 16, [[16 * k + j] for j in range(16)]) for k in range(34)]
+    for tree, arities, events, refused in (((2, (a, b), ()), [1, 1], crowds, 13), ((14, (a,), (0, 9)), [1], ahead, 14), ((13, (a,), (0, 99)), [1], kept, 13),
+                                           ((3, (a, (13, (a,), (50, 99))), ()), [1], kept, 15)):
+        names = NAMES[:len(arities)]
+        lines, words = text.text_of(tree, arities, names)
+        head = "\n".join(lines + [text.spaced(words)]) + "\n"
+        body = "".join(f"@{t}" + "".join(f" {names[r]}({v[0]})" for r, v in zip(rows, values)) + "\n" for t, rows, values in events)
+        own = collections.Counter()
+        begins = range(len(lines) + 2, len(lines) + 2 + len(events))
+        wanted = "\n".join(wanted_lines(tree, arities, names, events, begins, False, own)) + "\n"
+        text.same("at a limit", printed(stdin=head + body), (0, wanted, ""), head + body)
+        text.same("the limit is met", own["refused", refused] > 0, True, (refused, own))
+        met.update(own)
+
+
+def try_damaged(rng, folder, met, count=400):
+    """Damaged rule files are refused in words, with nothing on standard output."""
+    for _ in range(count):
+        maker = Small(rng)
+        data = bytearray(text.file_of(maker.tree(rng.randint(1, 6)), maker.arities))
+        data[rng.randrange(rng.choice((4, len(data))))] = rng.choice((0, 1, 2, 3, 7, 15, 200))
+        data = bytes(data[:rng.choice((len(data), len(data), rng.randrange(4, len(data))))])
+        checked = plain.check(data)
+        if not isinstance(checked, tuple) or 0 not in data:
+            continue
+        met["refused", checked[0]] += 1
+        (folder / "bad.rule").write_bytes(data)
+        status, out, err = printed(folder / "bad.rule")
+        said = f"the rule: refused {checked[0]}: " + WORDS[checked[0]].replace("node 5, NODE5", f"node {checked[1]}, ")
+        text.same("a refused rule", (status, out, err[:len(said)]), (1, "", said), data)
+    whole = bytearray((TOP / "examples" / "leak.rule").read_bytes())
+    for at, byte, said in ((20, 99, "kind 99, left 1, right 0, mask 0, words 0, 61, 0, 0"), (64, 0, "eventually [0, *) r1(x)"), (44, 1, "r0(x) and not eventually [0, 61) r1(y)"),
+                           (21, 0, "r0(x)")):
+        data = whole[:]
+        data[at] = byte
+        met["refused", plain.check(bytes(data))[0]] += 1
+        (folder / "bad.rule").write_bytes(data)
+        err = printed(folder / "bad.rule")[2]
+        text.same("the node's own text", err.split(", ", 1)[-1][-len(said) - 1:], said + "\n", (at, err))
+
+
+def try_words():
+    """All sixteen, also those that no log can bring about here."""
+    for number, said in WORDS.items():
+        text.same("a refusal's words", rules.rules_run.reason(number, 5, lambda x: f"NODE{x}", lambda k: f"ROW{k}"), said, number)
+    told = rules.Told(rules.read_text("leak(x)")[0])
+    text.same("a row's words", (told.row(0, (7,)), told.row(3, (7, 0))), ("leak(7)", "relation 3(7, 0)"), "")
+
+
+def try_pictures(folder):
+    """Thirty-two valuations, the last two without a row of their own."""
+    events = "".join(f"@{100 + 10 * k} a({k}) a(5)\n" for k in range(32))
+    file = folder / "picture.svg"
+    status, out, _ = printed("--picture", "--svg", file, stdin="a(v)\n" + events)
+    drawn = [line for line in out.splitlines() if line.endswith("|")]
+    width = len("all others")
+    text.same("picture rows", [line[:width].strip() for line in drawn], [f"v = {k}" for k in range(30)] + ["all others"], out)
+    cells = {k: line[width + 2:-1] for k, line in enumerate(drawn)}
+    text.same("picture marks", (cells[5].count("#"), cells[7], cells[30]), (32, "." * 13 + "#" + "." * 46, "." * 57 + "#.#"), out)
+    text.same("picture axis", out.splitlines()[-1], "time" + " " * (width - 2) + "100" + " " * 54 + "410", out)
+    first = file.read_text()
+    printed("--svg", file, stdin="a(v)\n" + events)
+    text.same("the same picture again", file.read_text(), first, "")
+    root = xml.etree.ElementTree.fromstring(first)
+    space = "{http://www.w3.org/2000/svg}"
+    marks = [float(r.get("x")) for r in root.iter(space + "rect") if r.get("class") == "breach"]
+    left = min(marks)
+    text.same("svg marks", collections.Counter(marks)[left + (70 * 599) // 310], 2, sorted(marks))
+    text.same("svg mark count", len(marks), 29 + 32 + 2, sorted(marks))
+    labels = [t.text for t in root.iter(space + "text")]
+    text.same("svg labels", labels, ["breaches of a(v)"] + [f"v = {k}" for k in range(30)] + ["all others"]
+              + ["100", "151", "203", "255", "306", "358", "410", "time in seconds"], labels)
+    text.same("no scripts", "script" in first, False, "")
+    printed("--svg", file, stdin="a(x) and x < 3 @1 b(2)".replace("b", "a"))
+    text.same("signs in a title", next(xml.etree.ElementTree.parse(file).iter(space + "text")).text, "breaches of a(x) and x < 3", "")
+    text.same("nothing to draw", printed("--picture", stdin="a(x) and x < 0 @1 a(2)")[1].splitlines()[-1], "no breach to draw", "")
+
+
+def try_progress(folder):
+    """Shown on a terminal, not elsewhere; and a log of lines from standard input."""
+    rule = folder / "long.text"
+    rule.write_text("leak(x) and x < 1")
+    log = "".join(f"{k},leak,{k % 1000}\n" for k in range(25_000))
+    wanted = "rule leak(x) and x < 1, reach 0\n" + "".join(f"time {k} point {k}: x = 0\n" for k in range(0, 25_000, 1000)) \
+        + "reported 25000, breached 25, open 0, kept 0\n"
+    text.same("no progress", program(rule, "-", stdin=log), (0, wanted, ""), "a long log")
+    (folder / "long.csv").write_text(log)
+    mine, theirs = pty.openpty()
+    with subprocess.Popen([sys.executable, text.TOOL, "run", rule, folder / "long.csv"], stdout=subprocess.DEVNULL, stderr=theirs) as child:
+        os.close(theirs)
+        shown = b""
+        with contextlib.suppress(OSError):  # how the end of a terminal is told
+            while part := os.read(mine, 1000):
+                shown += part
+    os.close(mine)
+    seen = re.findall(rb"(read|run) ([0-9,]+) events", shown)
+    text.same("progress", (child.returncode, seen), (0, [(w, n) for w in (b"read", b"run") for n in (b"10,000", b"20,000")]), shown)
+
+
+def try_faults(folder):
+    """After a fault nothing is on standard output, however late it comes."""
+    rule, log = folder / "rule.text", folder / "late.csv"
+    rule.write_text("leak(x)")
+    log.write_text("1,leak,7\n" * 30 + "\n2,leak,8\n3,leek,9\n")
+    text.same("a late fault of a log", program(rule, log), (1, "", f"{log}:33: `leek` is not a relation of the rule; it has leak\n"), "")
+    text.same("a late fault of a text", program(stdin="leak(x)\n@1 leak(7)\n@2 leek(7)\n"),
+              (1, "", "text:3:4: `leek` is not a relation of the rule\n@2 leek(7)\n   ^\n"), "")
+    log.write_bytes(b"1,leak,7\n2,leak,\xff\n")
+    text.same("a log that is no text", printed(rule, log)[:2], (1, ""), "")
+    text.same("no log", printed(rule, folder / "none.csv"), (1, "", f"rules: {folder / 'none.csv'}: No such file or directory\n"), "")
+    text.same("events twice", printed(TOP / "examples" / "leak.text", log)[:2], (1, ""), "")
+    text.same("no such option", printed("--every")[:2], (2, ""), "")
+    text.same("names for a text", printed("--names", "a", rule)[:2], (2, ""), "")
+    text.same("a warning is no fault", printed(stdin="exists x leak(x) and close(x)\n@1 leak(3) close(4)\n"),
+              (0, "rule exists x leak(x) and close(x), reach 0\ntime 1 point 0: x = 4\nreported 1, breached 1, open 0, kept 0\n",
+               f"text:1:28: warning: {text.ANOTHER}\nexists x leak(x) and close(x)\n{' ' * 27}^\n"), "")
+    none = "No such file or directory; `rt check listing` builds target/bin/listing, and --listing names another"
+    text.same("no listing program", printed("--listing", folder / "none", rule), (1, "", f"rules: {folder / 'none'}: {none}\n"), "")
+    fake = folder / "fake"
+    for script, said in (("echo rule ok reach 0", "rules: the listing program ended without its last line"), ("exit 3", f"rules: {fake} ended with 3"),
+                         ("exit 0", "rules: the listing program printed `nothing`"),
+                         ("echo rule ok reach 0; echo open 0 kept 0; exit 3", f"rules: {fake} ended with 3"),
+                         ("echo rule ok reach 0; echo hello; echo open 0 kept 0", "rules: the listing program printed `hello`")):
+        fake.write_text(f"#!/bin/sh\n{script}\n")
+        fake.chmod(0o755)
+        status, _, err = printed("--listing", fake, rule)
+        text.same("a listing program that fails", (status, err), (1, said + "\n"), script)
+
+
+BLOCKS = re.compile(r"^```rule\n(.*?)^```\n(?:\n^```csv\n(.*?)^```\n)?\n^```report\n(.*?)^```$", re.M | re.S)
+
+
+def try_documents(folder):
+    """The blocks of RULES.md, and the commands of README.md with what stands below them."""
+    page = (TOP / "docs" / "RULES.md").read_text()
+    blocks = BLOCKS.findall(page)
+    text.same("every block is run", (page.count("```") - 2 * sum(2 + bool(log) for _, log, _ in blocks), page.count("```rule\n")), (0, len(blocks)), "RULES.md")
+    for rule, log, report in blocks:
+        (folder / "page.text").write_text(rule)
+        (folder / "page.csv").write_text(log)
+        text.same("RULES.md", printed(folder / "page.text", *[folder / "page.csv"] * bool(log)), (0, report, ""), rule)
+    kinds = {n.kind for rule, _, _ in blocks for n in rules.read_text(rule)[0].nodes}
+    text.same("all kinds are on the page", kinds, set(range(1, 15)), "RULES.md")
+    commands = re.findall(r"^    \$ (tools/rules run .*)\n((?:    .+\n)*)", (TOP / "README.md").read_text(), re.M)
+    for command, shown in commands:
+        text.same("README.md", program(*command.split()[2:]), (0, re.sub("^    ", "", shown, flags=re.M), ""), command)
+    text.same("README.md has a command", len(commands) > 0, True, "README.md")
+    return len(blocks)
+
+
+def main():
+    count, seed = (int(a) for a in (sys.argv[1:] + ["250", "1"][len(sys.argv) - 1:]))
+    rng, met = random.Random(seed), collections.Counter()
+    if not (TOP / "target" / "bin" / "listing").exists():
+        sys.exit("desk.py: target/bin/listing isn't there; `rt check listing` builds it")
+    with tempfile.TemporaryDirectory() as name:
+        folder = pathlib.Path(name)
+        for _ in range(count):
+            try_case(rng, folder, met)
+        try_limits(met)
+        try_damaged(rng, folder, met)
+        try_words()
+        try_pictures(folder)
+        try_progress(folder)
+        try_faults(folder)
+        blocks = try_documents(folder)
+    print("; ".join(f"{a} {b}: {n}" for (a, b), n in sorted(met.items(), key=str)))
+    often = [("a point", "with rows"), ("a point", "without"), ("refused", 11), ("columns", 0), ("columns", 1), ("columns", 2), ("refused", 4)]
+    rare = [key for key in often if count >= 250 and met[key] < LEAST] + [("refused", n) for n in (1, 2, 3, 4, 5, 6, 7, 13, 14, 15) if not met["refused", n]]
+    print(f"{count} rules over logs, {blocks} reports of RULES.md, {text.failures} differ", *(f"rare: {k}" for k in rare))
+    sys.exit(text.failures > 0 or bool(rare))
+
+
+if __name__ == "__main__":
+    main()
