@@ -7,8 +7,9 @@
 Each case is a generated rule with a log, run from a text with events and again from a text and a log of lines, with --all and
 without, beside the lines that are made here from plain.py's answers. Then the limits that refuse an event, damaged rule files,
 pictures, progress, faults after which nothing may be printed, listing programs that fail, the words of all refusals, and every
-rule, log and report of docs/RULES.md and every command of README.md. Exits with 1 on any difference, or where something was met
-too rarely.
+rule, log and report of docs/RULES.md and every `tools/rules run` of README.md; last, with programs that only seem to be those
+that tools/test calls, that it names a missing one and ends what it began. Exits with 1 on any difference, or where something
+was met too rarely.
 """
 import collections
 import contextlib
@@ -18,9 +19,12 @@ import pathlib
 import pty
 import random
 import re
+import shutil
+import signal
 import subprocess
 import sys
 import tempfile
+import time
 import xml.etree.ElementTree
 
 import plain
@@ -303,6 +307,46 @@ def try_documents(folder):
     return len(blocks)
 
 
+NEEDED = "rt python3 rustc cargo cc c++ valgrind setsid".split()
+
+
+def try_gate(folder):
+    """tools/test with programs that do nothing: one missing, and then rt failing while another test still runs."""
+    bin, pid = folder / "bin", folder / "pid"
+    bin.mkdir()
+    for name in "sh grep dirname mktemp rm cat nice sleep setsid".split():
+        (bin / name).symlink_to(shutil.which(name))
+    scripts = dict.fromkeys(NEEDED[:-1], "exit 0")
+    scripts["python3"] = f"sleep 60 & echo $! >{pid}; wait"
+    scripts["rt"] = f"while ! grep -q . {pid} 2>/dev/null; do sleep 0.05; done; echo rt fails; exit 1"
+    for name, script in scripts.items():
+        (bin / name).write_text(f"#!/bin/sh\n{script}\n")
+        (bin / name).chmod(0o755)
+
+    def gate():
+        done = subprocess.run([TOP / "tools" / "test"], env={"PATH": str(bin), "TMPDIR": str(folder)}, capture_output=True, text=True, timeout=50)
+        return done.returncode, done.stdout, done.stderr
+
+    for name in NEEDED:
+        (bin / name).rename(folder / name)
+        text.same("a missing program", gate(), (1, "", f"tools/test: needed, and not found: {name}\n"), name)
+        (folder / name).rename(bin / name)
+    before = set(folder.iterdir())
+    text.same("rt fails", gate(), (1, "rt fails\n", ""), "")
+    left, until = int(pid.read_text()), time.monotonic() + 3
+    while is_running(left) and time.monotonic() < until:
+        time.sleep(0.02)
+    text.same("what was begun is ended", is_running(left), False, left)
+    text.same("nothing is left", set(folder.iterdir()) - before, {pid}, "")
+    if is_running(left):
+        os.kill(left, signal.SIGTERM)
+
+
+def is_running(pid):
+    stat = pathlib.Path(f"/proc/{pid}/stat")
+    return stat.exists() and stat.read_text().rpartition(")")[2].split()[0] not in "ZX"
+
+
 def main():
     count, seed = (int(a) for a in (sys.argv[1:] + ["250", "1"][len(sys.argv) - 1:]))
     rng, met = random.Random(seed), collections.Counter()
@@ -319,6 +363,7 @@ def main():
         try_progress(folder)
         try_faults(folder)
         blocks = try_documents(folder)
+        try_gate(folder)
     print("; ".join(f"{a} {b}: {n}" for (a, b), n in sorted(met.items(), key=str)))
     often = [("a point", "with rows"), ("a point", "without"), ("refused", 11), ("columns", 0), ("columns", 1), ("columns", 2), ("refused", 4)]
     rare = [key for key in often if count >= 250 and met[key] < LEAST] + [("refused", n) for n in (1, 2, 3, 4, 5, 6, 7, 13, 14, 15) if not met["refused", n]]
