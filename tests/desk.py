@@ -4,8 +4,8 @@
     rt check listing
     desk.py [CASES [SEED]]   default: 250 cases, seed 1
 
-Each case is a generated rule with a log, run from a text with events and again from a text and a log of lines, with --all and
-without, beside the lines that are made here from plain.py's answers. Then the limits that refuse an event, damaged rule files,
+Each case is a generated rule with a log, run from a text with events, from a rule and a log of lines, and as an input of the
+listing program with some rows that don't fit and an end that is no event, with --all and without, beside the lines that are made here from plain.py's answers. Then the limits that refuse an event, damaged rule files,
 pictures, progress, faults after which nothing may be printed, listing programs that fail, the words of all refusals, and every
 rule, log and report of docs/RULES.md and every `tools/rules run` of README.md; last, with programs that only seem to be those
 that tools/test calls, that it names a missing one and ends what it began. Exits with 1 on any difference, or where something
@@ -21,6 +21,7 @@ import random
 import re
 import shutil
 import signal
+import struct
 import subprocess
 import sys
 import tempfile
@@ -79,20 +80,27 @@ def log_for(rng, arities):
     return events
 
 
-def wanted_lines(tree, arities, names, events, begins, every, met):
-    """What must be printed, from plain.py's answers; `begins` has the line of each event."""
+def wanted_lines(tree, arities, names, events, every, met):
+    """What must be printed, from plain.py's answers, for events each with what stands for it in a line and its words, or None for words
+    that are no event."""
     rule = plain.check(text.file_of(tree, arities))
     nodes = []
     text.nodes_of(tree, names, nodes)
     columns = [text.VARIABLES[v] for v in sorted(text.free(tree))]
     out, log, reported, breached = [f"rule {nodes[-1][5]}, reach {rule.reach[-1]}"], plain.Log(rule, []), 0, 0
-    for event, line in zip(events, begins):
-        answer, points = plain.take(rule, log, text.event_words(event))
+    for counted, words in events:
+        answer, points = plain.take(rule, log, words) if words else ((9, 0), None)
         if points is None:
             number, place = answer
             met["refused", number] += 1
-            said = WORDS[number].replace("node 5, NODE5", f"node {place}, {nodes[place][5]}")
-            out.append(f"time {event[0]} refused {number}, line {line}: {said}")
+            said = WORDS[number]
+            if number == 10:
+                m = words[1]
+                relation, values = words[2 + place], words[2 + m + 4 * place:6 + m + 4 * place]
+                said = said.replace("5, ROW5", f"{place}, {(names + [f'relation {k}' for k in range(len(names), 99)])[relation]}({', '.join(map(str, values))})")
+            elif "NODE5" in said:
+                said = said.replace("5, NODE5", f"{place}, {nodes[place][5]}")
+            out.append((f"time {words[0]} refused {number}, {counted}: " if words else "refused 9, at the end: ") + said)
             continue
         log = answer
         for i, time, rows in points:
@@ -133,8 +141,7 @@ def try_case(rng, folder, met):
 
     # a text with events, each on a line of its own
     body = "".join(f"@{t}" + "".join(f" {names[r]}({', '.join(map(str, v))})" for r, v in zip(rows, values)) + "\n" for t, rows, values in events)
-    begins = range(len(lines) + 2, len(lines) + 2 + len(events))
-    wanted = "\n".join(wanted_lines(tree, maker.arities, names, events, begins, every, met)) + "\n"
+    wanted = "\n".join(wanted_lines(tree, maker.arities, names, numbered(events, len(lines) + 2), every, met)) + "\n"
     status, out, err = printed(*["--all"] * every, stdin=head + body)
     text.same("a text with events", (status, out), (0, wanted), head + body)
     met["warned", bool(err)] += 1
@@ -142,7 +149,8 @@ def try_case(rng, folder, met):
     # the same as lines of a log, the rule as a text or as a file
     csv, begins = text.lines_of(rng, events, names)
     log.write_text(csv, newline="")
-    wanted = "\n".join(wanted_lines(tree, maker.arities, names, events, begins, every, collections.Counter())) + "\n"
+    counted = [(f"line {n}", text.event_words(e)) for n, e in zip(begins, events)]
+    wanted = "\n".join(wanted_lines(tree, maker.arities, names, counted, every, collections.Counter())) + "\n"
     if rng.random() < 0.5:
         alone.write_text(head)
         got = printed(alone, log, *["--all"] * every)
@@ -150,6 +158,28 @@ def try_case(rng, folder, met):
         alone.write_bytes(text.file_of(tree, maker.arities))
         got = printed("--names", ",".join(names), *["--all"] * every, alone, log)
     text.same("a log of lines", got[:2], (0, wanted), head + csv)
+
+    # an input of the listing program, with rows that don't fit the rule and an end that is no event
+    file, spoilt = text.file_of(tree, maker.arities), [spoil(rng, text.event_words(e)) for e in events]
+    end = rng.choice((b"", b"", struct.pack("<2I", 1, 33), struct.pack("<3I", 2**32 - 1, 1, 0), b"\1\0\0"))
+    log.write_bytes(struct.pack("<I", len(file)) + file + b"".join(struct.pack(f"<{len(w)}I", *w) for w in spoilt) + end)
+    counted = [(f"event {k}", w) for k, w in enumerate(spoilt)] + [("", None)] * bool(end)
+    wanted = "\n".join(wanted_lines(tree, maker.arities, names, counted, every, met)) + "\n"
+    text.same("an input", printed(log, *["--all"] * every, "--names", ",".join(names)), (0, wanted, ""), log.read_bytes())
+
+
+def numbered(events, first):
+    """Events with the lines that begin with that one."""
+    return [(f"line {first + k}", text.event_words(e)) for k, e in enumerate(events)]
+
+
+def spoil(rng, words):
+    """An event's words, one in six times with a relation that no rule of here has or with a value in the fourth column."""
+    m, words = words[1], list(words)
+    if m and rng.random() < 1 / 6:
+        k = rng.randrange(m)
+        words[rng.choice((2 + k, 2 + m + 4 * k + 3))] = 7
+    return words
 
 
 def try_limits(met):
@@ -165,8 +195,7 @@ def try_limits(met):
         head = "\n".join(lines + [text.spaced(words)]) + "\n"
         body = "".join(f"@{t}" + "".join(f" {names[r]}({v[0]})" for r, v in zip(rows, values)) + "\n" for t, rows, values in events)
         own = collections.Counter()
-        begins = range(len(lines) + 2, len(lines) + 2 + len(events))
-        wanted = "\n".join(wanted_lines(tree, arities, names, events, begins, False, own)) + "\n"
+        wanted = "\n".join(wanted_lines(tree, arities, names, numbered(events, len(lines) + 2), False, own)) + "\n"
         text.same("at a limit", printed(stdin=head + body), (0, wanted, ""), head + body)
         text.same("the limit is met", own["refused", refused] > 0, True, (refused, own))
         met.update(own)
@@ -267,7 +296,13 @@ def try_faults(folder):
     log.write_bytes(b"1,leak,7\n2,leak,\xff\n")
     text.same("a log that is no text", printed(rule, log)[:2], (1, ""), "")
     text.same("no log", printed(rule, folder / "none.csv"), (1, "", f"rules: {folder / 'none.csv'}: No such file or directory\n"), "")
-    text.same("events twice", printed(TOP / "examples" / "leak.text", log)[:2], (1, ""), "")
+    log.write_text("1,leak,7\n")
+    leak = TOP / "examples" / "leak.text"
+    text.same("events twice", printed(leak, log), (1, "", f"rules: {leak} has events of its own, and {log} is given too\n"), "")
+    text.same("standard input twice", printed("-", "-", stdin="leak(x)")[:2], (2, ""), "")
+    cut = folder / "cut.in"
+    cut.write_bytes(rules.listing_input(leak.read_text())[:50])
+    text.same("a cut rule", printed(cut), (1, "", f"the rule: refused 1: {WORDS[1]}\n"), "")
     text.same("no such option", printed("--every")[:2], (2, ""), "")
     text.same("names for a text", printed("--names", "a", rule)[:2], (2, ""), "")
     text.same("a warning is no fault", printed(stdin="exists x leak(x) and close(x)\n@1 leak(3) close(4)\n"),
@@ -365,7 +400,7 @@ def main():
         blocks = try_documents(folder)
         try_gate(folder)
     print("; ".join(f"{a} {b}: {n}" for (a, b), n in sorted(met.items(), key=str)))
-    often = [("a point", "with rows"), ("a point", "without"), ("refused", 11), ("columns", 0), ("columns", 1), ("columns", 2), ("refused", 4)]
+    often = [("a point", "with rows"), ("a point", "without"), ("refused", 11), ("columns", 0), ("columns", 1), ("columns", 2), ("refused", 4), ("refused", 9), ("refused", 10)]
     rare = [key for key in often if count >= 250 and met[key] < LEAST] + [("refused", n) for n in (1, 2, 3, 4, 5, 6, 7, 13, 14, 15) if not met["refused", n]]
     print(f"{count} rules over logs, {blocks} reports of RULES.md, {text.failures} differ", *(f"rare: {k}" for k in rare))
     sys.exit(text.failures > 0 or bool(rare))

@@ -2,8 +2,9 @@
 
 The log is first read whole, so that a fault in it is told before anything is printed, and written to a file that the listing
 program reads. After each event the file has a mark: an event of one row with a relation that the rule doesn't have, and the
-line of the log in place of the time. It is refused with 10, which leaves the state as it was, and no event of a log meets 10.
-So it is known which event a line of the listing belongs to. Neither the log nor the breaches are held in memory.
+line of the log in place of the time. It is refused with 10, which leaves the state as it was; an event that meets 10 itself is
+known by its rows. So it is known which event a line of the listing belongs to. Neither a log of lines nor the breaches are held
+in memory.
 """
 import csv
 import itertools
@@ -137,12 +138,16 @@ def packed(words):
     return struct.pack(f"<{len(words)}I", *words)
 
 
-def write_input(out, rule_file, relation_count, events):
-    """Writes the rule, and each event with its mark; gives the least and the greatest time."""
+def write_input(out, head, relation_count, events):
+    """Writes the rule with its length, and each event with its mark; bytes that are no event stand last. Gives the least and the
+    greatest time."""
     least, most, progress = None, None, Progress("read")
     try:
-        out.write(packed([len(rule_file)]) + rule_file)
+        out.write(head)
         for line, words in events:
+            if isinstance(words, bytes):
+                out.write(words)
+                continue
             out.write(packed(words) + packed([line, 1, relation_count, 0, 0, 0, 0]))
             least = words[0] if least is None else min(least, words[0])
             most = words[0] if most is None else max(most, words[0])
@@ -153,14 +158,17 @@ def write_input(out, rule_file, relation_count, events):
     return least, most
 
 
-def read_marked(file, rule_length):
-    """Time, line and rows of each event of what write_input wrote."""
-    file.seek(4 + rule_length)
+def read_marked(file, start):
+    """Time, line and rows of each event of what write_input wrote from there on; None, None and no rows for what is no event."""
+    file.seek(start)
     while head := file.read(8):
-        time, m = struct.unpack("<2I", head)
-        words = struct.unpack(f"<{5 * m}I", file.read(20 * m))
-        line = struct.unpack("<7I", file.read(28))[0]
-        yield time, line, [(words[k], words[m + 4 * k:m + 4 * k + 4]) for k in range(m)]
+        time, m = struct.unpack("<2I", head) if len(head) == 8 else (0, MOST_ROWS + 1)
+        body = file.read(20 * m + 28) if m <= MOST_ROWS else b""
+        if len(body) < 20 * m + 28:
+            yield None, None, []
+            return
+        words = struct.unpack(f"<{5 * m + 7}I", body)
+        yield time, words[5 * m], [(words[k], words[m + 4 * k:m + 4 * k + 4]) for k in range(m)]
 
 
 def listed(program, input_name):
@@ -182,20 +190,26 @@ def listed(program, input_name):
             child.wait()
 
 
-def answers(lines, events):
+def answers(lines, events, fits):
     """What the listing says after the rule's line: ("point", point, time, rows), ("refused", number, place, time, line, rows of the
     event), and last ("open", open, kept). Marks are taken out, and tell which event is due."""
-    progress, now = Progress("run"), next(events, None)
+    def due():
+        """The next event, and whether it meets itself what a mark meets."""
+        event = next(events, (None, None, []))
+        return event, not all(fits(*row) for row in event[2])
+
+    progress, (now, misfit) = Progress("run"), due()
     try:
         for line in lines:
             words = line.split()
             if words[:1] == ["point"]:
                 rows = [tuple(map(int, row.split())) for row in itertools.islice(lines, int(words[5]))]
                 yield "point", int(words[1]), int(words[3]), rows
-            elif words[:2] == ["refused", str(MARKED)]:
-                now = next(events, None)
+            elif words[:2] == ["refused", str(MARKED)] and not misfit:
+                now, misfit = due()
                 progress.step()
-            elif words[:1] == ["refused"] and now:
+            elif words[:1] == ["refused"]:
+                misfit = False
                 yield ("refused", int(words[1]), int(words[3]), *now)
             elif words[:1] == ["open"]:
                 yield "open", int(words[1]), int(words[3])
@@ -219,7 +233,7 @@ def report(rule, lines, events, every, picture):
         raise Fault(f"rules: the listing program printed `{' '.join(first)}`")
     yield f"rule {rule.line}, reach {first[3]}"
     ended = False
-    for kind, *more in answers(lines, events):
+    for kind, *more in answers(lines, events, rule.fits):
         if kind == "point":
             point, time, rows = more
             reported, breached = reported + 1, breached + bool(rows)
@@ -230,7 +244,8 @@ def report(rule, lines, events, every, picture):
                 yield f"time {time} point {point}: no breach"
         elif kind == "refused":
             number, place, time, line, rows = more
-            yield f"time {time} refused {number}, line {line}: {reason(number, place, rule.node, lambda k: rule.row(*rows[k]))}"
+            said = reason(number, place, rule.node, lambda k: rule.row(*rows[k]))
+            yield f"time {time} refused {number}, {rule.counted} {line}: {said}" if line is not None else f"refused {number}, at the end: {said}"
         else:
             ended = True
             yield f"reported {reported}, breached {breached}, open {more[0]}, kept {more[1]}"
@@ -302,15 +317,16 @@ def svg_text(x, y, text, anchor="start"):
 
 # ---- a run
 
-def run(rule, rule_file, events, options, out):
-    """Runs a rule over events, each with its line, and prints what comes. The rule has its text in a line, the names of a report's
-    columns, and the texts of a node and of a row; the options are every, picture, svg and listing."""
+def run(rule, head, events, options, out):
+    """Runs a rule over events, each with its line, and prints what comes. The head is the rule's length and file. The rule tells its
+    text in a line, the names of a report's columns, the texts of a node and of a row, and whether a row fits it; the options are
+    every, picture, svg and listing."""
     with tempfile.NamedTemporaryFile(prefix="rules-") as held:
-        least, most = write_input(held, rule_file, rule.relation_count, events)
+        least, most = write_input(held, head, rule.relation_count, events)
         picture = Picture(rule.columns, least, most)
         lines = listed(options.listing, held.name)
         try:
-            for line in report(rule, lines, read_marked(held, len(rule_file)), options.every, picture):
+            for line in report(rule, lines, read_marked(held, len(head)), options.every, picture):
                 print(line, file=out)
         finally:
             lines.close()
