@@ -2,7 +2,7 @@
 """Runs `tools/rules run` with the listing program, and compares what is printed with plain.py and with the documents.
 
     rt check listing
-    desk.py [CASES [SEED]]   default: 250 cases, seed 1
+    desk.py [CASES [SEED]]   default: 200 cases, seed 1
 
 Each case is a generated rule with a log, run from a text with events, from a rule and a log of lines, and as an input of the
 listing program with some rows that don't fit and an end that is no event, with --all and without, beside the lines that are made here from plain.py's answers. Then the limits that refuse an event, damaged rule files,
@@ -294,15 +294,18 @@ def try_faults(folder):
     text.same("a late fault of a text", program(stdin="leak(x)\n@1 leak(7)\n@2 leek(7)\n"),
               (1, "", "text:3:4: `leek` is not a relation of the rule\n@2 leek(7)\n   ^\n"), "")
     log.write_bytes(b"1,leak,7\n2,leak,\xff\n")
-    text.same("a log that is no text", printed(rule, log)[:2], (1, ""), "")
+    text.same("a log that is no text", printed(rule, log), (1, "", f"{log}: not a text in UTF-8\n"), "")
+    log.write_bytes(b"\xef\xbb\xbf1,leak,7\n")
+    text.same("a log with a mark of UTF-8", printed(rule, log)[1].splitlines()[1], "time 1 point 0: x = 7", "")
     text.same("no log", printed(rule, folder / "none.csv"), (1, "", f"rules: {folder / 'none.csv'}: No such file or directory\n"), "")
     log.write_text("1,leak,7\n")
     leak = TOP / "examples" / "leak.text"
     text.same("events twice", printed(leak, log), (1, "", f"rules: {leak} has events of its own, and {log} is given too\n"), "")
     text.same("standard input twice", printed("-", "-", stdin="leak(x)")[:2], (2, ""), "")
-    cut = folder / "cut.in"
-    cut.write_bytes(rules.listing_input(leak.read_text())[:50])
-    text.same("a cut rule", printed(cut), (1, "", f"the rule: refused 1: {WORDS[1]}\n"), "")
+    cut, small = folder / "cut.in", rules.rule_file("leak(x)")
+    for data in (rules.listing_input(leak.read_text())[:50], struct.pack("<I", 52) + small):
+        cut.write_bytes(data)
+        text.same("a cut rule", printed(cut), (1, "", f"the rule: refused 1: {WORDS[1]}\n"), data)
     text.same("no such option", printed("--every")[:2], (2, ""), "")
     text.same("names for a text", printed("--names", "a", rule)[:2], (2, ""), "")
     text.same("a warning is no fault", printed(stdin="exists x leak(x) and close(x)\n@1 leak(3) close(4)\n"),
@@ -383,7 +386,7 @@ def is_running(pid):
 
 
 def main():
-    count, seed = (int(a) for a in (sys.argv[1:] + ["250", "1"][len(sys.argv) - 1:]))
+    count, seed = (int(a) for a in (sys.argv[1:] + ["200", "1"][len(sys.argv) - 1:]))
     rng, met = random.Random(seed), collections.Counter()
     if not (TOP / "target" / "bin" / "listing").exists():
         sys.exit("desk.py: target/bin/listing isn't there; `rt check listing` builds it")
@@ -401,7 +404,7 @@ def main():
         try_gate(folder)
     print("; ".join(f"{a} {b}: {n}" for (a, b), n in sorted(met.items(), key=str)))
     often = [("a point", "with rows"), ("a point", "without"), ("refused", 11), ("columns", 0), ("columns", 1), ("columns", 2), ("refused", 4), ("refused", 9), ("refused", 10)]
-    rare = [key for key in often if count >= 250 and met[key] < LEAST] + [("refused", n) for n in (1, 2, 3, 4, 5, 6, 7, 13, 14, 15) if not met["refused", n]]
+    rare = [key for key in often if count >= 200 and met[key] < LEAST] + [("refused", n) for n in (1, 2, 3, 4, 5, 6, 7, 13, 14, 15) if not met["refused", n]]
     print(f"{count} rules over logs, {blocks} reports of RULES.md, {text.failures} differ", *(f"rare: {k}" for k in rare))
     sys.exit(text.failures > 0 or bool(rare))
 

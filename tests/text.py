@@ -427,14 +427,17 @@ def try_tree(rng, met):
     same("text to input", outcome(rules.listing_input, shown), data, shown)
     same("input to text", outcome(rules.input_text, data, names), shown, data)
 
-    # the events as lines of a log, and the nodes
-    log, begins = lines_of(rng, events, names)
+    # the events as lines of a log, and for one rule in three the nodes
+    own = random.Random(file)
+    log, begins = lines_of(own, events, names)
     met["events", "of equal times together"] += sum(a[0] == b[0] for a, b in zip(events, events[1:]))
     same("lines to events", outcome(read_log, log, names, maker.arities), list(zip(begins, map(event_words, events))), log)
-    nodes = [["node", "kind", "children", "window", "free", "text"]]
-    nodes_of(tree, names, rows := [])
-    table = outcome(lambda: rules.nodes_text(rules.rule_of(file, names)))
-    same("nodes", [re.split(" {2,}", line) for line in table.splitlines()], nodes + rows, text)
+    if own.random() < 1 / 3:
+        nodes = [["node", "kind", "children", "window", "free", "text"]]
+        nodes_of(tree, names, rows := [])
+        met["nodes", "shown"] += len(rows)
+        table = outcome(lambda: rules.nodes_text(rules.rule_of(file, names)))
+        same("nodes", [re.split(" {2,}", line) for line in table.splitlines()], nodes + rows, text)
     return file
 
 
@@ -496,6 +499,8 @@ def try_commands():
     same("no text", run("write-rule", stdin=b"a(\xff)"), (1, b"", "byte 2 is not of a text in UTF-8\n"), "")
     same("a refused file", run("read-rule", stdin=shipped[:-1]), (1, b"", "the rule: refused 1 place 0\n"), "")
     same("a cut event", run("read-input", stdin=data[:-1]), (1, b"", "event 3 is cut short\n"), "")
+    crowd = struct.pack("<2I", 200, 33) + bytes(20 * 33)
+    same("a row count of 33", run("read-input", stdin=data + crowd), (1, b"", "event 4 has a row count of 33\n"), "")
     same("too few names", run("read-rule", "--names", "leak", stdin=shipped), (1, b"", "the rule has 2 relations, and 1 names are given\n"), "")
     same("no such command", run("print")[0], 2, "")
     same("no such option", run("write-rule", "--all")[0], 2, "")
@@ -556,7 +561,7 @@ def main():
     for key in sorted(met, key=str):
         print(f"{key[0]} {key[1]}: {met[key]}", end="; ")
     wanted = [("kind", k) for k in range(1, 15)] + [("comparison", k) for k in range(4)] + [("arity", k) for k in range(5)] \
-        + [("refusal", k) for k in range(1, 8)] + [("window", "without"), ("order", "another"), ("nodes", "32"), ("events", "of equal times together")]
+        + [("refusal", k) for k in range(1, 8)] + [("window", "without"), ("order", "another"), ("nodes", "32"), ("nodes", "shown"), ("events", "of equal times together")]
     rare = [key for key in wanted if count >= 3000 and met[key] < LEAST]
     print(f"\n{count} rules as text and file, {len(WRONG)} wrong texts, {len(WARNED)} with or without a warning, {len(WRONG_LOGS)} wrong logs, {examples} examples, {failures} differ", *(f"rare: {k}" for k in rare))
     sys.exit(failures > 0 or bool(rare))

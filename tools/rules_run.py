@@ -105,7 +105,7 @@ def csv_events(file, shown, relations):
             if len(rows) > MOST_ROWS:
                 raise Fault(f"{where}: an event has at most {MOST_ROWS} rows; an empty line before it begins another of the same time")
     except UnicodeDecodeError:
-        raise Fault(f"{shown}:{lines.line_num + 1}: not a text in UTF-8")
+        raise Fault(f"{shown}: not a text in UTF-8")
     except csv.Error as e:
         raise Fault(f"{shown}:{lines.line_num}: {e}")
     if begun:
