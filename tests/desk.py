@@ -261,6 +261,9 @@ def try_pictures(folder):
     text.same("no scripts", "script" in first, False, "")
     printed("--svg", file, stdin="a(x) and x < 3 @1 b(2)".replace("b", "a"))
     text.same("signs in a title", next(xml.etree.ElementTree.parse(file).iter(space + "text")).text, "breaches of a(x) and x < 3", "")
+    printed("--svg", file, stdin="a(x)" + " and a(x)" * 14 + " @1 a(2)")
+    title = next(xml.etree.ElementTree.parse(file).iter(space + "text")).text
+    text.same("a long title", title, ("breaches of a(x)" + " and a(x)" * 14)[:(20 + 8 * len("x = 2") + 600 + 40 - 20) // 8 - 3] + "...", title)
     text.same("nothing to draw", printed("--picture", stdin="a(x) and x < 0 @1 a(2)")[1].splitlines()[-1], "no breach to draw", "")
 
 
@@ -273,6 +276,11 @@ def try_progress(folder):
         + "reported 25000, breached 25, open 0, kept 0\n"
     text.same("no progress", program(rule, "-", stdin=log), (0, wanted, ""), "a long log")
     (folder / "long.csv").write_text(log)
+    rule.write_text("leak(x)")
+    with subprocess.Popen([sys.executable, text.TOOL, "run", rule, folder / "long.csv"], stdout=subprocess.PIPE, stderr=subprocess.PIPE) as child:
+        first = child.stdout.readline()
+        child.stdout.close()
+        text.same("a reader that ends early", (first, child.stderr.read(), child.wait()), (b"rule leak(x), reach 0\n", b"", 1), "")
     mine, theirs = pty.openpty()
     with subprocess.Popen([sys.executable, text.TOOL, "run", rule, folder / "long.csv"], stdout=subprocess.DEVNULL, stderr=theirs) as child:
         os.close(theirs)

@@ -291,8 +291,9 @@ class Picture:
         rows, high = self.labelled(), 20
         left = 20 + 8 * max([len(label) for label, _ in rows] + [4])
         wide, base = left + PLACES + 40, 40 + high * max(1, len(rows))
+        head, most = f"breaches of {title}", (wide - 20) // 8
         out = [f'<svg xmlns="http://www.w3.org/2000/svg" width="{wide}" height="{base + 50}" font-family="monospace" font-size="12">',
-               f'<rect width="{wide}" height="{base + 50}" fill="white"/>', svg_text(10, 20, f"breaches of {title}")]
+               f'<rect width="{wide}" height="{base + 50}" fill="white"/>', svg_text(10, 20, head if len(head) <= most else head[:most - 3] + "...")]
         for k, (label, met) in enumerate(rows):
             top = 35 + high * k
             out.append(svg_text(10, top + 14, label))
