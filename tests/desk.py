@@ -5,11 +5,11 @@
     desk.py [CASES [SEED]]   default: 200 cases, seed 1
 
 Each case is a generated rule with a log, run from a text with events, from a rule and a log of lines, and as an input of the
-listing program with some rows that don't fit and an end that is no event, with --all and without, beside the lines that are made here from plain.py's answers. Then the limits that refuse an event, damaged rule files,
-pictures, progress, faults after which nothing may be printed, listing programs that fail, the words of all refusals, and every
-rule, log and report of docs/RULES.md and every `tools/rules run` of README.md; last, with programs that only seem to be those
-that tools/test calls, that it names a missing one and ends what it began. Exits with 1 on any difference, or where something
-was met too rarely.
+listing program with some rows that don't fit and an end that is no event, with --all and without, beside the lines that are
+made here from plain.py's answers. Then the limits that refuse an event, damaged rule files, pictures, progress, faults after
+which nothing may be printed, listing programs that fail, the words of all refusals, and every rule, log and report of
+docs/RULES.md and every `tools/rules run` of README.md; last, with programs that only seem to be those that tools/test calls,
+that it names a missing one and ends what it began. Exits with 1 on any difference, or where something was met too rarely.
 """
 import collections
 import contextlib
@@ -97,7 +97,8 @@ def wanted_lines(tree, arities, names, events, every, met):
             if number == 10:
                 m = words[1]
                 relation, values = words[2 + place], words[2 + m + 4 * place:6 + m + 4 * place]
-                said = said.replace("5, ROW5", f"{place}, {(names + [f'relation {k}' for k in range(len(names), 99)])[relation]}({', '.join(map(str, values))})")
+                name = names[relation] if relation < len(names) else f"relation {relation}"
+                said = said.replace("5, ROW5", f"{place}, {name}({', '.join(map(str, values))})")
             elif "NODE5" in said:
                 said = said.replace("5, NODE5", f"{place}, {nodes[place][5]}")
             out.append((f"time {words[0]} refused {number}, {counted}: " if words else "refused 9, at the end: ") + said)
@@ -217,8 +218,8 @@ def try_damaged(rng, folder, met, count=400):
         said = f"the rule: refused {checked[0]}: " + WORDS[checked[0]].replace("node 5, NODE5", f"node {checked[1]}, ")
         text.same("a refused rule", (status, out, err[:len(said)]), (1, "", said), data)
     whole = bytearray((TOP / "examples" / "leak.rule").read_bytes())
-    for at, byte, said in ((20, 99, "kind 99, left 1, right 0, mask 0, words 0, 61, 0, 0"), (64, 0, "eventually [0, *) r1(x)"), (44, 1, "r0(x) and not eventually [0, 61) r1(y)"),
-                           (21, 0, "r0(x)")):
+    for at, byte, said in ((20, 99, "kind 99, left 1, right 0, mask 0, words 0, 61, 0, 0"), (64, 0, "eventually [0, *) r1(x)"),
+                           (44, 1, "r0(x) and not eventually [0, 61) r1(y)"), (21, 0, "r0(x)")):
         data = whole[:]
         data[at] = byte
         met["refused", plain.check(bytes(data))[0]] += 1

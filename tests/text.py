@@ -563,7 +563,8 @@ def main():
     wanted = [("kind", k) for k in range(1, 15)] + [("comparison", k) for k in range(4)] + [("arity", k) for k in range(5)] \
         + [("refusal", k) for k in range(1, 8)] + [("window", "without"), ("order", "another"), ("nodes", "32"), ("nodes", "shown"), ("events", "of equal times together")]
     rare = [key for key in wanted if count >= 3000 and met[key] < LEAST]
-    print(f"\n{count} rules as text and file, {len(WRONG)} wrong texts, {len(WARNED)} with or without a warning, {len(WRONG_LOGS)} wrong logs, {examples} examples, {failures} differ", *(f"rare: {k}" for k in rare))
+    print(f"\n{count} rules as text and file, {len(WRONG)} wrong texts, "
+          f"{len(WARNED)} with or without a warning, {len(WRONG_LOGS)} wrong logs, {examples} examples, {failures} differ", *(f"rare: {k}" for k in rare))
     sys.exit(failures > 0 or bool(rare))
 
 
