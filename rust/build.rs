@@ -7,18 +7,18 @@ const FOLDER: &str = "YOKEMANGO_LIB";
 fn main() {
     println!("cargo:rerun-if-env-changed={FOLDER}");
     let Ok(folder) = std::env::var(FOLDER) else {
-        fail(&format!("{FOLDER} isn't set; it names the folder that has libboundary.a, which `rt staticlib boundary` writes to target/staticlib"));
+        fail(&format!("{FOLDER} isn't set; it names the folder that has libyokemango.a, which `rt staticlib yokemango` writes to target/staticlib"));
     };
-    let library = Path::new(&folder).join("libboundary.a");
+    let library = Path::new(&folder).join("libyokemango.a");
     if !library.is_absolute() {
         fail(&format!("{FOLDER} is {folder}, which isn't a whole path"));
     }
     if !library.is_file() {
-        fail(&format!("{FOLDER} is {folder}, and there is no libboundary.a in it"));
+        fail(&format!("{FOLDER} is {folder}, and there is no libyokemango.a in it"));
     }
     println!("cargo:rerun-if-changed={}", library.display());
     println!("cargo:rustc-link-search=native={folder}");
-    println!("cargo:rustc-link-lib=static=boundary");
+    println!("cargo:rustc-link-lib=static=yokemango");
 }
 
 fn fail(what: &str) -> ! {

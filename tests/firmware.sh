@@ -1,18 +1,18 @@
 #!/bin/sh
 # What firmware uses, with the static library: the header from C and C++, the Rust crate, the example in both, and the
-# crate's random lists once more under valgrind. YOKEMANGO_LIB may name another folder that has libboundary.a.
+# crate's random lists once more under valgrind. YOKEMANGO_LIB may name another folder that has libyokemango.a.
 set -eu
 cd "$(dirname "$0")/.."
 export YOKEMANGO_LIB="${YOKEMANGO_LIB:-$PWD/target/staticlib}" CARGO_TARGET_DIR="$PWD/target/cargo"
 
 for standard in c99 c17; do
     cc -std=$standard -Wall -Wextra -pedantic -Werror -g -fsanitize=address,undefined -fno-sanitize-recover=all -Iinclude \
-        -o target/header tests/header.c -L"$YOKEMANGO_LIB" -lboundary
+        -o target/header tests/header.c -L"$YOKEMANGO_LIB" -lyokemango
     target/header examples/leak.rule
 done
 c++ -x c++ -std=c++11 -Wall -Wextra -pedantic -Werror -fsyntax-only include/yokemango.h
 
-cc -std=c99 -Wall -Wextra -pedantic -Werror -O2 -Iinclude -o target/leak examples/leak.c -L"$YOKEMANGO_LIB" -lboundary
+cc -std=c99 -Wall -Wextra -pedantic -Werror -O2 -Iinclude -o target/leak examples/leak.c -L"$YOKEMANGO_LIB" -lyokemango
 target/leak examples/leak.rule | diff - examples/leak.out
 cd rust
 cargo run --offline --quiet --example leak | diff - ../examples/leak.out

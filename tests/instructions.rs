@@ -1,7 +1,7 @@
 // Instructions of an event, clearing included, over the first 3,000 events of six rules: those that callgrind counts within
 // `yokemango_take`. It needs valgrind.
 //
-//   rt staticlib boundary
+//   rt staticlib yokemango
 //   rustc -O --edition 2021 -L target/staticlib -o target/instructions tests/instructions.rs
 //   target/instructions                              all six
 //   callgrind_annotate target/instructions.0         which functions they are in, for the first rule

@@ -1,4 +1,4 @@
-// The operations that crates/boundary exports, as a program in Rust calls them. A slice is passed as its address and then
+// The operations that crates/yokemango exports, as a program in Rust calls them. A slice is passed as its address and then
 // its length; for a taking, a state's fields are passed so. None of them asks anything of its words, so any may be passed.
 #![allow(dead_code)]
 
@@ -69,7 +69,7 @@ pub struct Open {
     pub points: u32,
 }
 
-#[link(name = "boundary", kind = "static")]
+#[link(name = "yokemango", kind = "static")]
 extern "C" {
     fn yokemango_check_number(rule: *const u8, len: usize) -> u32;
     fn yokemango_check_place(rule: *const u8, len: usize) -> u32;

@@ -1,14 +1,14 @@
 // Compares "Read rows", compiled from the proved crates, with an evaluator of document 01 that is written here from its text:
 // good reports, damaged ones, and words of any kind. Prints what was tried and exits with 1 on any difference.
 //
-//     rt staticlib boundary
+//     rt staticlib yokemango
 //     rustc -O -L target/staticlib -o target/reports tests/reports.rs
 //     target/reports          the comparison
 //     target/reports --time   the time to read one entry of the longest report, beside a plain pass over its words
 use std::hint::black_box;
 use std::time::Instant;
 
-#[link(name = "boundary", kind = "static")]
+#[link(name = "yokemango", kind = "static")]
 extern "C" {
     fn yokemango_row_count(report: *const u32, len: usize, k: usize) -> u64;
     fn yokemango_rows_start(report: *const u32, len: usize, k: usize) -> usize;

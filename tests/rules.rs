@@ -2,7 +2,7 @@
 // "Check a rule", and compares number, place, reach and free variables. Accepted rules are made, damaged, cut and
 // lengthened, and random bytes are tried. It fails on any difference, and where a number or a kind was met too rarely.
 //
-//   rt staticlib boundary
+//   rt staticlib yokemango
 //   rustc -O -L target/staticlib -o target/rules tests/rules.rs
 //   target/rules            compare
 //   target/rules --time     time one check of a rule of 32 nodes
@@ -10,7 +10,7 @@ use std::collections::BTreeSet;
 use std::process::exit;
 use std::time::Instant;
 
-#[link(name = "boundary", kind = "static")]
+#[link(name = "yokemango", kind = "static")]
 extern "C" {
     fn yokemango_check_number(rule: *const u8, len: usize) -> u32;
     fn yokemango_check_place(rule: *const u8, len: usize) -> u32;

@@ -3,7 +3,7 @@
 // with a reckoning for this one rule, which keeps only the readings of thirty minutes and the open points; so are the kept and
 // open figures, now and then. One event in 1,000 is refused by 11. After the last point the next event must be refused by 12.
 //
-//   rt staticlib boundary
+//   rt staticlib yokemango
 //   rustc -O --edition 2021 -L target/staticlib -o target/soak tests/soak.rs
 //   target/soak [POINTS]
 mod input;

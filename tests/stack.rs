@@ -1,7 +1,7 @@
 // The stack of one call, by painting the stack below it: a usual event, bursts, and the trees that keep most sets alive at once.
 // It fails above the figures of README.md.
 //
-//   rt staticlib boundary
+//   rt staticlib yokemango
 //   rustc -O --edition 2021 -L target/staticlib -o target/stack tests/stack.rs
 //   target/stack
 mod input;

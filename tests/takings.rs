@@ -3,7 +3,7 @@
 // state after each refusal. At the end of some lists the log goes on by points that needn't be acceptable, and every reported
 // point is worked out again on the log as it then is. It fails on the first difference, and where something was met too rarely.
 //
-//   rt staticlib boundary
+//   rt staticlib yokemango
 //   rustc -O --edition 2021 -L target/staticlib -o target/takings tests/takings.rs
 //   target/takings [LISTS [SEED]]     5,000 lists from seed 1
 //

@@ -36,7 +36,7 @@
 //!
 //! It needs no heap and no operating system. A state is 13,216 bytes; the longest report is 4,326 words.
 //!
-//! To build it, the environment variable `YOKEMANGO_LIB` names the folder that has libboundary.a, the monitor's static
+//! To build it, the environment variable `YOKEMANGO_LIB` names the folder that has libyokemango.a, the monitor's static
 //! library.
 #![no_std]
 #![deny(missing_docs)]

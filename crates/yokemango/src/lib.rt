@@ -1,0 +1,256 @@
+// The operations for programs in other languages. A slice is passed as its address and then its length.
+use figures::Open;
+use lent_state::Answer;
+use limits::Refusal;
+use monitor::State;
+use refusals::of_event;
+use refusals::of_rule;
+use report::RowCount;
+use rulefile::Checked;
+use rulefile::check;
+ghost use mathlib.Core.Path.{_≡_};
+ghost use Rattle.meaning.specs.RuleFile.{checking};
+ghost use Rattle.rulefile.specs.Checked.{answerOf};
+ghost use Rattle.yokemango.specs.Parts.{partsOf};
+ghost use lib.ListN.{length};
+ghost use Rattle.meaning.specs.Report.{readCount, readRows};
+ghost use Rattle.report.specs.Answer.{partOf};
+ghost use Rattle.method.specs.Step.{keptStored};
+ghost use Rattle.limits.specs.Weighs.{refusalOf};
+ghost use Rattle.figures.specs.Fronts.{openAnswer};
+ghost use Rattle.monitor.specs.State.{stored};
+ghost use Rattle.lent_state.specs.Lent.{lent, answerOf as answered};
+ghost use Rattle.yokemango.specs.Exported.{countOrNone, wordOrNone};
+ghost use Rattle.yokemango.specs.Numbers.{startParts, toldOf, openParts, TakesAs};
+
+pub struct Parts {
+    pub number: u32,
+    pub place: u32,
+    pub reach: u32,
+    pub free: u32,
+}
+
+fn parts_of(c: Checked) -> Parts
+    ensures { λ r. ⌜ r ≡ partsOf (answerOf c) ⌝ }
+{
+    match c {
+        Checked::Accepted(reach, mask) => Parts {
+            number: 0,
+            place: 0,
+            reach,
+            free: mask as u32,
+        },
+        _ => {
+            let told = of_rule(c);
+            Parts {
+                number: told.0,
+                place: told.1,
+                reach: 0,
+                free: 0,
+            }
+        }
+    }
+}
+
+// The refusal's number, or 0 where the rule is accepted.
+#[no_mangle]
+pub extern "C" fn yokemango_check_number(rule: &[u8]) -> u32
+    ensures { λ r. ⌜ r ≡ partsOf (checking (now (rule .entry))) .number ⌝ }
+{
+    parts_of(check(rule)).number
+}
+
+// The refusal's place.
+#[no_mangle]
+pub extern "C" fn yokemango_check_place(rule: &[u8]) -> u32
+    ensures { λ r. ⌜ r ≡ partsOf (checking (now (rule .entry))) .place ⌝ }
+{
+    parts_of(check(rule)).place
+}
+
+// An accepted rule's reach.
+#[no_mangle]
+pub extern "C" fn yokemango_check_reach(rule: &[u8]) -> u32
+    ensures { λ r. ⌜ r ≡ partsOf (checking (now (rule .entry))) .reach ⌝ }
+{
+    parts_of(check(rule)).reach
+}
+
+// An accepted rule's free variables, bit k for variable k.
+#[no_mangle]
+pub extern "C" fn yokemango_check_free(rule: &[u8]) -> u32
+    ensures { λ r. ⌜ r ≡ partsOf (checking (now (rule .entry))) .free ⌝ }
+{
+    parts_of(check(rule)).free
+}
+
+// The row count of entry `k`, or 4,294,967,296 for refusal 17.
+#[no_mangle]
+pub extern "C" fn yokemango_row_count(report: &[u32], k: usize) -> u64
+    ensures { λ r. ⌜ r ≡ countOrNone (readCount (now (report .entry)) k) ⌝ }
+{
+    match report::row_count(report, k) {
+        RowCount::Rows(n) => n as u64,
+        RowCount::Refused => 4294967296,
+    }
+}
+
+// Where in the report the rows of entry `k` begin; 0 for refusal 17.
+#[no_mangle]
+pub extern "C" fn yokemango_rows_start(report: &[u32], k: usize) -> usize
+    ensures { λ r. ⌜ r ≡ partOf (now (report .entry)) k .start ⌝ }
+{
+    let part = report::part_of(report, k);
+    part.start
+}
+
+// How many words the rows of entry `k` are; 0 for refusal 17.
+#[no_mangle]
+pub extern "C" fn yokemango_rows_len(report: &[u32], k: usize) -> usize
+    ensures { λ r. ⌜ r ≡ length (readRows (now (report .entry)) k) ⌝ }
+{
+    let rows = report::rows(report, k);
+    rows.len()
+}
+
+// Word `i` of the rows that are handed back for entry `k`, or 4,294,967,296 past their end.
+#[no_mangle]
+pub extern "C" fn yokemango_rows_word(report: &[u32], k: usize, i: usize) -> u64
+    ensures { λ r. ⌜ r ≡ wordOrNone (readRows (now (report .entry)) k) i ⌝ }
+{
+    let rows = report::rows(report, k);
+    if i < rows.len() {
+        rows[i] as u64
+    } else {
+        4294967296
+    }
+}
+
+// What starting gives: 0, or the refusal's number and place; the reach and free variables; and the state, zeros where the rule is refused.
+#[repr(C)]
+pub struct StartParts {
+    pub number: u32,
+    pub place: u32,
+    pub reach: u32,
+    pub free: u32,
+    pub state: State,
+}
+
+// 0 and the figure `open`, or 8.
+#[repr(C)]
+pub struct OpenParts {
+    pub number: u32,
+    pub points: u32,
+}
+
+// The answer of a taking in numbers: 0 and the words written, or the refusal's number and place.
+#[repr(C)]
+pub struct Told {
+    pub number: u32,
+    pub place: u32,
+    pub words: u32,
+}
+
+fn told_refusal(r: Refusal) -> Told
+    ensures { λ t. ⌜ t ≡ toldOf (refusalOf r) ⌝ }
+{
+    let told = of_event(r);
+    Told {
+        number: told.0,
+        place: told.1,
+        words: 0,
+    }
+}
+
+fn told_answer(a: Answer) -> Told
+    ensures { λ t. ⌜ t ≡ toldOf (answered a) ⌝ }
+{
+    match a {
+        Answer::Written(words) => Told {
+            number: 0,
+            place: 0,
+            words,
+        },
+        Answer::Refused(r) => told_refusal(r),
+    }
+}
+
+// Starts a state: any bytes.
+#[no_mangle]
+pub extern "C" fn yokemango_start(rule: &[u8]) -> StartParts
+    ensures { λ r. ⌜ r ≡ startParts (now (rule .entry)) ⌝ }
+{
+    let started = monitor::start(rule);
+    let checked = started.checked;
+    let state = started.state;
+    let parts = parts_of(checked);
+    StartParts {
+        number: parts.number,
+        place: parts.place,
+        reach: parts.reach,
+        free: parts.free,
+        state,
+    }
+}
+
+// Takes an event, in place: the parts of any state, any event words, any report buffer. Where a length isn't a state's the answer is 8.
+#[no_mangle]
+pub extern "C" fn yokemango_take(
+    rule: &[u8],
+    bytes: u32,
+    points: &mut u32,
+    times: &mut [u32],
+    retained: &mut u32,
+    owners: &mut [u32],
+    numbers: &mut [u32],
+    values: &mut [u32],
+    count: &mut u32,
+    event: &[u32],
+    report: &mut [u32],
+) -> Told
+    ensures { λ r. ⌜ TakesAs (lent (now (rule .entry)) bytes (now (points .entry)) (now (times .entry)) (now (retained .entry)) (now (owners .entry)) (now (numbers .entry)) (now (values .entry)) (now (count .entry))) (now (event .entry)) (now (report .entry)) r (lent (now (rule .entry)) bytes (now (points .exit)) (now (times .exit)) (now (retained .exit)) (now (owners .exit)) (now (numbers .exit)) (now (values .exit)) (now (count .exit))) (now (report .exit)) ⌝ }
+{
+    let left = lent_state::take(
+        rule,
+        bytes,
+        *points,
+        times,
+        *retained,
+        owners,
+        numbers,
+        values,
+        *count,
+        event,
+        report,
+    );
+    *points = left.points;
+    *retained = left.retained;
+    *count = left.count;
+    let answer = left.answer;
+    told_answer(answer)
+}
+
+// How many entries a state keeps.
+#[no_mangle]
+pub extern "C" fn yokemango_kept(state: State) -> u32
+    ensures { λ r. ⌜ r ≡ keptStored (stored state) ⌝ }
+{
+    monitor::kept(state)
+}
+
+// The figure `open` of a state.
+#[no_mangle]
+pub extern "C" fn yokemango_open_points(state: State) -> OpenParts
+    ensures { λ r. ⌜ r ≡ openParts (openAnswer (stored state)) ⌝ }
+{
+    match monitor::open_points(state) {
+        Open::Points(n) => OpenParts {
+            number: 0,
+            points: n,
+        },
+        Open::NotWellFormed => OpenParts {
+            number: 8,
+            points: 0,
+        },
+    }
+}
