@@ -28,18 +28,18 @@ static const struct {
 };
 
 static struct yokemango_state state;
-static uint32_t report[YOKEMANGO_REPORT_WORDS];
+static uint32_t report[YOKEMANGO_MAX_REPORT_WORDS];
 
 static int refused(uint32_t number, uint32_t place)
 {
-    printf("refused %" PRIu32 " place %" PRIu32 "\n", number, place);
+    printf("refused %" PRIu32 " place %" PRIu32 ": %s\n", number, place, yokemango_refusal_words(number));
     return 1;
 }
 
-static void print_report(void)
+static void print_report(size_t words)
 {
     struct yokemango_point point;
-    for (size_t k = 0; yokemango_point_at(report, YOKEMANGO_REPORT_WORDS, k, &point) == 0; k++) {
+    for (size_t k = 0; yokemango_point_at(report, words, k, &point) == 0; k++) {
         printf("point %" PRIu32 " time %" PRIu32 " rows %" PRIu32 "\n", point.number, point.time, point.rows);
         for (uint32_t row = 0; row < point.rows; row++) {
             for (uint32_t column = 0; column < point.columns; column++)
@@ -51,8 +51,7 @@ static void print_report(void)
 
 int main(int argc, char **argv)
 {
-    uint8_t rule[YOKEMANGO_RULE_BYTES];
-    uint32_t place;
+    uint8_t rule[YOKEMANGO_MAX_RULE_BYTES];
     FILE *file = argc == 2 ? fopen(argv[1], "rb") : NULL;
     if (file == NULL) {
         fprintf(stderr, "usage: leak RULE\n");
@@ -61,17 +60,18 @@ int main(int argc, char **argv)
     const size_t length = fread(rule, 1, sizeof rule, file);
     fclose(file);
 
-    uint32_t number = yokemango_start_in(&state, rule, length, &place);
-    if (number != 0)
-        return refused(number, place);
-    printf("rule ok reach %" PRIu32 "\n", yokemango_check_reach(rule, length));
+    const struct yokemango_checked started = yokemango_start_in(&state, rule, length);
+    if (started.number != 0)
+        return refused(started.number, started.place);
+    printf("rule ok reach %" PRIu32 "\n", started.reach);
 
     for (size_t k = 0; k < LENGTH(events); k++) {
-        number = yokemango_take_in(&state, events[k].words, events[k].length, report, YOKEMANGO_REPORT_WORDS, &place);
-        if (number != 0)
-            return refused(number, place);
-        print_report();
+        const struct yokemango_taken taken = yokemango_take_in(&state, events[k].words, events[k].length, report, YOKEMANGO_MAX_REPORT_WORDS);
+        if (taken.number != 0)
+            return refused(taken.number, taken.place);
+        print_report(taken.words);
     }
-    printf("open %" PRIu32 " kept %" PRIu32 "\n", yokemango_open_points(state).points, yokemango_kept(state));
+    const struct yokemango_figures figures = yokemango_figures_in(&state);
+    printf("open %" PRIu32 " kept %" PRIu32 "\n", figures.open_points, figures.kept);
     return 0;
 }

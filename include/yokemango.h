@@ -18,42 +18,73 @@
 extern "C" {
 #endif
 
+#define YOKEMANGO_VERSION "1.0.0-pre"
+#define YOKEMANGO_VERSION_MAJOR 1
+#define YOKEMANGO_VERSION_MINOR 0
+#define YOKEMANGO_VERSION_PATCH 0
+
 /* ---- limits */
 
-#define YOKEMANGO_RULE_BYTES 652u          /* the longest rule file: 12 + 20 * 32 */
-#define YOKEMANGO_NODES 32u                /* nodes of a rule */
-#define YOKEMANGO_RELATIONS 8u             /* relations of a rule */
-#define YOKEMANGO_COLUMNS 4u               /* columns of a relation; also variables of a rule */
-#define YOKEMANGO_ROWS 32u                 /* rows of an event, and valuations of a node at a point */
-#define YOKEMANGO_OPEN 32u                 /* points accepted and not yet reported */
-#define YOKEMANGO_KEPT 512u                /* kept entries */
-#define YOKEMANGO_POINTS 10000000u         /* points from a start on */
-#define YOKEMANGO_LONGEST_WINDOW 604800u   /* seconds */
-#define YOKEMANGO_EVENT_WORDS 162u         /* the longest event: 2 + 5 * 32 */
-#define YOKEMANGO_REPORT_WORDS 4326u       /* the longest report; a buffer of this length never meets 16 */
-#define YOKEMANGO_RETAINED 65u             /* places for retained times; at most 64 are used */
+#define YOKEMANGO_MAX_RULE_BYTES 652u      /* the longest rule file: 12 + 20 * 32 */
+#define YOKEMANGO_MAX_NODES 32u            /* nodes of a rule */
+#define YOKEMANGO_MAX_RELATIONS 8u         /* relations of a rule */
+#define YOKEMANGO_MAX_COLUMNS 4u           /* columns of a relation; also variables of a rule */
+#define YOKEMANGO_MAX_ROWS 32u             /* rows of an event, and valuations of a node at a point */
+#define YOKEMANGO_MAX_OPEN_POINTS 32u      /* points accepted and not yet reported */
+#define YOKEMANGO_MAX_KEPT 512u            /* kept entries */
+#define YOKEMANGO_MAX_POINTS 10000000u     /* points from a start on */
+#define YOKEMANGO_MAX_WINDOW 604800u       /* seconds */
+#define YOKEMANGO_MAX_EVENT_WORDS 162u     /* the longest event: 2 + 5 * 32 */
+#define YOKEMANGO_MAX_REPORT_WORDS 4326u   /* the longest report; a buffer of this length never meets 16 */
+#define YOKEMANGO_TIME_WORDS 65u           /* places for retained times; at most 64 are used */
 
 /* ---- refusals; 0 is none */
 
 enum yokemango_refusal {
-    YOKEMANGO_LENGTH = 1,          /* a rule under 12 bytes, or its length not 12 + 20 * nodes */
-    YOKEMANGO_VERSION = 2,         /* a version other than 1 */
-    YOKEMANGO_SIZES = 3,           /* a size, an arity or the zero byte out of range */
-    YOKEMANGO_NODE = 4,            /* an unknown kind, child, relation, variable or comparison, or an unnamed field not 0; place: the node */
-    YOKEMANGO_WINDOW = 5,          /* a window out of range; place: the node */
-    YOKEMANGO_FREE = 6,            /* a condition on free variables broken; place: the node */
-    YOKEMANGO_PARENT = 7,          /* a node that isn't a child exactly once; place: the node */
-    YOKEMANGO_STATE = 8,           /* a state that isn't well formed */
-    YOKEMANGO_EVENT = 9,           /* an event under 2 words, of more than 32 rows, or of a wrong length */
-    YOKEMANGO_ROW = 10,            /* an unknown relation, or an unused column not 0; place: the row, from 0 */
-    YOKEMANGO_TIME = 11,           /* a time below the last point's */
-    YOKEMANGO_FULL = 12,           /* 10,000,000 points already */
-    YOKEMANGO_CROWDED = 13,        /* over 32 valuations of a node at a point; place: the node */
-    YOKEMANGO_BACKLOG = 14,        /* over 32 points not settled */
-    YOKEMANGO_KEPT_FULL = 15,      /* over 512 kept entries */
-    YOKEMANGO_SHORT = 16,          /* a report buffer too short; place: the words needed */
-    YOKEMANGO_REPORT = 17          /* not a report, or no such entry */
+    YOKEMANGO_REFUSED_LENGTH = 1,          /* a rule under 12 bytes, or its length not 12 + 20 * nodes */
+    YOKEMANGO_REFUSED_VERSION = 2,         /* a version other than 1 */
+    YOKEMANGO_REFUSED_SIZES = 3,           /* a size, an arity or the zero byte out of range */
+    YOKEMANGO_REFUSED_NODE = 4,            /* an unknown kind, child, relation, variable or comparison, or an unnamed field not 0; place: the node */
+    YOKEMANGO_REFUSED_WINDOW = 5,          /* a window out of range; place: the node */
+    YOKEMANGO_REFUSED_FREE_VARIABLES = 6,  /* a condition on free variables broken; place: the node */
+    YOKEMANGO_REFUSED_PARENT = 7,          /* a node that isn't a child exactly once; place: the node */
+    YOKEMANGO_REFUSED_STATE = 8,           /* a state that isn't well formed */
+    YOKEMANGO_REFUSED_EVENT = 9,           /* an event under 2 words, of more than 32 rows, or of a wrong length */
+    YOKEMANGO_REFUSED_ROW = 10,            /* an unknown relation, or an unused column not 0; place: the row, from 0 */
+    YOKEMANGO_REFUSED_TIME = 11,           /* a time below the last point's */
+    YOKEMANGO_REFUSED_FULL = 12,           /* 10,000,000 points already */
+    YOKEMANGO_REFUSED_CROWDED = 13,        /* over 32 valuations of a node at a point; place: the node */
+    YOKEMANGO_REFUSED_BACKLOG = 14,        /* over 32 points not settled */
+    YOKEMANGO_REFUSED_KEPT = 15,           /* over 512 kept entries */
+    YOKEMANGO_REFUSED_SHORT = 16,          /* a report buffer too short; place: the words needed */
+    YOKEMANGO_REFUSED_REPORT = 17          /* not a report, or no such entry */
 };
+
+/* A refusal in words, without its place. */
+static inline const char *yokemango_refusal_words(uint32_t number)
+{
+    switch (number) {
+    case 0: return "no refusal";
+    case YOKEMANGO_REFUSED_LENGTH: return "under 12 bytes, or a length that isn't 12 + 20 for each node";
+    case YOKEMANGO_REFUSED_VERSION: return "the version isn't 1";
+    case YOKEMANGO_REFUSED_SIZES: return "a size, an arity or the zero byte is out of range";
+    case YOKEMANGO_REFUSED_NODE: return "an unknown kind, child, relation, variable or comparison, or a field without a meaning that isn't 0";
+    case YOKEMANGO_REFUSED_WINDOW: return "the window is out of range";
+    case YOKEMANGO_REFUSED_FREE_VARIABLES: return "a condition on the free variables is broken";
+    case YOKEMANGO_REFUSED_PARENT: return "the node isn't a child exactly once";
+    case YOKEMANGO_REFUSED_STATE: return "the state isn't well formed";
+    case YOKEMANGO_REFUSED_EVENT: return "under 2 words, over 32 rows, or a wrong length";
+    case YOKEMANGO_REFUSED_ROW: return "no such relation, or an unused column that isn't 0";
+    case YOKEMANGO_REFUSED_TIME: return "the time is below the last point's";
+    case YOKEMANGO_REFUSED_FULL: return "10,000,000 points were taken already";
+    case YOKEMANGO_REFUSED_CROWDED: return "over 32 valuations at a point newly settled";
+    case YOKEMANGO_REFUSED_BACKLOG: return "over 32 points would be open";
+    case YOKEMANGO_REFUSED_KEPT: return "over 512 entries would be kept";
+    case YOKEMANGO_REFUSED_SHORT: return "the report buffer is too short";
+    case YOKEMANGO_REFUSED_REPORT: return "not a report, or no such entry";
+    default: return "no such refusal";
+    }
+}
 
 /* What yokemango_row_count and yokemango_rows_word answer for 17, and past the end of the rows: no word is so large. */
 #define YOKEMANGO_NONE UINT64_C(4294967296)
@@ -61,61 +92,59 @@ enum yokemango_refusal {
 /* ---- the state, and answers */
 
 /* A running rule. Plain words that point nowhere, so it may be copied and kept anywhere. A program reads `points` and
-   leaves the rest to the functions below; it need not, since a state that was changed is refused by 8 or taken as it
-   stands, and harms nothing. */
+   `count` and leaves the rest to the functions below; it need not, since a state that was changed is refused by 8 or taken as
+   it stands, and harms nothing. */
 struct yokemango_state {
-    uint8_t rule[YOKEMANGO_RULE_BYTES];       /* the rule file */
-    uint32_t length;                          /* its length in bytes */
-    uint32_t points;                          /* points accepted */
-    uint32_t times[YOKEMANGO_RETAINED];       /* retained times */
-    uint32_t retained;                        /* how many */
-    uint32_t owners[YOKEMANGO_KEPT];          /* of each kept entry: node * 2, and 1 more for a pair of valuation and age */
-    uint32_t numbers[YOKEMANGO_KEPT];         /* the point's number, or the age */
-    uint32_t values[4u * YOKEMANGO_KEPT];     /* four words, one for each variable */
-    uint32_t count;                           /* kept entries */
+    uint8_t rule[YOKEMANGO_MAX_RULE_BYTES];       /* the rule file */
+    uint32_t bytes;                               /* its length */
+    uint32_t points;                              /* points accepted */
+    uint32_t times[YOKEMANGO_TIME_WORDS];         /* retained times */
+    uint32_t retained;                            /* how many */
+    uint32_t owners[YOKEMANGO_MAX_KEPT];          /* of each kept entry: node * 2, and 1 more for a pair of valuation and age */
+    uint32_t numbers[YOKEMANGO_MAX_KEPT];         /* the point's number, or the age */
+    uint32_t values[4u * YOKEMANGO_MAX_KEPT];     /* four words, one for each variable */
+    uint32_t count;                               /* kept entries */
+};
+
+struct yokemango_checked {
+    uint32_t number;                              /* 0, or the refusal */
+    uint32_t place;                               /* its place */
+    uint32_t reach;                               /* seconds, 0 on a refusal: in a rule without "next", a point is reported at the
+                                                     latest by the first event whose time is at least this much after its own */
+    uint32_t free;                                /* the pattern's free variables, bit k for variable k; 0 on a refusal */
 };
 
 struct yokemango_started {
-    uint32_t number;                          /* 0, or the refusal */
-    uint32_t place;                           /* its place */
-    uint32_t reach;                           /* seconds, 0 on a refusal: in a rule without "next", a point is reported at the
-                                                 latest by the first event whose time is at least this much after its own */
-    uint32_t free;                            /* the pattern's free variables, bit k for variable k; 0 on a refusal */
-    struct yokemango_state state;             /* of zeros on a refusal */
+    uint32_t number;                              /* these four as in yokemango_checked */
+    uint32_t place;
+    uint32_t reach;
+    uint32_t free;
+    struct yokemango_state state;                 /* of zeros on a refusal */
 };
 
 struct yokemango_taken {
-    uint32_t number;                          /* 0, or the refusal */
-    uint32_t place;                           /* its place */
-    uint32_t words;                           /* words written to the front of the report buffer; 0 on a refusal */
+    uint32_t number;                              /* 0, or the refusal */
+    uint32_t place;                               /* its place */
+    uint32_t words;                               /* words written to the front of the report buffer; 0 on a refusal */
 };
 
-struct yokemango_open {
-    uint32_t number;                          /* 0, or 8 */
-    uint32_t points;                          /* points accepted and not yet reported; 0 on a refusal */
+struct yokemango_figures {
+    uint32_t number;                              /* 0, or 8 */
+    uint32_t open_points;                         /* points accepted and not yet reported: at most 32; 0 on a refusal */
+    uint32_t kept;                                /* kept entries: at most 512 of a state that these functions left */
 };
 
 /* The layout that the library has. */
 typedef char yokemango_state_has_13216_bytes[sizeof(struct yokemango_state) == 13216 ? 1 : -1];
+typedef char yokemango_checked_has_16_bytes[sizeof(struct yokemango_checked) == 16 ? 1 : -1];
 typedef char yokemango_started_has_13232_bytes[sizeof(struct yokemango_started) == 13232 ? 1 : -1];
 typedef char yokemango_taken_has_12_bytes[sizeof(struct yokemango_taken) == 12 ? 1 : -1];
-typedef char yokemango_open_has_8_bytes[sizeof(struct yokemango_open) == 8 ? 1 : -1];
+typedef char yokemango_figures_has_12_bytes[sizeof(struct yokemango_figures) == 12 ? 1 : -1];
 
-/* ---- check a rule: four answers to one question, each by a check of its own, with no state and next to no stack */
+/* ---- check a rule, start a state and take events */
 
-/* 0, or the refusal 1 to 7 that the file meets first. */
-uint32_t yokemango_check_number(const uint8_t *rule, size_t rule_len);
-
-/* The refusal's place: a node's number for 4 to 7; else 0. */
-uint32_t yokemango_check_place(const uint8_t *rule, size_t rule_len);
-
-/* The reach in seconds; 0 on a refusal. */
-uint32_t yokemango_check_reach(const uint8_t *rule, size_t rule_len);
-
-/* The pattern's free variables, bit k for variable k; 0 on a refusal. */
-uint32_t yokemango_check_free(const uint8_t *rule, size_t rule_len);
-
-/* ---- start a state and take events */
+/* Checks a rule, with no state and next to no stack; refusals are 1 to 7. */
+struct yokemango_checked yokemango_check(const uint8_t *rule, size_t rule_len);
 
 /* A state with no points, or a refusal 1 to 7. The rule is copied into the state. */
 struct yokemango_started yokemango_start(const uint8_t *rule, size_t rule_len);
@@ -123,19 +152,22 @@ struct yokemango_started yokemango_start(const uint8_t *rule, size_t rule_len);
 /* Takes an event in the memory of a state: `rule` to `count` are its fields, lent with their lengths. Another length than
    the field's own is refused by 8. A program calls yokemango_take_in below, which passes them. */
 struct yokemango_taken yokemango_take(
-    const uint8_t *rule, size_t rule_len, uint32_t length, uint32_t *points, uint32_t *times, size_t times_len,
+    const uint8_t *rule, size_t rule_len, uint32_t bytes, uint32_t *points, uint32_t *times, size_t times_len,
     uint32_t *retained, uint32_t *owners, size_t owners_len, uint32_t *numbers, size_t numbers_len, uint32_t *values,
     size_t values_len, uint32_t *count, const uint32_t *event, size_t event_len, uint32_t *report, size_t report_len);
 
-/* Kept entries: at most 512 of a state that these functions handed back. */
-uint32_t yokemango_kept(struct yokemango_state state);
-
-/* Points accepted and not yet reported: at most 32; or 8. */
-struct yokemango_open yokemango_open_points(struct yokemango_state state);
+/* The figures of a state whose fields are lent in the same way. A program calls yokemango_figures_in below. */
+struct yokemango_figures yokemango_figures(
+    const uint8_t *rule, size_t rule_len, uint32_t bytes, uint32_t points, const uint32_t *times, size_t times_len,
+    uint32_t retained, const uint32_t *owners, size_t owners_len, const uint32_t *numbers, size_t numbers_len,
+    const uint32_t *values, size_t values_len, uint32_t count);
 
 /* ---- read a report: P points, F free variables, total rows; P triples of point, time and row count; rows of F words
 
    Words of any kind may be passed, and words past the report's end are ignored. Each call goes over the report once. */
+
+/* 0 where the words are a report, else 17. */
+uint32_t yokemango_check_report(const uint32_t *report, size_t report_len);
 
 /* The row count of entry k, from 0, or YOKEMANGO_NONE for 17. */
 uint64_t yokemango_row_count(const uint32_t *report, size_t report_len, size_t k);
@@ -151,30 +183,35 @@ uint64_t yokemango_rows_word(const uint32_t *report, size_t report_len, size_t k
 
 /* ---- what a program calls, on a state that stays where it is */
 
-/* Starts the rule in `state`, which is left as it was on a refusal. The answer is 0 or the refusal; its place goes to
-   `place`. */
-static inline uint32_t yokemango_start_in(struct yokemango_state *state, const uint8_t *rule, size_t rule_len, uint32_t *place)
+/* Starts the rule in `state`, which is left as it was on a refusal, 1 to 7. */
+static inline struct yokemango_checked yokemango_start_in(struct yokemango_state *state, const uint8_t *rule, size_t rule_len)
 {
     const struct yokemango_started started = yokemango_start(rule, rule_len);
-    *place = started.place;
+    const struct yokemango_checked checked = {started.number, started.place, started.reach, started.free};
     if (started.number == 0)
         *state = started.state;
-    return started.number;
+    return checked;
 }
 
 /* Takes an event into `state`: time, row count m, m relation numbers, m rows of 4 words with unused columns 0. The report
-   goes to the front of `report`, words past it stay. An event that settles nothing still writes 3 words. The answer is 0, or
-   the first of the refusals 8 to 16 that applies; then no word of `state` or `report` is changed. The refusal's place goes to
-   `place`. Stack of a call, measured (docs/TESTING.md): a usual event 13 to 20 KB; one that settles 32 points at once 63 KB for
-   rules of up to 4 nodes, such as rule L, and 158 KB for any rule. `start` takes 14 KB and `open` 28 KB. */
-static inline uint32_t yokemango_take_in(struct yokemango_state *state, const uint32_t *event, size_t event_len, uint32_t *report, size_t report_len, uint32_t *place)
+   goes to the front of `report`, words past it stay. An event that settles nothing still writes 3 words. The answer has the
+   words written, or the first of the refusals 8 to 16 that applies; then no word of `state` or `report` is changed. Stack of
+   a call: docs/MANUAL.md. */
+static inline struct yokemango_taken yokemango_take_in(struct yokemango_state *state, const uint32_t *event, size_t event_len, uint32_t *report, size_t report_len)
 {
-    const struct yokemango_taken taken = yokemango_take(
-        state->rule, YOKEMANGO_RULE_BYTES, state->length, &state->points, state->times, YOKEMANGO_RETAINED,
-        &state->retained, state->owners, YOKEMANGO_KEPT, state->numbers, YOKEMANGO_KEPT, state->values,
-        4u * YOKEMANGO_KEPT, &state->count, event, event_len, report, report_len);
-    *place = taken.place;
-    return taken.number;
+    return yokemango_take(
+        state->rule, YOKEMANGO_MAX_RULE_BYTES, state->bytes, &state->points, state->times, YOKEMANGO_TIME_WORDS,
+        &state->retained, state->owners, YOKEMANGO_MAX_KEPT, state->numbers, YOKEMANGO_MAX_KEPT, state->values,
+        4u * YOKEMANGO_MAX_KEPT, &state->count, event, event_len, report, report_len);
+}
+
+/* The figures of `state`: its open points, or 8, and its kept entries. */
+static inline struct yokemango_figures yokemango_figures_in(const struct yokemango_state *state)
+{
+    return yokemango_figures(
+        state->rule, YOKEMANGO_MAX_RULE_BYTES, state->bytes, state->points, state->times, YOKEMANGO_TIME_WORDS,
+        state->retained, state->owners, YOKEMANGO_MAX_KEPT, state->numbers, YOKEMANGO_MAX_KEPT, state->values,
+        4u * YOKEMANGO_MAX_KEPT, state->count);
 }
 
 /* A point of a report: `rows` rows of `columns` words each, end to end from `words` on. */
@@ -191,7 +228,7 @@ static inline uint32_t yokemango_point_at(const uint32_t *report, size_t report_
 {
     const uint64_t rows = yokemango_row_count(report, report_len, k);
     if (rows == YOKEMANGO_NONE)
-        return YOKEMANGO_REPORT;
+        return YOKEMANGO_REFUSED_REPORT;
     point->number = report[3 + 3 * k];
     point->time = report[3 + 3 * k + 1];
     point->rows = (uint32_t)rows;

@@ -302,10 +302,10 @@ pub fn disturb(g: &mut Random, s: &mut State) {
         2 => g.pick(&[0, 1, 64, 65, 512, 513, 10_000_000, 10_000_001, u32::MAX]),
         _ => g.next() as u32,
     };
-    let (length, retained, count) = (s.length as usize, s.retained as usize, s.count as usize);
+    let (bytes, retained, count) = (s.bytes as usize, s.retained as usize, s.count as usize);
     match g.below(12) {
-        0 if (1..=RULE_BYTES).contains(&length) => s.rule[g.below(length)] ^= 1 << g.below(8),
-        1 => s.length = change(g, s.length),
+        0 if (1..=RULE_BYTES).contains(&bytes) => s.rule[g.below(bytes)] ^= 1 << g.below(8),
+        1 => s.bytes = change(g, s.bytes),
         2 => s.points = change(g, s.points),
         3 => s.retained = change(g, s.retained),
         4 => s.count = change(g, s.count),

@@ -111,14 +111,14 @@ fn rule_of(bytes: &[u8]) -> Rule {
 }
 
 pub fn well_formed(s: &State) -> bool {
-    let (length, points, retained, count) = (s.length as usize, s.points as usize, s.retained as usize, s.count as usize);
-    if length > s.rule.len() || check(&s.rule[..length]).0 != 0 {
+    let (bytes, points, retained, count) = (s.bytes as usize, s.points as usize, s.retained as usize, s.count as usize);
+    if bytes > s.rule.len() || check(&s.rule[..bytes]).0 != 0 {
         return false;
     }
     if points > MOST_POINTS || retained > MOST_TIMES || retained > points || count > MOST_KEPT {
         return false;
     }
-    let rule = rule_of(&s.rule[..length]);
+    let rule = rule_of(&s.rule[..bytes]);
     let mut free = vec![];
     for n in &rule.nodes {
         free.push(free_variables(&rule, n, &free));

@@ -32,67 +32,92 @@ static uint32_t *copy(const uint32_t *words, size_t count)
     return own;
 }
 
-static uint32_t take(const uint32_t *event, size_t event_len, uint32_t *report, size_t report_len, uint32_t *place)
+static struct yokemango_taken take(const uint32_t *event, size_t event_len, uint32_t *report, size_t report_len)
 {
     uint32_t *own = copy(event, event_len);
-    const uint32_t number = yokemango_take_in(&state, own, event_len, report, report_len, place);
+    const struct yokemango_taken taken = yokemango_take_in(&state, own, event_len, report, report_len);
     free(own);
-    return number;
+    return taken;
+}
+
+/* Refused by this number and place, and the state as it was. */
+static int refused(struct yokemango_taken taken, uint32_t number, uint32_t place)
+{
+    return taken.number == number && taken.place == place && taken.words == 0 && same_state();
+}
+
+static int answers(struct yokemango_checked checked, uint32_t number, uint32_t place, uint32_t reach, uint32_t free_variables)
+{
+    return checked.number == number && checked.place == place && checked.reach == reach && checked.free == free_variables;
 }
 
 static void refusals(const uint8_t *rule, size_t length)
 {
-    uint8_t other[YOKEMANGO_RULE_BYTES];
-    uint32_t place = 9, report[2] = {5, 6};
+    uint8_t other[YOKEMANGO_MAX_RULE_BYTES];
+    uint32_t report[2] = {5, 6};
     const uint32_t two_words[] = {100, 0}, no_relation[] = {100, 2, 0, 2, 7, 0, 0, 0, 7, 0, 0, 0};
 
-    CHECK(yokemango_start_in(&state, rule, length, &place) == 0 && place == 0);
+    CHECK(answers(yokemango_check(rule, length), 0, 0, 61, 1));
+    CHECK(answers(yokemango_start_in(&state, rule, length), 0, 0, 61, 1));
     before = state;
-    CHECK(yokemango_start_in(&state, rule, length - 1, &place) == YOKEMANGO_LENGTH && place == 0 && same_state());
+    CHECK(answers(yokemango_start_in(&state, rule, length - 1), YOKEMANGO_REFUSED_LENGTH, 0, 0, 0) && same_state());
     memcpy(other, rule, length);
     other[12 + 4 * 2] = 15;
-    CHECK(yokemango_start_in(&state, other, length, &place) == YOKEMANGO_NODE && place == 2 && same_state());
-    CHECK(yokemango_check_number(other, length) == YOKEMANGO_NODE && yokemango_check_place(other, length) == 2);
-    CHECK(yokemango_check_reach(other, length) == 0 && yokemango_check_free(other, length) == 0);
+    CHECK(answers(yokemango_start_in(&state, other, length), YOKEMANGO_REFUSED_NODE, 2, 0, 0) && same_state());
+    CHECK(answers(yokemango_check(other, length), YOKEMANGO_REFUSED_NODE, 2, 0, 0));
 
-    CHECK(take(two_words, 2, report, 2, &place) == YOKEMANGO_SHORT && place == 3 && same_state());
-    CHECK(take(two_words, 1, report, 2, &place) == YOKEMANGO_EVENT && place == 0 && same_state());
-    CHECK(take(no_relation, 12, report, 2, &place) == YOKEMANGO_ROW && place == 1 && same_state());
+    CHECK(refused(take(two_words, 2, report, 2), YOKEMANGO_REFUSED_SHORT, 3));
+    CHECK(refused(take(two_words, 1, report, 2), YOKEMANGO_REFUSED_EVENT, 0));
+    CHECK(refused(take(no_relation, 12, report, 2), YOKEMANGO_REFUSED_ROW, 1));
     CHECK(report[0] == 5 && report[1] == 6);
 
     /* a field lent one too short */
     for (size_t k = 0; k < 5; k++) {
         uint32_t long_enough[3] = {5, 6, 7};
+        const size_t rule_len = YOKEMANGO_MAX_RULE_BYTES - (k == 0), times_len = YOKEMANGO_TIME_WORDS - (k == 1);
+        const size_t owners_len = YOKEMANGO_MAX_KEPT - (k == 2), numbers_len = YOKEMANGO_MAX_KEPT - (k == 3);
+        const size_t values_len = 4u * YOKEMANGO_MAX_KEPT - (k == 4);
         const struct yokemango_taken taken = yokemango_take(
-            state.rule, YOKEMANGO_RULE_BYTES - (k == 0), state.length, &state.points, state.times,
-            YOKEMANGO_RETAINED - (k == 1), &state.retained, state.owners, YOKEMANGO_KEPT - (k == 2), state.numbers,
-            YOKEMANGO_KEPT - (k == 3), state.values, 4u * YOKEMANGO_KEPT - (k == 4), &state.count, two_words, 2, long_enough, 3);
-        CHECK(taken.number == YOKEMANGO_STATE && taken.place == 0 && taken.words == 0 && same_state());
+            state.rule, rule_len, state.bytes, &state.points, state.times, times_len, &state.retained, state.owners, owners_len,
+            state.numbers, numbers_len, state.values, values_len, &state.count, two_words, 2, long_enough, 3);
+        const struct yokemango_figures figures = yokemango_figures(
+            state.rule, rule_len, state.bytes, state.points, state.times, times_len, state.retained, state.owners, owners_len,
+            state.numbers, numbers_len, state.values, values_len, state.count);
+        CHECK(refused(taken, YOKEMANGO_REFUSED_STATE, 0));
         CHECK(long_enough[0] == 5 && long_enough[1] == 6 && long_enough[2] == 7);
+        CHECK(figures.number == YOKEMANGO_REFUSED_STATE && figures.open_points == 0 && figures.kept == 0);
     }
 
     memset(&state, 0, sizeof state);
     before = state;
-    CHECK(take(two_words, 2, report, 2, &place) == YOKEMANGO_STATE && place == 0 && same_state());
-    CHECK(yokemango_open_points(state).number == YOKEMANGO_STATE);
+    CHECK(refused(take(two_words, 2, report, 2), YOKEMANGO_REFUSED_STATE, 0));
+    CHECK(yokemango_figures_in(&state).number == YOKEMANGO_REFUSED_STATE);
 }
 
 static void reports(const uint8_t *rule, size_t length)
 {
     const uint32_t leaks[] = {100, 2, 0, 0, 9, 0, 0, 0, 7, 0, 0, 0}, later[] = {161, 0};
     const uint32_t expected[] = {1, 1, 2, 0, 100, 2, 7, 9};
-    uint32_t place, *report = copy(expected, 8);
+    uint32_t *report = copy(expected, 8);
+    struct yokemango_taken taken;
+    struct yokemango_figures figures;
     struct yokemango_point point = {1, 2, 3, 4, NULL};
 
-    CHECK(yokemango_start_in(&state, rule, length, &place) == 0);
-    CHECK(take(leaks, 12, report, 8, &place) == 0 && report[0] == 0 && report[1] == 1 && report[2] == 0 && report[3] == 0);
-    CHECK(yokemango_kept(state) == 2 && yokemango_open_points(state).points == 1 && state.points == 1);
+    CHECK(yokemango_start_in(&state, rule, length).number == 0);
+    taken = take(leaks, 12, report, 8);
+    CHECK(taken.number == 0 && taken.place == 0 && taken.words == 3);
+    CHECK(report[0] == 0 && report[1] == 1 && report[2] == 0 && report[3] == 0);
+    figures = yokemango_figures_in(&state);
+    CHECK(figures.number == 0 && figures.open_points == 1 && figures.kept == 2 && state.count == 2 && state.points == 1);
     memset(report, 0, 8 * sizeof *report);
-    CHECK(take(later, 2, report, 7, &place) == YOKEMANGO_SHORT && place == 8 && report[0] == 0);
-    CHECK(take(later, 2, report, 8, &place) == 0 && memcmp(report, expected, sizeof expected) == 0);
+    before = state;
+    CHECK(refused(take(later, 2, report, 7), YOKEMANGO_REFUSED_SHORT, 8) && report[0] == 0);
+    taken = take(later, 2, report, 8);
+    CHECK(taken.number == 0 && taken.words == 8 && memcmp(report, expected, sizeof expected) == 0);
 
-    CHECK(yokemango_point_at(report, 8, 1, &point) == YOKEMANGO_REPORT && point.number == 1 && point.words == NULL);
-    CHECK(yokemango_point_at(report, 7, 0, &point) == YOKEMANGO_REPORT);
+    CHECK(yokemango_check_report(report, 8) == 0 && yokemango_check_report(report, 7) == YOKEMANGO_REFUSED_REPORT);
+    CHECK(yokemango_point_at(report, 8, 1, &point) == YOKEMANGO_REFUSED_REPORT && point.number == 1 && point.words == NULL);
+    CHECK(yokemango_point_at(report, 7, 0, &point) == YOKEMANGO_REFUSED_REPORT);
     CHECK(yokemango_point_at(report, 8, 0, &point) == 0);
     CHECK(point.number == 0 && point.time == 100 && point.rows == 2 && point.columns == 1);
     CHECK(point.words == report + 6 && point.words[0] == 7 && point.words[1] == 9);
@@ -103,15 +128,14 @@ static void reports(const uint8_t *rule, size_t length)
 
 int main(int argc, char **argv)
 {
-    uint8_t rule[YOKEMANGO_RULE_BYTES];
+    uint8_t rule[YOKEMANGO_MAX_RULE_BYTES];
     FILE *file = argc == 2 ? fopen(argv[1], "rb") : NULL;
     CHECK(file != NULL);
     const size_t length = fread(rule, 1, sizeof rule, file);
     fclose(file);
-    CHECK(length == 92 && yokemango_check_number(rule, length) == 0);
-    CHECK(yokemango_check_reach(rule, length) == 61 && yokemango_check_free(rule, length) == 1);
-    CHECK(YOKEMANGO_RULE_BYTES == 12 + 20 * YOKEMANGO_NODES && YOKEMANGO_EVENT_WORDS == 2 + 5 * YOKEMANGO_ROWS);
-    CHECK(YOKEMANGO_REPORT_WORDS == 3 + 33 * 3 + 33 * YOKEMANGO_ROWS * YOKEMANGO_COLUMNS);
+    CHECK(length == 92);
+    CHECK(YOKEMANGO_MAX_RULE_BYTES == 12 + 20 * YOKEMANGO_MAX_NODES && YOKEMANGO_MAX_EVENT_WORDS == 2 + 5 * YOKEMANGO_MAX_ROWS);
+    CHECK(YOKEMANGO_MAX_REPORT_WORDS == 3 + 33 * 3 + 33 * YOKEMANGO_MAX_ROWS * YOKEMANGO_MAX_COLUMNS);
     refusals(rule, length);
     reports(rule, length);
     printf("%u checks of the header\n", checks);

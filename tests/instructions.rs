@@ -43,7 +43,7 @@ fn run(case: &Case) {
         let told = library::take_in(&mut state, &(case.event)(&mut g, k), &mut buffer);
         assert_eq!(told.number, 0, "{}: event {k} is refused by {}", case.name, told.number);
     }
-    println!("kept {}, open {}", library::kept(&state), library::open(&state).points);
+    println!("kept {}, open {}", library::figures(&state).kept, library::figures(&state).open_points);
 }
 
 // Runs this program on case k under callgrind.

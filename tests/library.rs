@@ -1,5 +1,5 @@
 // The operations that crates/yokemango exports, as a program in Rust calls them. A slice is passed as its address and then
-// its length; for a taking, a state's fields are passed so. None of them asks anything of its words, so any may be passed.
+// its length; for a taking and for the figures, a state's fields are passed so. None of them asks anything of its words, so any may be passed.
 #![allow(dead_code)]
 
 pub const RULE_BYTES: usize = 652;
@@ -10,7 +10,7 @@ pub const ENTRIES: usize = 512;
 #[derive(Clone, Copy, PartialEq, Eq)]
 pub struct State {
     pub rule: [u8; RULE_BYTES],
-    pub length: u32,
+    pub bytes: u32,
     pub points: u32,
     pub times: [u32; RETAINED],
     pub retained: u32,
@@ -22,7 +22,7 @@ pub struct State {
 
 pub const NO_STATE: State = State {
     rule: [0; RULE_BYTES],
-    length: 0,
+    bytes: 0,
     points: 0,
     times: [0; RETAINED],
     retained: 0,
@@ -31,6 +31,16 @@ pub const NO_STATE: State = State {
     values: [0; 4 * ENTRIES],
     count: 0,
 };
+
+// Number 0: accepted. Otherwise the refusal.
+#[repr(C)]
+#[derive(Clone, Copy)]
+pub struct Checked {
+    pub number: u32,
+    pub place: u32,
+    pub reach: u32,
+    pub free: u32,
+}
 
 // Number 0: started. Otherwise the refusal, and a state of zeros.
 #[repr(C)]
@@ -61,23 +71,23 @@ pub struct Taken {
     pub state: State,
 }
 
-// Number 0 and the figure `open`, or 8.
+// Number 0 and the points that are open, or 8; and the kept entries.
 #[repr(C)]
 #[derive(Clone, Copy)]
-pub struct Open {
+pub struct Figures {
     pub number: u32,
-    pub points: u32,
+    pub open_points: u32,
+    pub kept: u32,
 }
 
 #[link(name = "yokemango", kind = "static")]
 extern "C" {
-    fn yokemango_check_number(rule: *const u8, len: usize) -> u32;
-    fn yokemango_check_place(rule: *const u8, len: usize) -> u32;
+    fn yokemango_check(rule: *const u8, len: usize) -> Checked;
     fn yokemango_start(rule: *const u8, len: usize) -> Started;
     fn yokemango_take(
         rule: *const u8,
         rule_len: usize,
-        length: u32,
+        bytes: u32,
         points: *mut u32,
         times: *mut u32,
         times_len: usize,
@@ -94,20 +104,35 @@ extern "C" {
         report: *mut u32,
         report_len: usize,
     ) -> Told;
-    fn yokemango_kept(state: State) -> u32;
-    fn yokemango_open_points(state: State) -> Open;
+    fn yokemango_figures(
+        rule: *const u8,
+        rule_len: usize,
+        bytes: u32,
+        points: u32,
+        times: *const u32,
+        times_len: usize,
+        retained: u32,
+        owners: *const u32,
+        owners_len: usize,
+        numbers: *const u32,
+        numbers_len: usize,
+        values: *const u32,
+        values_len: usize,
+        count: u32,
+    ) -> Figures;
 }
 
 // The refusal's number, or 0, and its place.
 pub fn check(rule: &[u8]) -> (u32, u32) {
-    unsafe { (yokemango_check_number(rule.as_ptr(), rule.len()), yokemango_check_place(rule.as_ptr(), rule.len())) }
+    let checked = unsafe { yokemango_check(rule.as_ptr(), rule.len()) };
+    (checked.number, checked.place)
 }
 
 pub fn start(rule: &[u8]) -> Started {
     unsafe { yokemango_start(rule.as_ptr(), rule.len()) }
 }
 
-// The lengths that a taking is told of a state's rule, times, owners, numbers and values.
+// The lengths that a taking and the figures are told of a state's rule, times, owners, numbers and values.
 pub const LENGTHS: [usize; 5] = [RULE_BYTES, RETAINED, ENTRIES, ENTRIES, 4 * ENTRIES];
 
 // Takes an event in the state's own memory, of which so much is lent, and no more than there is.
@@ -118,7 +143,7 @@ pub fn take_of(state: &mut State, lengths: [usize; 5], event: &[u32], report: &m
         yokemango_take(
             state.rule.as_ptr(),
             rule,
-            state.length,
+            state.bytes,
             &mut state.points,
             state.times.as_mut_ptr(),
             times,
@@ -150,10 +175,30 @@ pub fn take(state: &State, event: &[u32], report: &mut [u32]) -> Taken {
     Taken { number, place, words, state: next }
 }
 
-pub fn kept(state: &State) -> u32 {
-    unsafe { yokemango_kept(*state) }
+// The figures of a state of which so much is lent, and no more than there is.
+pub fn figures_of(state: &State, lengths: [usize; 5]) -> Figures {
+    let [rule, times, owners, numbers, values] = lengths;
+    assert!(lengths.iter().zip(LENGTHS).all(|(lent, whole)| *lent <= whole));
+    unsafe {
+        yokemango_figures(
+            state.rule.as_ptr(),
+            rule,
+            state.bytes,
+            state.points,
+            state.times.as_ptr(),
+            times,
+            state.retained,
+            state.owners.as_ptr(),
+            owners,
+            state.numbers.as_ptr(),
+            numbers,
+            state.values.as_ptr(),
+            values,
+            state.count,
+        )
+    }
 }
 
-pub fn open(state: &State) -> Open {
-    unsafe { yokemango_open_points(*state) }
+pub fn figures(state: &State) -> Figures {
+    figures_of(state, LENGTHS)
 }

@@ -10,6 +10,7 @@ use std::time::Instant;
 
 #[link(name = "yokemango", kind = "static")]
 extern "C" {
+    fn yokemango_check_report(report: *const u32, len: usize) -> u32;
     fn yokemango_row_count(report: *const u32, len: usize, k: usize) -> u64;
     fn yokemango_rows_start(report: *const u32, len: usize, k: usize) -> usize;
     fn yokemango_rows_len(report: *const u32, len: usize, k: usize) -> usize;
@@ -19,6 +20,9 @@ extern "C" {
 const NONE: u64 = 1 << 32;
 
 // The functions ask nothing of the words or of k, so any slice may be passed.
+fn check(r: &[u32]) -> u32 {
+    unsafe { yokemango_check_report(r.as_ptr(), r.len()) }
+}
 fn row_count(r: &[u32], k: usize) -> u64 {
     unsafe { yokemango_row_count(r.as_ptr(), r.len(), k) }
 }
@@ -145,6 +149,10 @@ fn compare(t: &mut Tally, r: &[u32]) {
     let expected = entries(r);
     t.reports += 1;
     t.in_form += expected.is_some() as u64;
+    if (check(r) == 0) != expected.is_some() || ![0, 17].contains(&check(r)) {
+        println!("difference: {}, {:?} is answered {}", t.class, r, check(r));
+        std::process::exit(1);
+    }
     let p = r.first().map_or(0, |w| *w as usize).min(34);
     for k in (0..p + 2).chain([1 << 32, usize::MAX]) {
         let entry = expected.as_ref().and_then(|e| e.get(k));

@@ -12,10 +12,7 @@ use std::time::Instant;
 
 #[link(name = "yokemango", kind = "static")]
 extern "C" {
-    fn yokemango_check_number(rule: *const u8, len: usize) -> u32;
-    fn yokemango_check_place(rule: *const u8, len: usize) -> u32;
-    fn yokemango_check_reach(rule: *const u8, len: usize) -> u32;
-    fn yokemango_check_free(rule: *const u8, len: usize) -> u32;
+    fn yokemango_check(rule: *const u8, len: usize) -> Answer;
 }
 
 const SEED: u64 = 0x0123_4567_89ab_cdef;
@@ -23,6 +20,7 @@ const ROUNDS: usize = 60_000;
 const LEAST: u64 = 1_000;
 const LONGEST: u32 = 604_800;
 
+#[repr(C)]
 #[derive(Clone, Copy, PartialEq, Eq, Debug)]
 struct Answer {
     number: u32,
@@ -36,15 +34,7 @@ fn refuse(number: u32, place: usize) -> Answer {
 }
 
 fn proved(rule: &[u8]) -> Answer {
-    let (p, n) = (rule.as_ptr(), rule.len());
-    unsafe {
-        Answer {
-            number: yokemango_check_number(p, n),
-            place: yokemango_check_place(p, n),
-            reach: yokemango_check_reach(p, n),
-            free: yokemango_check_free(p, n),
-        }
-    }
+    unsafe { yokemango_check(rule.as_ptr(), rule.len()) }
 }
 
 // ---- the evaluator
@@ -487,7 +477,7 @@ fn time() {
         let began = Instant::now();
         for _ in 0..turns {
             let rule = std::hint::black_box(&deep[..]);
-            sum += unsafe { yokemango_check_number(rule.as_ptr(), rule.len()) } as u64;
+            sum += proved(rule).number as u64;
         }
         best = best.min(began.elapsed().as_nanos() as f64 / turns as f64);
     }

@@ -140,8 +140,8 @@ fn main() {
         offenders += report[2] as u64;
         most_kept = most_kept.max(reckoning.kept());
         if at % 1_000 == 0 || at + 1 == points {
-            let open = library::open(&state);
-            let is = (state.points, open.number, open.points, library::kept(&state));
+            let figures = library::figures(&state);
+            let is = (state.points, figures.number, figures.open_points, figures.kept);
             let should = (reckoning.points, 0, reckoning.open.len() as u32, reckoning.kept());
             if is != should {
                 differ(at, format!("points, refusal, open and kept are {is:?} for {should:?}"));

@@ -164,7 +164,7 @@ fn time(case: &Case) {
     }
     assert_eq!(rows[0], rows[1]);
     let [few, many] = spent.map(median);
-    let (name, kept, open) = (case.name, library::kept(&state), library::open(&state).points);
+    let (name, kept, open) = (case.name, library::figures(&state).kept, library::figures(&state).open_points);
     println!("{name}: {few:.0} ns an event after {FEW} points, {many:.0} ns after {MANY}, ratio {:.2}; kept {kept}, open {open}", many / few);
 }
 

@@ -112,7 +112,7 @@ fn burst(rule: &Rule) -> usize {
             rows -= 1;
             continue;
         }
-        assert_eq!(library::open(&state).points, 32);
+        assert_eq!(library::figures(&state).open_points, 32);
         return of_taking(&state, &last);
     }
 }
@@ -195,6 +195,6 @@ fn main() {
     let own = l.bytes();
     println!("start: {} bytes", used_by(move || drop(black_box(Box::new(library::start(&own))))));
     let state = Box::new(started(&l));
-    println!("open: {} bytes", used_by(move || assert_eq!(library::open(&state).number, 0)));
+    println!("figures: {} bytes", used_by(move || assert_eq!(library::figures(&state).number, 0)));
     assert!(fine, "a call takes more stack than README.md says");
 }

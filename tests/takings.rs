@@ -101,8 +101,8 @@ impl<'m, 't> List<'m, 't> {
 
     // The figures that the monitor gives for its state, beside those of the keeper's log.
     fn compare_figures(&self) {
-        let got = library::open(&self.state);
-        let is = (self.state.points as usize, got.number, got.points as usize, library::kept(&self.state) as usize);
+        let got = library::figures(&self.state);
+        let is = (self.state.points as usize, got.number, got.open_points as usize, got.kept as usize);
         let should = (self.log.size(), 0, self.open, self.kept);
         if is != should {
             self.differ(&format!("points, refusal, open and kept are {is:?} for {should:?}"));
@@ -210,8 +210,8 @@ impl<'m, 't> List<'m, 't> {
         let taken = library::take(state, event, &mut buffer[FENCE..FENCE + room]);
         let formed = formed::well_formed(state);
         let known = if formed { taken.number == 0 || (9..=16).contains(&taken.number) } else { taken.number == 8 };
-        let figures = library::open(state);
-        if !known || figures.number != if formed { 0 } else { 8 } || (formed && library::kept(state) != state.count) {
+        let figures = library::figures(state);
+        if !known || figures.number != if formed { 0 } else { 8 } || figures.kept != state.count {
             self.differ(&format!("a state that is well formed ({formed}) is answered {} and {}", taken.number, figures.number));
         }
         let kept = if taken.number == 0 { formed::well_formed(&taken.state) } else { taken.state == *state };
@@ -304,6 +304,10 @@ fn other_states(draw: &mut Draw, list: &mut List, time: u32) {
     let told = library::take_of(&mut state, lengths, &words, &mut buffer);
     if told != (Told { number: 8, place: 0, words: 0 }) || state != list.state || buffer != [5; LONGEST_REPORT] {
         list.differ(&format!("a state lent at lengths {lengths:?} is answered {told:?}, or is changed"));
+    }
+    let figures = library::figures_of(&state, lengths);
+    if (figures.number, figures.open_points, figures.kept) != (8, 0, state.count) {
+        list.differ(&format!("a state lent at lengths {lengths:?} has number {}", figures.number));
     }
     list.tally.lent_short += 1;
 

@@ -17,7 +17,7 @@ mod incremental;
 use events::{burst, dry_zone, half_hour, leak, orchard, running, Random};
 use std::hint::black_box;
 use std::time::Instant;
-use yokemango::{Rule, State, REPORT_WORDS};
+use yokemango::{Rule, State, MAX_REPORT_WORDS};
 
 const COMPARED: usize = 5_000;
 const AGAIN: usize = 200; // events at which the whole log is evaluated again for the comparison
@@ -134,7 +134,7 @@ fn time(rule: &Rule, input: &Input, count: usize, buffer: &mut [u32]) -> [f64; 3
 
 fn main() {
     let most = std::env::args().skip(1).find_map(|a| a.parse().ok()).unwrap_or(1_000_000);
-    let mut buffer = vec![0; REPORT_WORDS];
+    let mut buffer = vec![0; MAX_REPORT_WORDS];
     println!("nanoseconds for an event; a ratio is this monitor's time to the other's");
     for case in &CASES {
         let rule = Rule::check(case.file).expect("the rule is accepted");

@@ -1,7 +1,7 @@
 //! Rule L of the scope, a leak that no closing follows within 60 seconds: takes its four events and prints what the listing
 //! program prints.
 use std::error::Error;
-use yokemango::{Event, Rule, State, REPORT_WORDS};
+use yokemango::{Event, Rule, State, MAX_REPORT_WORDS};
 
 const LEAK: usize = 0;
 const CLOSE: usize = 1;
@@ -17,7 +17,7 @@ fn main() -> Result<(), Box<dyn Error>> {
         Event::new(&rule, 191).with(LEAK, &[9])?,
     ];
     let mut state = State::start(&rule)?;
-    let mut buffer = [0; REPORT_WORDS];
+    let mut buffer = [0; MAX_REPORT_WORDS];
     for event in &events {
         for point in state.take(event, &mut buffer)? {
             println!("point {} time {} rows {}", point.number(), point.time(), point.rows().len());

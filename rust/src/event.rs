@@ -1,4 +1,4 @@
-use crate::{Rule, COLUMNS, EVENT_WORDS, RELATIONS, ROWS};
+use crate::{Rule, MAX_COLUMNS, MAX_EVENT_WORDS, MAX_RELATIONS, MAX_ROWS};
 use core::fmt;
 
 /// An event of a rule, built row by row. Rows may be repeated, and count once.
@@ -17,8 +17,8 @@ use core::fmt;
 /// ```
 #[derive(Clone, Copy, PartialEq, Eq)]
 pub struct Event {
-    words: [u32; EVENT_WORDS],
-    columns: [Option<usize>; RELATIONS],
+    words: [u32; MAX_EVENT_WORDS],
+    columns: [Option<usize>; MAX_RELATIONS],
 }
 
 /// Why a row can't be put into an event.
@@ -38,7 +38,7 @@ pub enum Unfit {
 impl Event {
     /// An event of this time, with no rows.
     pub fn new(rule: &Rule, time: u32) -> Event {
-        let mut words = [0; EVENT_WORDS];
+        let mut words = [0; MAX_EVENT_WORDS];
         words[0] = time;
         Event { words, columns: core::array::from_fn(|k| rule.columns(k)) }
     }
@@ -50,14 +50,14 @@ impl Event {
             return Err(Unfit::OtherColumns { expected });
         }
         let m = self.rows();
-        if m == ROWS {
+        if m == MAX_ROWS {
             return Err(Unfit::TooManyRows);
         }
         // the relations stand before the rows, so that these move up by a word
         let rows = 2 + m;
-        self.words.copy_within(rows..rows + COLUMNS * m, rows + 1);
+        self.words.copy_within(rows..rows + MAX_COLUMNS * m, rows + 1);
         self.words[rows] = relation as u32;
-        let row = &mut self.words[rows + 1 + COLUMNS * m..][..COLUMNS];
+        let row = &mut self.words[rows + 1 + MAX_COLUMNS * m..][..MAX_COLUMNS];
         row.fill(0);
         row[..expected].copy_from_slice(values);
         self.words[1] += 1;
@@ -82,13 +82,13 @@ impl Event {
 
     /// Its words: time, row count, relations, rows.
     pub fn words(&self) -> &[u32] {
-        &self.words[..2 + (1 + COLUMNS) * self.rows()]
+        &self.words[..2 + (1 + MAX_COLUMNS) * self.rows()]
     }
 }
 
 impl fmt::Debug for Event {
     fn fmt(&self, out: &mut fmt::Formatter) -> fmt::Result {
-        let rows = (0..self.rows()).map(|k| (self.words[2 + k], &self.words[2 + self.rows() + COLUMNS * k..][..COLUMNS]));
+        let rows = (0..self.rows()).map(|k| (self.words[2 + k], &self.words[2 + self.rows() + MAX_COLUMNS * k..][..MAX_COLUMNS]));
         write!(out, "@{}", self.time())?;
         rows.into_iter().try_for_each(|(relation, values)| write!(out, " {relation}{values:?}"))
     }
@@ -97,7 +97,7 @@ impl fmt::Debug for Event {
 impl fmt::Display for Unfit {
     fn fmt(&self, out: &mut fmt::Formatter) -> fmt::Result {
         match self {
-            Unfit::TooManyRows => write!(out, "an event has at most {ROWS} rows"),
+            Unfit::TooManyRows => write!(out, "an event has at most {MAX_ROWS} rows"),
             Unfit::NoRelation => write!(out, "the rule has no such relation"),
             Unfit::OtherColumns { expected } => write!(out, "the relation has {expected} columns"),
         }

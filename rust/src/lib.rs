@@ -5,7 +5,7 @@
 //! A rule is checked, a state is started, and events are taken:
 //!
 //! ```
-//! use yokemango::{Event, Refusal, Report, Rule, State, REPORT_WORDS};
+//! use yokemango::{Event, Refusal, Report, Rule, State, MAX_REPORT_WORDS};
 //!
 //! # fn main() -> Result<(), Box<dyn std::error::Error>> {
 //! // a leak (relation 0) that no closing (relation 1) follows within 60 seconds
@@ -14,7 +14,7 @@
 //! assert_eq!(rule.reach(), 61);
 //!
 //! let mut state = State::start(&rule)?;
-//! let mut buffer = [0; REPORT_WORDS];
+//! let mut buffer = [0; MAX_REPORT_WORDS];
 //! let leak = Event::new(&rule, 100).with(0, &[7])?.with(0, &[9])?;
 //! assert!(state.take(&leak, &mut buffer)?.is_empty());
 //! let close = Event::new(&rule, 130).with(1, &[9])?;
@@ -59,24 +59,60 @@ pub use rule::Rule;
 pub use state::State;
 
 /// The bytes of the longest rule file.
-pub const RULE_BYTES: usize = 652;
+pub const MAX_RULE_BYTES: usize = 652;
+/// The most nodes of a rule.
+pub const MAX_NODES: usize = 32;
 /// The most relations of a rule.
-pub const RELATIONS: usize = 8;
+pub const MAX_RELATIONS: usize = 8;
 /// The most columns of a relation, and the most variables of a rule.
-pub const COLUMNS: usize = 4;
+pub const MAX_COLUMNS: usize = 4;
 /// The most rows of an event, and the most valuations of a node at a point.
-pub const ROWS: usize = 32;
+pub const MAX_ROWS: usize = 32;
 /// The most points that are accepted and not yet reported.
-pub const OPEN: u32 = 32;
+pub const MAX_OPEN_POINTS: u32 = 32;
 /// The most kept entries.
-pub const KEPT: u32 = 512;
+pub const MAX_KEPT: u32 = 512;
 /// The most points from a start on.
-pub const POINTS: u32 = 10_000_000;
+pub const MAX_POINTS: u32 = 10_000_000;
 /// The longest window, in seconds.
-pub const LONGEST_WINDOW: u32 = 604_800;
+pub const MAX_WINDOW: u32 = 604_800;
 /// The words of the longest event.
-pub const EVENT_WORDS: usize = 162;
+pub const MAX_EVENT_WORDS: usize = 162;
 /// The words of the longest report: a buffer of this length never meets [`Refusal::Short`].
-pub const REPORT_WORDS: usize = 4_326;
+pub const MAX_REPORT_WORDS: usize = 4_326;
 /// The words of a state.
 pub const STATE_WORDS: usize = 3_304;
+
+#[cfg(test)]
+mod tests {
+    /// What the header defines a name as, without the mark of an unsigned number.
+    fn defined(name: &str) -> &'static str {
+        let header = include_str!("../../include/yokemango.h");
+        let line = header.lines().find(|line| line.split(' ').take(2).eq(["#define", &std::format!("YOKEMANGO_{name}")]));
+        line.unwrap_or_else(|| panic!("the header has no {name}")).split(' ').nth(2).unwrap().trim_end_matches('u')
+    }
+
+    #[test]
+    fn limits_and_version_are_those_of_the_header() {
+        let limits = [
+            ("RULE_BYTES", crate::MAX_RULE_BYTES),
+            ("NODES", crate::MAX_NODES),
+            ("RELATIONS", crate::MAX_RELATIONS),
+            ("COLUMNS", crate::MAX_COLUMNS),
+            ("ROWS", crate::MAX_ROWS),
+            ("OPEN_POINTS", crate::MAX_OPEN_POINTS as usize),
+            ("KEPT", crate::MAX_KEPT as usize),
+            ("POINTS", crate::MAX_POINTS as usize),
+            ("WINDOW", crate::MAX_WINDOW as usize),
+            ("EVENT_WORDS", crate::MAX_EVENT_WORDS),
+            ("REPORT_WORDS", crate::MAX_REPORT_WORDS),
+        ];
+        for (name, limit) in limits {
+            assert_eq!(defined(&std::format!("MAX_{name}")), std::format!("{limit}"), "{name}");
+        }
+        let header = include_str!("../../include/yokemango.h");
+        assert_eq!(header.matches("#define YOKEMANGO_MAX_").count(), limits.len());
+        assert_eq!(defined("VERSION"), concat!("\"", env!("CARGO_PKG_VERSION"), "\""));
+        assert_eq!(["MAJOR", "MINOR", "PATCH"].map(|part| defined(&std::format!("VERSION_{part}"))), [env!("CARGO_PKG_VERSION_MAJOR"), env!("CARGO_PKG_VERSION_MINOR"), env!("CARGO_PKG_VERSION_PATCH")]);
+    }
+}

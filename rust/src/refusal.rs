@@ -2,14 +2,14 @@ use core::fmt;
 
 /// Why a call was refused, with its place where there is one. A refused call has changed nothing.
 ///
-/// It prints as the listing program prints it:
+/// It prints in words:
 ///
 /// ```
 /// use yokemango::Refusal;
 ///
 /// let refusal = Refusal::Window { node: 2 };
 /// assert_eq!((refusal.number(), refusal.place()), (5, 2));
-/// assert_eq!(refusal.to_string(), "refused 5 place 2");
+/// assert_eq!(refusal.to_string(), "the window is out of range: node 2");
 /// ```
 #[derive(Clone, Copy, PartialEq, Eq, Debug, Hash)]
 pub enum Refusal {
@@ -118,6 +118,29 @@ impl Refusal {
         }
     }
 
+    /// The refusal in words, without its place.
+    pub fn words(self) -> &'static str {
+        match self {
+            Refusal::Length => "under 12 bytes, or a length that isn't 12 + 20 for each node",
+            Refusal::Version => "the version isn't 1",
+            Refusal::Sizes => "a size, an arity or the zero byte is out of range",
+            Refusal::Node { .. } => "an unknown kind, child, relation, variable or comparison, or a field without a meaning that isn't 0",
+            Refusal::Window { .. } => "the window is out of range",
+            Refusal::FreeVariables { .. } => "a condition on the free variables is broken",
+            Refusal::Parent { .. } => "the node isn't a child exactly once",
+            Refusal::State => "the state isn't well formed",
+            Refusal::Event => "under 2 words, over 32 rows, or a wrong length",
+            Refusal::Row { .. } => "no such relation, or an unused column that isn't 0",
+            Refusal::Time => "the time is below the last point's",
+            Refusal::Full => "10,000,000 points were taken already",
+            Refusal::Crowded { .. } => "over 32 valuations at a point newly settled",
+            Refusal::Backlog => "over 32 points would be open",
+            Refusal::Kept => "over 512 entries would be kept",
+            Refusal::Short { .. } => "the report buffer is too short",
+            Refusal::Report => "not a report, or no such entry",
+        }
+    }
+
     /// The refusal's place; 0 where there is none.
     pub fn place(self) -> u32 {
         match self {
@@ -131,7 +154,13 @@ impl Refusal {
 
 impl fmt::Display for Refusal {
     fn fmt(&self, out: &mut fmt::Formatter) -> fmt::Result {
-        write!(out, "refused {} place {}", self.number(), self.place())
+        out.write_str(self.words())?;
+        match *self {
+            Refusal::Node { node } | Refusal::Window { node } | Refusal::FreeVariables { node } | Refusal::Parent { node } | Refusal::Crowded { node } => write!(out, ": node {node}"),
+            Refusal::Row { row } => write!(out, ": row {row}"),
+            Refusal::Short { needed } => write!(out, ": {needed} words are needed"),
+            _ => Ok(()),
+        }
     }
 }
 
@@ -140,6 +169,36 @@ impl core::error::Error for Refusal {}
 #[cfg(test)]
 mod tests {
     use super::Refusal;
+
+    #[test]
+    fn words_and_names_are_those_of_the_header() {
+        let header = include_str!("../../include/yokemango.h");
+        for number in 1..=17 {
+            let refusal = Refusal::of(number, 9);
+            // the variant's name in capitals, its words parted by _
+            let name = std::format!("{refusal:?}").split(' ').next().unwrap().chars().enumerate().fold(std::string::String::new(), |mut name, (k, c)| {
+                if k > 0 && c.is_uppercase() {
+                    name.push('_');
+                }
+                name.push(c.to_ascii_uppercase());
+                name
+            });
+            assert!(header.contains(&std::format!("YOKEMANGO_REFUSED_{name} = {number}")), "{name}");
+            let words = std::format!("case YOKEMANGO_REFUSED_{name}: return \"{}\";", refusal.words());
+            assert!(header.contains(&words), "{words}");
+        }
+    }
+
+    #[test]
+    fn the_place_is_told() {
+        let said = [(4, "node 9"), (5, "node 9"), (6, "node 9"), (7, "node 9"), (10, "row 9"), (13, "node 9"), (16, "9 words are needed")];
+        for number in 1..=17 {
+            let refusal = Refusal::of(number, 9);
+            let place = said.iter().find(|(n, _)| *n == number);
+            let words = place.map_or(std::string::String::from(refusal.words()), |(_, place)| std::format!("{}: {place}", refusal.words()));
+            assert_eq!(std::format!("{refusal}"), words);
+        }
+    }
 
     #[test]
     fn number_and_place_come_back() {

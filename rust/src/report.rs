@@ -24,14 +24,13 @@ pub struct Report<'a> {
 }
 
 impl<'a> Report<'a> {
-    /// Reads words as a report, or refuses them by 17. Words past the report's end are ignored.
+    /// Reads words as a report, or refuses them by 17. Words past the report's end are ignored. The form is checked here, once,
+    /// and reading points and rows takes it as checked.
     pub fn read(words: &'a [u32]) -> Result<Report<'a>, Refusal> {
-        let in_form = match words {
-            // with no entry there is none to ask for: P, F and the total are in range
-            [0, columns, total, ..] => *columns as usize <= crate::COLUMNS && *total == 0,
-            _ => library::row_count(words, 0).is_some(),
-        };
-        if in_form { Ok(Report { words }) } else { Err(Refusal::Report) }
+        match library::check_report(words) {
+            0 => Ok(Report { words }),
+            _ => Err(Refusal::Report),
+        }
     }
 
     /// What the library has written is in form.
@@ -61,14 +60,8 @@ impl<'a> Report<'a> {
 
     /// The points, in their order.
     pub fn points(&self) -> Points<'a> {
-        Points { report: *self, next: 0 }
-    }
-
-    fn point(&self, k: usize) -> Option<Point<'a>> {
-        let count = library::row_count(self.words, k)?;
-        let triple = &self.words[3 + 3 * k..];
-        let rows = Rows { words: library::rows(self.words, k), columns: self.columns(), left: count as usize };
-        Some(Point { number: triple[0], time: triple[1], rows })
+        let (triples, rows) = self.words[3..].split_at(3 * self.len());
+        Points { triples, rows, columns: self.columns() }
     }
 }
 
@@ -99,21 +92,24 @@ impl<'a> IntoIterator for Report<'a> {
 /// The points of a report, in their order.
 #[derive(Clone)]
 pub struct Points<'a> {
-    report: Report<'a>,
-    next: usize,
+    // of the points to come: the point, time and row count of each, and the rows of all, end to end
+    triples: &'a [u32],
+    rows: &'a [u32],
+    columns: usize,
 }
 
 impl<'a> Iterator for Points<'a> {
     type Item = Point<'a>;
 
     fn next(&mut self) -> Option<Point<'a>> {
-        let point = self.report.point(self.next)?;
-        self.next += 1;
-        Some(point)
+        let (&[number, time, count], triples) = self.triples.split_first_chunk()?;
+        let (words, rows) = self.rows.split_at(self.columns * count as usize);
+        (self.triples, self.rows) = (triples, rows);
+        Some(Point { number, time, rows: Rows { words, columns: self.columns, left: count as usize } })
     }
 
     fn size_hint(&self) -> (usize, Option<usize>) {
-        let left = self.report.len() - self.next;
+        let left = self.triples.len() / 3;
         (left, Some(left))
     }
 }

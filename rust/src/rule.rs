@@ -22,9 +22,10 @@ impl<'a> Rule<'a> {
     /// assert_eq!(Rule::check(&file[..11]), Err(Refusal::Length));
     /// ```
     pub fn check(file: &'a [u8]) -> Result<Rule<'a>, Refusal> {
-        match library::check(file) {
-            (0, _, reach, free) => Ok(Rule { file, reach, free }),
-            (number, place, ..) => Err(Refusal::of(number, place)),
+        let checked = library::check(file);
+        match checked.number {
+            0 => Ok(Rule { file, reach: checked.reach, free: checked.free }),
+            number => Err(Refusal::of(number, checked.place)),
         }
     }
 
@@ -42,7 +43,7 @@ impl<'a> Rule<'a> {
     /// The pattern's free variables, ascending: they are the columns of a reported row.
     pub fn free_variables(&self) -> impl Iterator<Item = usize> {
         let free = self.free;
-        (0..crate::COLUMNS).filter(move |k| free >> k & 1 == 1)
+        (0..crate::MAX_COLUMNS).filter(move |k| free >> k & 1 == 1)
     }
 
     /// How many columns the relation has, if the rule has so many relations.

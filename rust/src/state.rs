@@ -37,14 +37,14 @@ impl State {
 
     /// The kept entries: at most 512.
     pub fn kept(&self) -> u32 {
-        library::kept(&self.0)
+        library::figures(&self.0).kept
     }
 
     /// The points that are taken and not yet reported: at most 32. The refusal is 8.
     pub fn open_points(&self) -> Result<u32, Refusal> {
-        let open = library::open_points(&self.0);
-        match open.number {
-            0 => Ok(open.points),
+        let figures = library::figures(&self.0);
+        match figures.number {
+            0 => Ok(figures.open_points),
             number => Err(Refusal::of(number, 0)),
         }
     }
@@ -69,7 +69,7 @@ impl fmt::Debug for State {
 #[cfg(test)]
 mod tests {
     use super::State;
-    use crate::{Event, Refusal, Rule, REPORT_WORDS, STATE_WORDS};
+    use crate::{Event, Refusal, Rule, MAX_REPORT_WORDS, STATE_WORDS};
 
     const LEAK: &[u8] = include_bytes!("../../examples/leak.rule");
 
@@ -77,7 +77,7 @@ mod tests {
     fn kept_is_as_the_scope_has_it() {
         let rule = Rule::check(LEAK).unwrap();
         let mut state = State::start(&rule).unwrap();
-        let mut buffer = [0; REPORT_WORDS];
+        let mut buffer = [0; MAX_REPORT_WORDS];
         let events = [(100, &[(0, 7), (0, 9)][..], 2), (130, &[(1, 9)], 3), (161, &[(1, 7)], 2), (191, &[(0, 9)], 2)];
         for (time, rows, kept) in events {
             let mut event = Event::new(&rule, time);

@@ -248,11 +248,11 @@ fn take(run: &mut Run, g: &mut Random, state: &mut State, log: &mut Log, words: 
 fn other_states(run: &mut Run, g: &mut Random, state: &State, events: &[Vec<u32>; 2]) {
     let words = *state.words();
     let raw = raw_of(&words);
-    // where each field begins: rule, length, points, times, retained, owners, numbers, values, count
-    let (length, points, times, retained, owners, numbers, values, count) = (163, 164, 165, 230, 231, 743, 1_255, 3_303);
+    // where each field begins: rule, bytes, points, times, retained, owners, numbers, values, count
+    let (bytes, points, times, retained, owners, numbers, values, count) = (163, 164, 165, 230, 231, 743, 1_255, 3_303);
     let kept = raw.count as usize;
-    let mut used: Vec<usize> = (0..(raw.length as usize).div_ceil(4)).collect();
-    used.extend([length, points, retained, count]);
+    let mut used: Vec<usize> = (0..(raw.bytes as usize).div_ceil(4)).collect();
+    used.extend([bytes, points, retained, count]);
     used.extend((0..raw.retained as usize).map(|k| times + k));
     for k in 0..kept {
         used.extend([owners + k, numbers + k]);

@@ -205,7 +205,13 @@ fn take_stored(
 }
 
 // Whether slices have the lengths of a state's arrays.
-fn lengths_fit(rule: &[u8], times: &[u32], owners: &[u32], numbers: &[u32], values: &[u32]) -> bool
+pub fn lengths_fit(
+    rule: &[u8],
+    times: &[u32],
+    owners: &[u32],
+    numbers: &[u32],
+    values: &[u32],
+) -> bool
     ensures { λ r. ⌜ r ≡ lengthsFit (now (rule .entry)) (now (times .entry)) (now (owners .entry)) (now (numbers .entry)) (now (values .entry)) ⌝ }
 {
     if rule.len() != RULE_BYTES {

@@ -1,10 +1,14 @@
 -- The claim about a whole list of exported calls holds.
 use Prim.Native.Nat.{ℕ}
 use mathlib.Core.Path.{_≡_, refl, _∙_, ap, ap₂}
+use mathlib.Core.Bool.{true}
 use mathlib.Core.List.{List, [], _∷_, map}
 use Rattle.meaning.specs.Outcome.{given}
 use Rattle.meaning.specs.RuleFile.{Accepted, checking}
 use Rattle.meaning.specs.Keeper.{Taking}
+use Rattle.method.specs.Step.{keptStored}
+use Rattle.figures.specs.Fronts.{openAnswer}
+use Rattle.lent_state.specs.Lent.{Lent, fitting, stored}
 use Rattle.monitor.specs.State.{lentOf}
 use Rattle.monitor.specs.Reports.{logOf}
 use Rattle.monitor.specs.declared.State.{State}
@@ -12,7 +16,7 @@ use Rattle.monitor.proofs.Reports.{reports}
 use Rattle.monitor.proofs.Along.{givenAll, lentAll, Stores, Along, along}
 use Rattle.monitor.proofs.Starting.{start-stores}
 use Rattle.monitor.proofs.WholeList.{kept-then, open-then}
-use Rattle.yokemango.specs.Numbers.{startParts, openParts}
+use Rattle.yokemango.specs.Numbers.{startParts, openIn, figuresOf}
 use Rattle.yokemango.specs.ExportedList.{ExportedCall, ExportedCalls, fedOf, Back, backOf, toldGiven, ExportedList}
 use Rattle.yokemango.specs.declared.StartParts.{StartParts}
 use Rattle.yokemango.specs.declared.Told.{Told}
@@ -34,6 +38,12 @@ as-takings s (x ∷ xs) s' (t, r) =
     back : Told → List ℕ → Back
     back told words = record { told = told; buffer = words }
 
+-- the figures of memory that fits, from those of what is stored in it
+figures-then : (m : Lent) {open-points entries : ℕ} → fitting m ≡ true → keptStored (stored m) ≡ entries → openAnswer (stored m) ≡ given open-points
+    → figuresOf m ≡ record { number = 0; open_points = open-points; kept = entries }
+unfolding openIn
+figures-then m f k o = rw (f, o, k)
+
 pub exported-list : (b : List ℕ) (r : StartParts) → r ≡ startParts b → (a : Accepted) → checking b ≡ given a
     → (xs : List ExportedCall) (s : State) → ExportedCalls (r .state) xs s → ExportedList b a xs s
 exported-list b r start a ok xs s calls =
@@ -44,6 +54,5 @@ exported-list b r start a ok xs s calls =
     record {
       answers = k .tells ∙ ap (map toldGiven) (all .gives);
       reports = reports b a ok ts;
-      keeps = kept-then b a ok ts (lentOf s) h;
-      opens = ap openParts (open-then b a ok ts (lentOf s) h);
+      figures = figures-then (lentOf s) (h .fits) (kept-then b a ok ts (lentOf s) h) (open-then b a ok ts (lentOf s) h);
     }

@@ -5,12 +5,10 @@ use mathlib.Core.List.{List, [], _∷_, map}
 use Rattle.meaning.specs.RuleFile.{Accepted}
 use Rattle.meaning.specs.Kept.{kept, openPoints}
 use Rattle.meaning.specs.Keeper.{Taking, Given, keeper}
-use Rattle.method.specs.Step.{keptStored}
-use Rattle.figures.specs.Fronts.{openAnswer}
-use Rattle.monitor.specs.State.{lentOf, stored}
+use Rattle.monitor.specs.State.{lentOf}
 use Rattle.monitor.specs.Reports.{logOf, Reports}
 use Rattle.monitor.specs.declared.State.{State}
-use Rattle.yokemango.specs.Numbers.{toldOf, openParts, TakesAs}
+use Rattle.yokemango.specs.Numbers.{toldOf, figuresOf, TakesAs}
 use Rattle.yokemango.specs.declared.Told.{Told}
 
 -- a call of `yokemango_take`: the event words and the buffer that it was handed, what it told, and the state and the buffer that it left in memory
@@ -47,6 +45,5 @@ pub record ExportedList (b : List ℕ) (a : Accepted) (xs : List ExportedCall) (
   pub answers : map backOf xs ≡ map toldGiven (keeper b [] (map fedOf xs))
   -- which points are thereby reported, when, and that their valuations are those of Definition 2 and stay so
   pub reports : Reports b a (map fedOf xs)
-  -- "after the list the state's kept count and the `open` figure are those of the keeper's log": what `yokemango_kept` and `yokemango_open_points` give, the latter with number 0 and never 8
-  pub keeps : keptStored (stored s) ≡ kept b (logOf b (map fedOf xs))
-  pub opens : openParts (openAnswer (stored s)) ≡ record { number = 0; points = openPoints b (logOf b (map fedOf xs)) }
+  -- "after the list the state's kept count and the `open` figure are those of the keeper's log": what `yokemango_figures` gives, with number 0 and never 8
+  pub figures : figuresOf (lentOf s) ≡ record { number = 0; open_points = openPoints b (logOf b (map fedOf xs)); kept = kept b (logOf b (map fedOf xs)) }

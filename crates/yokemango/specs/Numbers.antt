@@ -1,17 +1,19 @@
--- What starting, taking and the figure `open` give, in plain numbers.
+-- What starting, taking and the figures of a state give, in plain numbers.
 use Prim.Native.Nat.{ℕ}
 use mathlib.Core.Path.{_≡_}
+use mathlib.Core.Bool.{cond}
 use mathlib.Core.List.{List}
 use lib.ListN.{length}
-use Rattle.meaning.specs.Outcome.{Outcome, refused, given}
+use Rattle.meaning.specs.Outcome.{Outcome, refused, given, notWellFormed}
 use Rattle.meaning.specs.RuleFile.{checking}
 use Rattle.meaning.specs.Keeper.{bufferAfter}
-use Rattle.method.specs.Step.{reportNow}
-use Rattle.lent_state.specs.Lent.{Lent, stored, answerIn, lentAfter}
+use Rattle.method.specs.Step.{keptStored, reportNow}
+use Rattle.figures.specs.Fronts.{openAnswer}
+use Rattle.lent_state.specs.Lent.{Lent, fitting, stored, answerIn, lentAfter}
 use Rattle.monitor.specs.Contracts.{stateFor}
 use Rattle.yokemango.specs.Parts.{partsOf}
 use Rattle.yokemango.specs.declared.StartParts.{StartParts}
-use Rattle.yokemango.specs.declared.OpenParts.{OpenParts}
+use Rattle.yokemango.specs.declared.Figures.{Figures}
 use Rattle.yokemango.specs.declared.Told.{Told}
 
 -- the answer of checking, and the state beside it
@@ -23,12 +25,20 @@ abbrev pub toldOf : Outcome ℕ → Told
 toldOf (refused n p) = record { number = n; place = p; words = 0 }
 toldOf (given w) = record { number = 0; place = 0; words = w }
 
--- 0 and the figure `open`, or the number
-abbrev pub openParts : Outcome ℕ → OpenParts
-openParts (refused n p) = record { number = n; points = 0 }
-openParts (given k) = record { number = 0; points = k }
+-- 0 and the figure `open`, or the number; and the figure `kept`
+abbrev pub figuresWith : Outcome ℕ → ℕ → Figures
+figuresWith (refused n p) k = record { number = n; open_points = 0; kept = k }
+figuresWith (given o) k = record { number = 0; open_points = o; kept = k }
 
--- A taking in place: what `lent::take` promises, with its answer told in numbers.
+-- the figure `open` of what is lent: 8 where a length isn't a state's or what is stored isn't well formed
+unfoldable pub openIn : Lent → Outcome ℕ
+openIn m = cond (fitting m) (openAnswer (stored m)) (refused notWellFormed 0)
+
+-- the figures of what is lent
+abbrev pub figuresOf : Lent → Figures
+figuresOf m = figuresWith (openIn m) (keptStored (stored m))
+
+-- A taking in place: what `lent_state::take` promises, with its answer told in numbers.
 pub record TakesAs (m : Lent) (w buffer : List ℕ) (r : Told) (m' : Lent) (buffer' : List ℕ) : Type 0 where
   pub told : r ≡ toldOf (answerIn m w (length buffer))
   pub moved : m' ≡ lentAfter (answerIn m w (length buffer)) m w

@@ -1,6 +1,8 @@
 // The operations for programs in other languages. A slice is passed as its address and then its length.
 use figures::Open;
+use figures::open_points;
 use lent_state::Answer;
+use lent_state::lengths_fit;
 use limits::Refusal;
 use monitor::State;
 use refusals::of_event;
@@ -13,16 +15,16 @@ ghost use Rattle.meaning.specs.RuleFile.{checking};
 ghost use Rattle.rulefile.specs.Checked.{answerOf};
 ghost use Rattle.yokemango.specs.Parts.{partsOf};
 ghost use lib.ListN.{length};
-ghost use Rattle.meaning.specs.Report.{readCount, readRows};
+ghost use Rattle.meaning.specs.Report.{inForm, readCount, readRows};
 ghost use Rattle.report.specs.Answer.{partOf};
-ghost use Rattle.method.specs.Step.{keptStored};
 ghost use Rattle.limits.specs.Weighs.{refusalOf};
-ghost use Rattle.figures.specs.Fronts.{openAnswer};
-ghost use Rattle.monitor.specs.State.{stored};
+ghost use Rattle.figures.specs.Fronts.{openOf};
 ghost use Rattle.lent_state.specs.Lent.{lent, answerOf as answered};
-ghost use Rattle.yokemango.specs.Exported.{countOrNone, wordOrNone};
-ghost use Rattle.yokemango.specs.Numbers.{startParts, toldOf, openParts, TakesAs};
+ghost use Rattle.yokemango.specs.Exported.{formNumber, countOrNone, wordOrNone};
+ghost use Rattle.yokemango.specs.Numbers.{startParts, toldOf, figuresWith, figuresOf, TakesAs};
 
+// The answer of checking: 0, or the refusal's number and place; the reach, and the free variables, bit k for variable k.
+#[repr(C)]
 pub struct Parts {
     pub number: u32,
     pub place: u32,
@@ -52,36 +54,20 @@ fn parts_of(c: Checked) -> Parts
     }
 }
 
-// The refusal's number, or 0 where the rule is accepted.
+// Checks a rule: any bytes.
 #[no_mangle]
-pub extern "C" fn yokemango_check_number(rule: &[u8]) -> u32
-    ensures { λ r. ⌜ r ≡ partsOf (checking (now (rule .entry))) .number ⌝ }
+pub extern "C" fn yokemango_check(rule: &[u8]) -> Parts
+    ensures { λ r. ⌜ r ≡ partsOf (checking (now (rule .entry))) ⌝ }
 {
-    parts_of(check(rule)).number
+    parts_of(check(rule))
 }
 
-// The refusal's place.
+// 0 where the words are a report, else 17.
 #[no_mangle]
-pub extern "C" fn yokemango_check_place(rule: &[u8]) -> u32
-    ensures { λ r. ⌜ r ≡ partsOf (checking (now (rule .entry))) .place ⌝ }
+pub extern "C" fn yokemango_check_report(report: &[u32]) -> u32
+    ensures { λ r. ⌜ r ≡ formNumber (inForm (now (report .entry))) ⌝ }
 {
-    parts_of(check(rule)).place
-}
-
-// An accepted rule's reach.
-#[no_mangle]
-pub extern "C" fn yokemango_check_reach(rule: &[u8]) -> u32
-    ensures { λ r. ⌜ r ≡ partsOf (checking (now (rule .entry))) .reach ⌝ }
-{
-    parts_of(check(rule)).reach
-}
-
-// An accepted rule's free variables, bit k for variable k.
-#[no_mangle]
-pub extern "C" fn yokemango_check_free(rule: &[u8]) -> u32
-    ensures { λ r. ⌜ r ≡ partsOf (checking (now (rule .entry))) .free ⌝ }
-{
-    parts_of(check(rule)).free
+    if report::in_form(report) { 0 } else { 17 }
 }
 
 // The row count of entry `k`, or 4,294,967,296 for refusal 17.
@@ -136,11 +122,12 @@ pub struct StartParts {
     pub state: State,
 }
 
-// 0 and the figure `open`, or 8.
+// 0 and the points that are open, or 8; and the kept entries.
 #[repr(C)]
-pub struct OpenParts {
+pub struct Figures {
     pub number: u32,
-    pub points: u32,
+    pub open_points: u32,
+    pub kept: u32,
 }
 
 // The answer of a taking in numbers: 0 and the words written, or the refusal's number and place.
@@ -230,27 +217,51 @@ pub extern "C" fn yokemango_take(
     told_answer(answer)
 }
 
-// How many entries a state keeps.
-#[no_mangle]
-pub extern "C" fn yokemango_kept(state: State) -> u32
-    ensures { λ r. ⌜ r ≡ keptStored (stored state) ⌝ }
+fn figures_of(found: Open, kept: u32) -> Figures
+    ensures { λ r. ⌜ r ≡ figuresWith (openOf found) kept ⌝ }
 {
-    monitor::kept(state)
-}
-
-// The figure `open` of a state.
-#[no_mangle]
-pub extern "C" fn yokemango_open_points(state: State) -> OpenParts
-    ensures { λ r. ⌜ r ≡ openParts (openAnswer (stored state)) ⌝ }
-{
-    match monitor::open_points(state) {
-        Open::Points(n) => OpenParts {
+    match found {
+        Open::Points(n) => Figures {
             number: 0,
-            points: n,
+            open_points: n,
+            kept,
         },
-        Open::NotWellFormed => OpenParts {
+        Open::NotWellFormed => Figures {
             number: 8,
-            points: 0,
+            open_points: 0,
+            kept,
         },
     }
+}
+
+// The figures `open` and `kept` of a state that is lent: the parts of any state. Where a length isn't a state's the answer is 8.
+#[no_mangle]
+pub extern "C" fn yokemango_figures<'a>(
+    rule: &'a [u8],
+    bytes: u32,
+    points: u32,
+    times: &'a [u32],
+    retained: u32,
+    owners: &'a [u32],
+    numbers: &'a [u32],
+    values: &'a [u32],
+    count: u32,
+) -> Figures
+    ensures { λ r. ⌜ r ≡ figuresOf (lent (now (rule .entry)) bytes points (now (times .entry)) retained (now (owners .entry)) (now (numbers .entry)) (now (values .entry)) count) ⌝ }
+{
+    if !lengths_fit(rule, times, owners, numbers, values) {
+        return figures_of(Open::NotWellFormed, count);
+    }
+    let found = open_points(
+        rule,
+        bytes,
+        points,
+        times,
+        retained,
+        owners,
+        numbers,
+        values,
+        count,
+    );
+    figures_of(found, count)
 }
