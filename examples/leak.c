@@ -1,8 +1,8 @@
 /* Rule L of the scope, a leak that no closing follows within 60 seconds: reads the rule file that is named, takes the rule's
    four events and prints what the listing program prints.
 
-     cc -Iinclude -o leak examples/leak.c -Ltarget/staticlib -lyokemango
-     ./leak examples/leak.rule */
+     cc -Iinclude -o target/leak examples/leak.c -Ltarget/staticlib -lyokemango
+     target/leak examples/leak.rule */
 #include <inttypes.h>
 #include <stdio.h>
 #include "yokemango.h"

@@ -354,7 +354,7 @@ def try_documents(folder):
     return len(blocks)
 
 
-NEEDED = "rt python3 rustc cargo cc c++ valgrind setsid".split()
+NEEDED = "rt python3 rustc cargo cc c++ nm size valgrind setsid".split()
 
 
 def try_gate(folder):
