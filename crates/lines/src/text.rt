@@ -7,7 +7,7 @@ ghost use lib.ListN.{length};
 ghost use Rattle.writer.specs.Puts.{Put};
 ghost use Rattle.lines.specs.Text.{decimal, figure, acceptedLine, refusedLine, pointLine, lastLine, rowLine};
 
-fn put_text(out: &mut [u8], at: usize, text: &[u8]) -> usize
+pub fn put_text(out: &mut [u8], at: usize, text: &[u8]) -> usize
     requires { ⌜ at + length (now text) ≤ length (now out) ⌝ }
     ensures { λ r. ⌜ Put (now (out .entry)) at (now (text .entry)) (now (out .exit)) r ⌝ }
 {
