@@ -5,7 +5,8 @@
 //   target/listing_speed                  1,000,000 events of each rule, three times each
 //   target/listing_speed 20000 1          fewer, once: that both give the same points, rows and figures
 //
-// The program reads a file and writes a file, both below target/. In memory the events are words, and reports stay words.
+// The program reads a file and writes a file, both below target/. In memory the events are words, and reports stay words. Times are
+// of the processor, the system's part included, so that other work on the machine tells little.
 #[path = "../rust/benches/compare/events.rs"]
 mod events;
 mod library;
@@ -15,7 +16,6 @@ use std::fs::File;
 use std::hint::black_box;
 use std::io::{BufWriter, Write};
 use std::process::Command;
-use std::time::Instant;
 
 const INPUT: &str = "target/listing_speed.in";
 const OUTPUT: &str = "target/listing_speed.out";
@@ -35,6 +35,28 @@ const CASES: [Case; 6] = [
     Case { name: "32 nodes", file: include_bytes!("../examples/orchard.rule"), event: orchard },
 ];
 
+// What getrusage of the C library fills in: the times of user and system, in seconds and microseconds, and 14 counts.
+#[repr(C)]
+struct Usage {
+    times: [i64; 4],
+    counts: [i64; 14],
+}
+
+extern "C" {
+    fn getrusage(who: i32, usage: *mut Usage) -> i32;
+}
+
+const OWN: i32 = 0;
+const OF_CHILDREN: i32 = -1;
+
+// The seconds of the processor that this process, or those that it waited for, have used.
+fn used(who: i32) -> f64 {
+    let mut usage = Usage { times: [0; 4], counts: [0; 14] };
+    assert_eq!(unsafe { getrusage(who, &mut usage) }, 0);
+    let [user, user_part, system, system_part] = usage.times.map(|t| t as f64);
+    user + system + (user_part + system_part) / 1e6
+}
+
 // What a run gave: the points and rows reported, and the figures at its end.
 #[derive(Debug, PartialEq)]
 struct Gave {
@@ -48,7 +70,7 @@ struct Gave {
 fn in_memory(file: &[u8], words: &[u32], ends: &[usize]) -> (f64, Gave) {
     let (mut buffer, mut points, mut rows, mut from) = (vec![0; 4_326], 0, 0, 0);
     let mut state = library::start(file).state;
-    let began = Instant::now();
+    let began = used(OWN);
     for &end in ends {
         let told = library::take_in(&mut state, black_box(&words[from..end]), black_box(&mut buffer));
         assert_eq!(told.number, 0, "an event is refused by {}", told.number);
@@ -56,16 +78,16 @@ fn in_memory(file: &[u8], words: &[u32], ends: &[usize]) -> (f64, Gave) {
         rows += buffer[2] as u64;
         from = end;
     }
-    let spent = began.elapsed().as_secs_f64();
+    let spent = used(OWN) - began;
     (spent, Gave { points, rows, open: library::open(&state).points, kept: library::kept(&state) })
 }
 
 // Runs the listing program on the file.
 fn listed() -> f64 {
     let (input, output) = (File::open(INPUT).unwrap(), File::create(OUTPUT).unwrap());
-    let began = Instant::now();
+    let began = used(OF_CHILDREN);
     let ended = Command::new("target/bin/listing").stdin(input).stdout(output).status().expect("target/bin/listing is there");
-    let spent = began.elapsed().as_secs_f64();
+    let spent = used(OF_CHILDREN) - began;
     assert!(ended.success(), "the listing program ended with {ended}");
     spent
 }
