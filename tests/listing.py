@@ -4,19 +4,26 @@
     rt check listing
     listing.py [--program PROGRAM] [--seed SEED] CASES [FOLDER ..]
 
-First inputs at the limits: rules of 32 nodes, 652 and 653 bytes, events of 32 and 33 rows, 400 events, a report of 4,326 words, and
-a small input cut at every byte. Then CASES inputs are generated: rules of up to seven nodes (one in five damaged in a byte) with up to
+First inputs at the limits: rules of 32 nodes, 652 and 653 bytes, events of 32 and 33 rows, 400 events, reports of 4,326 words, and
+a small input cut at every byte. Then a live log: each event is sent once the answer before it has come, and each byte of an event in
+turn is the last that is sent before a pause. Then inputs of many blocks, from a file and through a pipe. Then CASES inputs are generated: rules of up to seven nodes (one in five damaged in a byte) with up to
 40 events, then in part cut, lengthened by stray bytes, given a wrong length word, or replaced by garbage. In each FOLDER every NAME.in
 is run and what is printed compared with NAME.out. The default program is target/bin/listing. Exits with 1 on any difference, or where
 one of the ways to end a run was met less than once in 200 cases.
 """
 import argparse
+import array
 import collections
+import fcntl
 import pathlib
 import random
+import select
 import struct
 import subprocess
 import sys
+import tempfile
+import termios
+import time
 
 import definitions
 import plain
@@ -24,6 +31,8 @@ import text
 
 TOP = pathlib.Path(__file__).resolve().parent.parent
 CASES_TO_A_MEETING = 200
+# Seconds after which a live log counts as not answered.
+PATIENCE = 30
 
 
 def log(rng, arities):
@@ -112,6 +121,9 @@ def limits(rng):
     rows = [(0, [7, 2**32 - 1, k // 4, 31 - k]) for k in range(32)]
     events = [event(10 * i, rows if i == 32 else []) for i in range(33)] + [event(1320, [])]
     yield "4,326 words", struct.pack("<I", len(late)) + late + b"".join(events)
+    longest = [(0, [2**32 - 1] * 3 + [2**32 - 1 - k]) for k in range(32)]
+    again = [event(10**9 + 2000 * k + 10 * i, longest if i == 32 else []) for k in range(4) for i in range(33)] + [event(2**32 - 1, [])]
+    yield "4,326 words, four times", struct.pack("<I", len(late)) + late + b"".join(again)
 
     whole = struct.pack("<I", 32) + small + event(5, [(0, [10])]) + event(6, [(0, [99]), (0, [100])])
     for n in range(len(whole) + 1):
@@ -122,6 +134,112 @@ def run(program, data):
     """What the program prints. It ends by itself, whatever it is fed."""
     done = subprocess.run([program], input=data, stdout=subprocess.PIPE, stderr=subprocess.STDOUT, timeout=60)
     return done.stdout if done.returncode == 0 else done.stdout + b"ended with %d\n" % done.returncode
+
+
+class Live:
+    """The listing program on a log that isn't there yet. What it prints has to come by itself, while its input stays open."""
+
+    def __init__(self, program):
+        self.process = subprocess.Popen([program], stdin=subprocess.PIPE, stdout=subprocess.PIPE, bufsize=0)
+        self.printed = b""
+
+    def send(self, data):
+        self.process.stdin.write(data)
+
+    def read(self):
+        """Waits until the program has read all that was sent."""
+        unread, until = array.array("i", [1]), time.monotonic() + PATIENCE
+        while unread[0]:
+            if time.monotonic() > until:
+                sys.exit(f"live log: {unread[0]} bytes stay unread")
+            fcntl.ioctl(self.process.stdin, termios.FIONREAD, unread)
+
+    def answered(self, n):
+        """Whether n bytes are printed in time."""
+        until = time.monotonic() + PATIENCE
+        while len(self.printed) < n and select.select([self.process.stdout], [], [], max(0, until - time.monotonic()))[0]:
+            more = self.process.stdout.read(65536)
+            if not more:
+                break
+            self.printed += more
+        return len(self.printed) >= n
+
+    def end(self):
+        """All that it printed, once its input has ended."""
+        self.process.stdin.close()
+        while more := self.process.stdout.read(65536):
+            self.printed += more
+        self.process.stdout.close()
+        self.process.wait(PATIENCE)
+        return self.printed
+
+
+def live(program):
+    """A live log: how many events were answered before the next was sent."""
+    head = struct.pack("<I", 32) + text.file_of(atom(1), [1])
+    rows = [(0, [k]) for k in range(32)]
+    events = [event(k // 3, rows[:k % 7]) for k in range(40)] + [event(3, []), event(30, [(1, [5])]), event(30, rows)]
+    whole = event(60, [(0, [8]), (0, [2**32 - 1])])
+    parted = [(whole, cut) for cut in range(1, len(whole))]
+    log = Live(program)
+    sent, expected = b"", b"rule ok reach 0\n"
+    for data, cut in [(head, 0)] + [(e, 0) for e in events] + parted:
+        if cut:
+            log.send(data[:cut])
+            log.read()
+            if select.select([log.process.stdout], [], [], 0)[0]:
+                sys.exit(f"live log: an answer before the event is whole, {cut} bytes of {len(data)}")
+        log.send(data[cut:])
+        sent += data
+        # without the last line, which only the end of input prints
+        expected = plain.listing(sent).encode().rsplit(b"\n", 2)[0] + b"\n"
+        if not log.answered(len(expected)):
+            sys.exit(f"live log: no answer in {PATIENCE} s to {data.hex()}, with {cut} bytes of it sent before the others")
+        if log.printed != expected:
+            differ("live log", sent, log.printed, expected)
+    if log.end() != plain.listing(sent).encode():
+        differ("live log, at its end", sent, log.printed, plain.listing(sent).encode())
+    return len(events), len(parted)
+
+
+def many_blocks(program, rng):
+    """Inputs of many blocks, from a file, through a pipe, and through one in parts of other lengths."""
+    head = struct.pack("<I", 32) + text.file_of(atom(1), [1])
+    sizes = {"8 bytes each": [0] * 20_000, "648 bytes each": [32] * 800, "any size": [rng.randint(0, 32) for _ in range(3_000)]}
+    for what, counts in sizes.items():
+        data, lines = [head], ["rule ok reach 0"]
+        for k, m in enumerate(counts):
+            values = [rng.randrange(40) for _ in range(m)]
+            data.append(event(k, [(0, [v]) for v in values]))
+            lines.append(f"point {k} time {k} rows {len(set(values))}")
+            lines += map(str, sorted(set(values)))
+        data, expected = b"".join(data), "\n".join(lines + ["open 0 kept 0", ""]).encode()
+        with tempfile.TemporaryFile() as file:
+            file.write(data)
+            file.seek(0)
+            by_file = subprocess.run([program], stdin=file, stdout=subprocess.PIPE, timeout=60).stdout
+        parts = subprocess.Popen([sys.executable, "-c", PARTS], stdin=subprocess.PIPE, stdout=subprocess.PIPE)
+        with subprocess.Popen([program], stdin=parts.stdout, stdout=subprocess.PIPE) as by_parts:
+            parts.stdout.close()
+            parts.stdin.write(data)
+            parts.stdin.close()
+            printed = by_parts.stdout.read()
+        parts.wait(PATIENCE)
+        for how, got in ("a file", by_file), ("a pipe", run(program, data)), ("a pipe, in parts", printed):
+            if got != expected:
+                sys.exit(f"difference: many blocks, {what}, from {how}")
+        yield len(counts)
+
+
+# Copies its input to its output, in parts whose lengths go round.
+PARTS = """
+import os, sys
+data = sys.stdin.buffer.read()
+at, k = 0, 0
+while at < len(data):
+    at += os.write(1, data[at:at + (1, 7, 649, 4096, 65537)[k % 5]])
+    k += 1
+"""
 
 
 def differ(what, data, printed, expected):
@@ -156,6 +274,8 @@ def main():
     for what, data in limits(rng):
         compare(args.program, what, data)
         at_limits[what] += 1
+    answered, parted = live(args.program)
+    blocks = sum(many_blocks(args.program, random.Random(args.seed)))
     for k in range(args.cases):
         how, data = generated(rng)
         expected = compare(args.program, f"case {k} of seed {args.seed}, {how}", data)
@@ -166,6 +286,8 @@ def main():
                 lines[" ".join(words[:2]) if words[0] == "refused" else words[0] if words[0].isalpha() else "row"] += 1
     print(f"{len(files)} files and {args.cases} generated inputs compared; no difference")
     print("limits: " + ", ".join(f"{what} {n}" for what, n in sorted(at_limits.items())))
+    print(f"live log: {answered + parted} events answered before the next was sent, {parted} of them sent in two parts")
+    print(f"many blocks: {blocks} events, each from a file and twice through a pipe")
     print("inputs: " + ", ".join(f"{how} {n}" for how, n in sorted(met.items())))
     print("lines: " + ", ".join(f"{what} {n}" for what, n in sorted(lines.items())))
     wanted = [lines[what] for what in ("point", "row", "open", "refused 1", "refused 4", "refused 9", "refused 10", "refused 11", "refused 13")]

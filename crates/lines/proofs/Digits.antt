@@ -12,7 +12,7 @@ use Rattle.io.specs.Digits.{glyph, digits, Fewest}
 use Rattle.lines.specs.Text.{digitsWithin, decimal}
 
 -- a digit below ten is `0` to `9`
-low-glyph : (d : ℕ) → d < 10 → glyph d ≡ 48 + d
+pub low-glyph : (d : ℕ) → d < 10 → glyph d ≡ 48 + d
 low-glyph d h = rw (lt-ltb d 10 h)
 
 -- the digits before the last are the fewest of the quotient

@@ -1,5 +1,6 @@
 -- Facts that several needs rest on.
 pub mod Digits
+pub mod Spelling
 pub mod Lines
 pub mod Putting
 pub mod Points

@@ -1,4 +1,4 @@
-// The text of an answer, put into the front of lent bytes.
+// The text of an answer, put into lent bytes.
 use crate::text::put_accepted;
 use crate::text::put_point;
 use crate::text::put_refused;
@@ -64,14 +64,14 @@ fn put_rows(
 }
 
 // Puts each point of a report and its rows below it.
-fn put_points(out: &mut [u8], words: &[u32]) -> usize
+fn put_points(out: &mut [u8], at: usize, words: &[u32]) -> usize
     requires { ⌜ inForm (now words) ≡ true ⌝ }
-    requires { ⌜ length (reportText (now words)) ≤ length (now out) ⌝ }
-    ensures { λ r. ⌜ Put (now (out .entry)) 0 (reportText (now (words .entry))) (now (out .exit)) r ⌝ }
+    requires { ⌜ at + length (reportText (now words)) ≤ length (now out) ⌝ }
+    ensures { λ r. ⌜ Put (now (out .entry)) at (reportText (now (words .entry))) (now (out .exit)) r ⌝ }
 {
     let points = size(words[0]);
     let width = size(words[1]);
-    let mut end = 0;
+    let mut end = at;
     let mut start = 3 + 3 * points;
     let mut k = 0;
     while k < points {
@@ -87,12 +87,12 @@ fn put_points(out: &mut [u8], words: &[u32]) -> usize
 }
 
 // Puts the points of a report of at most 4,326 words, such as the listing's buffer has; any words whatever, and nothing where they are no report. Each value takes at most 11 bytes, and each point 49 more.
-pub fn put_report(out: &mut [u8], words: &[u32]) -> usize
-    requires { ⌜ (53504 ≤ length (now out)) × (length (now words) ≤ 4326) ⌝ }
-    ensures { λ r. ⌜ Put (now (out .entry)) 0 (reportText (now (words .entry))) (now (out .exit)) r ⌝ }
+pub fn put_report(out: &mut [u8], at: usize, words: &[u32]) -> usize
+    requires { ⌜ (at + 53504 ≤ length (now out)) × (length (now words) ≤ 4326) ⌝ }
+    ensures { λ r. ⌜ Put (now (out .entry)) at (reportText (now (words .entry))) (now (out .exit)) r ⌝ }
 {
     if !report::in_form(words) {
-        return 0;
+        return at;
     }
-    put_points(out, words)
+    put_points(out, at, words)
 }

@@ -12,3 +12,4 @@ pub use input::rule_end;
 pub use input::rule_in;
 pub use text::put_last;
 pub use text::put_refused;
+pub use text::put_text;

@@ -4,10 +4,11 @@ use meaning::Stamp;
 use refusals::Numbered;
 ghost use Prim.Native.Nat.{_+_, _≤_};
 ghost use lib.ListN.{length};
+ghost use Rattle.io.specs.Digits.{digits, Fewest};
 ghost use Rattle.writer.specs.Puts.{Put};
 ghost use Rattle.lines.specs.Text.{decimal, figure, acceptedLine, refusedLine, pointLine, lastLine, rowLine};
 
-fn put_text(out: &mut [u8], at: usize, text: &[u8]) -> usize
+pub fn put_text(out: &mut [u8], at: usize, text: &[u8]) -> usize
     requires { ⌜ at + length (now text) ≤ length (now out) ⌝ }
     ensures { λ r. ⌜ Put (now (out .entry)) at (now (text .entry)) (now (out .exit)) r ⌝ }
 {
@@ -20,13 +21,61 @@ fn put_text(out: &mut [u8], at: usize, text: &[u8]) -> usize
     at + n
 }
 
+// How many digits a number has.
+fn digit_count(n: u32) -> usize
+    ensures { λ r. ⌜ Fewest 10 1 n r ⌝ }
+{
+    if n < 10 {
+        return 1;
+    }
+    if n < 100 {
+        return 2;
+    }
+    if n < 1000 {
+        return 3;
+    }
+    if n < 10000 {
+        return 4;
+    }
+    if n < 100000 {
+        return 5;
+    }
+    if n < 1000000 {
+        return 6;
+    }
+    if n < 10000000 {
+        return 7;
+    }
+    if n < 100000000 {
+        return 8;
+    }
+    if n < 1000000000 {
+        return 9;
+    }
+    10
+}
+
+// Puts the last `k` digits of a number, the last one first.
+fn put_digits(out: &mut [u8], at: usize, k: usize, n: u32)
+    requires { ⌜ at + k ≤ length (now out) ⌝ }
+    ensures { λ _. ⌜ Put (now (out .entry)) at (digits 10 k n) (now (out .exit)) (at + k) ⌝ }
+{
+    let mut i = k;
+    let mut rest = n;
+    while 0 < i {
+        i -= 1;
+        out[at + i] = 48 + (rest % 10) as u8;
+        rest /= 10;
+    }
+}
+
 fn put_number(out: &mut [u8], at: usize, n: u32) -> usize
     requires { ⌜ at + length (decimal n) ≤ length (now out) ⌝ }
     ensures { λ r. ⌜ Put (now (out .entry)) at (decimal n) (now (out .exit)) r ⌝ }
 {
-    let mut digits = [0u8; 20];
-    let k = io::decimal(n as u64, &mut digits);
-    put_text(out, at, &digits[..k])
+    let k = digit_count(n);
+    put_digits(out, at, k, n);
+    at + k
 }
 
 // Puts some words and a figure behind them.

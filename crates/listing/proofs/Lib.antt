@@ -1,2 +1,3 @@
 -- Facts that several needs of the program rest on.
 pub mod Texts
+pub mod Rests

@@ -2,7 +2,8 @@
 mod input;
 mod text;
 
-use input::read_event;
+use input::is_short;
+use input::read_more;
 use input::read_rule;
 use libc::STDOUT_FILENO;
 use lines::Next;
@@ -15,33 +16,94 @@ use monitor::State;
 use rulefile::Checked;
 use text::put_answer;
 use text::put_end;
+ghost use Prim.Native.Nat.{_+_, _≤_};
+ghost use lib.ListN.{length};
 
 // Rows at most that an event has.
 const ROWS: usize = MOST_ROWS as usize;
 
-// Takes the events on standard input and prints the answers, then the last line; the count of turns only bounds the loop.
+// Bytes at most that an answer's text has.
+const LARGEST: usize = 53504;
+
+// Writes the text up to `at` where the largest answer has no room behind it, and answers where the next one goes.
+fn make_room(text: &[u8], at: usize) -> usize
+    requires { ⌜ (at ≤ length (now text)) × (53504 ≤ length (now text)) ⌝ }
+    ensures { λ r. ⌜ r + 53504 ≤ length (now (text .entry)) ⌝ }
+{
+    if text.len() - at >= LARGEST {
+        return at;
+    }
+    io::write_all(STDOUT_FILENO, &text[0..at]);
+    0
+}
+
+// Takes the events on standard input and prints the answers, then the last line. Each turn takes an event, or reads where none is whole, once the text so far is written; the count of turns only bounds the loop. The state is changed where it stands.
 fn take_all(first: State) {
-    let mut bytes = [0u8; 8 + 20 * ROWS];
+    let mut bytes = [0u8; 65536];
     let mut event = [0u32; 2 + 5 * ROWS];
     let mut report = [0u32; 4326];
-    let mut text = [0u8; 53504];
-    let mut state = first;
+    let mut text = [0u8; 65536];
+    let rule = first.rule;
+    let mut points = first.points;
+    let mut times = first.times;
+    let mut retained = first.retained;
+    let mut owners = first.owners;
+    let mut numbers = first.numbers;
+    let mut values = first.values;
+    let mut count = first.count;
+    let mut ended = false;
+    let mut from = 0;
+    let mut to = 0;
+    let mut at = 0;
     let mut turns: u64 = 18446744073709551615;
     while turns > 0 {
-        let got = read_event(&mut bytes);
-        let next = next_event(&bytes[0..got], &mut event);
+        turns -= 1;
+        if is_short(&bytes[from..to], ended) {
+            io::write_all(STDOUT_FILENO, &text[0..at]);
+            let n = read_more(&mut bytes, from, to);
+            ended = n == to - from;
+            from = 0;
+            to = n;
+            at = 0;
+            continue;
+        }
+        let next = next_event(&bytes[from..to], &mut event);
         let Next::Event(n) = next else {
-            let end = put_end(&mut text, next, state);
+            let state = State {
+                rule,
+                bytes: first.bytes,
+                points,
+                times,
+                retained,
+                owners,
+                numbers,
+                values,
+                count,
+            };
+            let end = put_end(&mut text, at, next, state);
             io::write_all(STDOUT_FILENO, &text[0..end]);
             return;
         };
-        let step = monitor::take(state, &event[0..n], &mut report);
-        let answer = step.answer;
-        let end = put_answer(&mut text, answer, &report);
-        io::write_all(STDOUT_FILENO, &text[0..end]);
-        let taken = step.state;
-        state = taken;
-        turns -= 1;
+        let left = lent_state::take(
+            &rule,
+            first.bytes,
+            points,
+            &mut times,
+            retained,
+            &mut owners,
+            &mut numbers,
+            &mut values,
+            count,
+            &event[0..n],
+            &mut report,
+        );
+        points = left.points;
+        retained = left.retained;
+        count = left.count;
+        let answer = left.answer;
+        let end = put_answer(&mut text, at, answer, &report);
+        at = make_room(&text, end);
+        from += 4 * n;
     }
 }
 

@@ -1,4 +1,4 @@
-// What is printed for a taking's answer and at the end of a run, put to the front of lent bytes.
+// What is printed for a taking's answer and at the end of a run, put into lent bytes from a place on.
 use figures::Open;
 use lent_state::Answer;
 use limits::Refusal;
@@ -17,26 +17,26 @@ ghost use Rattle.lines.specs.Answers.{answerText};
 ghost use Rattle.listing.specs.Ends.{cutText, figuresText, endText};
 
 // Puts what a taking answered; `report` is the buffer that it was lent.
-pub fn put_answer(out: &mut [u8], answer: Answer, report: &[u32]) -> usize
-    requires { ⌜ (53504 ≤ length (now out)) × (length (now report) ≤ 4326) ⌝ }
-    ensures { λ r. ⌜ Put (now (out .entry)) 0 (answerText (answerOf answer) (now (report .entry))) (now (out .exit)) r ⌝ }
-    ensures { λ r. ⌜ r ≤ 53504 ⌝ }
+pub fn put_answer(out: &mut [u8], at: usize, answer: Answer, report: &[u32]) -> usize
+    requires { ⌜ (at + 53504 ≤ length (now out)) × (length (now report) ≤ 4326) ⌝ }
+    ensures { λ r. ⌜ Put (now (out .entry)) at (answerText (answerOf answer) (now (report .entry))) (now (out .exit)) r ⌝ }
+    ensures { λ r. ⌜ r ≤ at + 53504 ⌝ }
 {
     match answer {
-        Answer::Written(_) => put_report(out, report),
-        Answer::Refused(refusal) => put_refused(out, 0, of_event(refusal)),
+        Answer::Written(_) => put_report(out, at, report),
+        Answer::Refused(refusal) => put_refused(out, at, of_event(refusal)),
     }
 }
 
 // Puts the refusal of an event that is cut short.
-fn put_cut(out: &mut [u8], next: Next) -> usize
-    requires { ⌜ 64 ≤ length (now out) ⌝ }
-    ensures { λ r. ⌜ Put (now (out .entry)) 0 (cutText next) (now (out .exit)) r ⌝ }
+fn put_cut(out: &mut [u8], at: usize, next: Next) -> usize
+    requires { ⌜ at + 64 ≤ length (now out) ⌝ }
+    ensures { λ r. ⌜ Put (now (out .entry)) at (cutText next) (now (out .exit)) r ⌝ }
 {
     match next {
-        Next::Cut => put_refused(out, 0, of_event(Refusal::NotAnEvent)),
-        Next::Event(_) => 0,
-        Next::Ended => 0,
+        Next::Cut => put_refused(out, at, of_event(Refusal::NotAnEvent)),
+        Next::Event(_) => at,
+        Next::Ended => at,
     }
 }
 
@@ -53,11 +53,11 @@ fn put_figures(out: &mut [u8], at: usize, state: State) -> usize
 }
 
 // Puts what ends a run: why no further event is read, and the last line.
-pub fn put_end(out: &mut [u8], next: Next, state: State) -> usize
-    requires { ⌜ 128 ≤ length (now out) ⌝ }
-    ensures { λ r. ⌜ Put (now (out .entry)) 0 (endText next (stored state)) (now (out .exit)) r ⌝ }
-    ensures { λ r. ⌜ r ≤ 128 ⌝ }
+pub fn put_end(out: &mut [u8], at: usize, next: Next, state: State) -> usize
+    requires { ⌜ at + 128 ≤ length (now out) ⌝ }
+    ensures { λ r. ⌜ Put (now (out .entry)) at (endText next (stored state)) (now (out .exit)) r ⌝ }
+    ensures { λ r. ⌜ r ≤ at + 128 ⌝ }
 {
-    let at = put_cut(out, next);
-    put_figures(out, at, state)
+    let after = put_cut(out, at, next);
+    put_figures(out, after, state)
 }

@@ -13,11 +13,11 @@ use Rattle.lines.proofs.answers.put_points.Statement.{statement}
 use Rattle.lines.proofs.answers.put_points.Tie as tie
 
 abbrev Inv-loop : tie.InvT-loop
-Inv-loop out₀ words points width end₀ start₀ k₀ out end start k =
-    (length out ≡ length out₀) × Listed words points width start k × Putting out₀ 0 (reportText words) out end (gather (give words) (range k (points - k)))
+Inv-loop out₀ at words points width end₀ start₀ k₀ out end start k =
+    (length out ≡ length out₀) × Listed words points width start k × Putting out₀ at (reportText words) out end (gather (give words) (range k (points - k)))
 
 abbrev μ-loop : tie.MeasureT-loop
-μ-loop out₀ words points width end₀ start₀ k₀ out end start k = points - k
+μ-loop out₀ at words points width end₀ start₀ k₀ out end start k = points - k
 
 loop-holds : tie.Need-loop-holds Inv-loop μ-loop
 loop-holds c =

@@ -1,9 +1,8 @@
 -- `put_number` meets its contract: what is put are the digits of the definition.
 use native.Mathlib.Omega.{arith}
-use mathlib.Core.Path.{_∙_, ap}
-use lib.ListN.{length}
 use borrow.Author.Needs.{needs}
 use Rattle.lines.proofs.Digits.{decimal-digits}
+use Rattle.lines.proofs.Spelling.{decimal-long}
 use Rattle.lines.proofs.text.put_number.Statement.{statement}
 use Rattle.lines.proofs.text.put_number.Tie as tie
 
@@ -12,8 +11,7 @@ put-number-spec =
     tie.close
     (tie.spec
     (λ c κs. search needs)
+    (λ c κs. omega (arith, decimal-long (c .before .before .before .args .n) _ (omega arith) (c .before .digit-count .ensures)))
+    (λ c. omega (arith, decimal-long (c .before .before .before .before .before .before .args .n) _ (omega arith) (c .before .before .before .before .digit-count .ensures)))
     (λ c. search needs)
-    (λ c. search needs)
-    (λ c κs. omega (arith, ap length (c .before .before .decimal .ensures .1 .1 ∙ decimal-digits _ _ (omega arith) (c .before .before .decimal .ensures .1 .0))))
-    (λ c. search needs)
-    (λ c. rw (c .before .before .before .before .before .decimal .ensures .1 .1 ∙ decimal-digits _ _ (omega arith) (c .before .before .before .before .before .decimal .ensures .1 .0)) at (c .before .before .put-text .ensures)))
+    (λ c. rw (decimal-digits _ _ (omega arith) (c .before .before .before .before .digit-count .ensures)) at (c .before .before .put-digits .ensures)))
