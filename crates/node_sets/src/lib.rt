@@ -5,9 +5,45 @@ ghost use lib.ListN.{length, getD};
 ghost use Rattle.rowset.specs.Sets.{Run};
 ghost use Rattle.kinds.specs.Kinds.{pairsFrom};
 ghost use Rattle.room.specs.Room.{setAt, SetsInOrder};
-ghost use Rattle.node_sets.specs.Shelved.{setEntries, agedEntries, Spaces, Loaded};
+ghost use Rattle.node_sets.specs.Shelved.{setEntries, agedEntries, Spaces, NumbersWithin, Loaded};
 ghost use Rattle.node_sets.specs.Blocks.{MovedDown, RoomToKeep, EntriesPut};
-ghost use Rattle.node_sets.specs.Parts.{Moved, MarksLowered, PointsPut};
+ghost use Rattle.node_sets.specs.Parts.{EndsMarked, MarksRaised, Moved, MarksLowered, PointsPut};
+
+// Marks where each point's rows end, where those of the entries from cursor on begin at row `end`: for each entry the mark behind its point's set, that of point low being set `sets`, is the row behind its own. The last entry of a point stays.
+fn mark_ends(
+    numbers: &[u32],
+    cursor: usize,
+    count: usize,
+    low: Point,
+    at: &mut [u32],
+    sets: usize,
+    end: usize,
+)
+    requires { ⌜ (cursor ≤ count) × (count ≤ length (now numbers)) × NumbersWithin (now numbers) cursor count (low .0) (length (now at) - 1 - sets) × (end + (count - cursor) < 4294967296) ⌝ }
+    ensures { λ _. ⌜ EndsMarked (now (numbers .entry)) cursor count (low .0) (now (at .entry)) (now (at .exit)) sets end ⌝ }
+{
+    let mut i = cursor;
+    while i < count {
+        let p = (numbers[i] - low.0) as usize;
+        i += 1;
+        at[sets + p + 1] = (end + (i - cursor)) as u32;
+    }
+}
+
+// Raises each of n marks behind mark `sets` to the highest before it.
+fn raise_marks(at: &mut [u32], sets: usize, n: usize)
+    requires { ⌜ sets + n < length (now at) ⌝ }
+    ensures { λ _. ⌜ MarksRaised (now (at .entry)) (now (at .exit)) sets n ⌝ }
+{
+    let mut m = at[sets];
+    let mut k = 0;
+    while k < n {
+        k += 1;
+        let a = at[sets + k];
+        m = if m < a { a } else { m };
+        at[sets + k] = m;
+    }
+}
 
 // Appends a node's sets at n points, from low on, behind `sets` others: the rows of its entries from cursor on before count, all at once, and a mark behind those of each point.
 pub fn load_sets(
@@ -21,18 +57,17 @@ pub fn load_sets(
     at: &mut [u32],
     sets: usize,
 )
-    requires { ⌜ (count ≤ length (now numbers)) × Run (now values) cursor count × Spaces (now rows) (now at) sets n (count - cursor) × (low .0 + n < 4294967296) ⌝ }
+    requires { ⌜ (count ≤ length (now numbers)) × Run (now values) cursor count × Spaces (now rows) (now at) sets n (count - cursor) × NumbersWithin (now numbers) cursor count (low .0) n ⌝ }
     ensures { λ _. ⌜ Loaded (now (numbers .entry)) (now (values .entry)) cursor count low n (now (rows .entry)) (now (at .entry)) (now (rows .exit)) (now (at .exit)) sets ⌝ }
 {
+    if n == 0 {
+        return;
+    }
     let end = at[sets] as usize;
     entries::copy_rows(values, cursor, count, rows, end);
-    let mut next = cursor;
-    let mut k = 0;
-    while k < n {
-        next = entries::run_end(numbers, next, count, low.0 + k as u32);
-        k += 1;
-        at[sets + k] = (end + (next - cursor)) as u32;
-    }
+    entries::fill(end as u32, n, at, sets + 1);
+    mark_ends(numbers, cursor, count, low, at, sets, end);
+    raise_marks(at, sets, n);
 }
 
 // Copies rows from..to to row end and on, which isn't behind them.
