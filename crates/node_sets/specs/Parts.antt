@@ -40,3 +40,8 @@ pub record PointsPut (at : List ℕ) (q n from : ℕ) (old : List ℕ) (end : �
   pub long : length new ≡ length old
   pub below : (j : ℕ) → j < end → getD new j 0 ≡ getD old j 0
   pub there : PointsStand at q n from new end
+
+-- the points of the rows of n sets from set q on are within the words from word end on
+pub record Numbered (at : List ℕ) (q n from : ℕ) (words : List ℕ) (end : ℕ) : Type 0 where
+  pub points : PointsStand at q n from words end
+  pub within : end + (getD at (q + n) 0 - getD at q 0) ≤ length words
