@@ -32,12 +32,12 @@ unfolding rowsFrom
 no-rows ws a = refl
 
 -- the points from j on go on to those from `from` on before to, which have sets; as many marks stand
-pub record RunLaid (marks first low j from to m : ℕ) : Type 0 where
-  pub begun : j ≤ from
-  pub ordered : from ≤ to
-  pub within : to ≤ m
-  pub low-most : low ≤ from
-  pub marked : first + (to - low) < marks
+pub record RunLaid (marks first : ℕ) (low j from to : Point) (m : ℕ) : Type 0 where
+  pub begun : j .0 ≤ from .0
+  pub ordered : from .0 ≤ to .0
+  pub within : to .0 ≤ m
+  pub low-most : low .0 ≤ from .0
+  pub marked : first + (to .0 - low .0) < marks
 
 module _ (rows at : List ℕ) (first : ℕ) (low : Point) where
   -- the mark of the set at point a
@@ -62,7 +62,7 @@ module _ (rows at : List ℕ) (first : ℕ) (low : Point) where
       rw e (ap (λ us. setAt rows at first low (point a) ++ us) rest ∙ sym (rw (d, h) at (rows-append rows (mark a) (step - mark a) (mark (suc a + n) - step))))
 
   module _ {i : Point} {m : ℕ} (s : Stand rows at first low i m) where
-    pub run-laid : {p : Point → Bool} {j from to : ℕ} → i .0 ≤ j → DueRun p j m false from → DueRun p from m true to → RunLaid (length at) first (low .0) j from to m
+    pub run-laid : {p : Point → Bool} {j from to : Point} → i .0 ≤ j .0 → DueRun p j m false from → DueRun p from m true to → RunLaid (length at) first low j from to m
     run-laid l f t = record { begun = f .begun; ordered = t .begun; within = t .reached; low-most = omega (arith, s .low-most, f .begun); marked = omega (arith, s .laid .marks, s .low-most, f .begun, t .begun, t .reached) }
 
     -- the points from a on before b
@@ -97,41 +97,41 @@ other-value false true e = refl
 other-value false false e = absurd (false≢true e)
 
 -- the points from j on before k pass as is wanted
-pub record Passing (p : Point → Bool) (j m : ℕ) (want : Bool) (k : ℕ) : Type 0 where
-  pub begun : j ≤ k
+pub record Passing (p : Point → Bool) (j : Point) (m : ℕ) (want : Bool) (k : ℕ) : Type 0 where
+  pub begun : j .0 ≤ k
   pub reached : k ≤ m
-  pub passes : (q : ℕ) → j ≤ q → q < k → p (point q) ≡ want
+  pub passes : (q : Point) → j .0 ≤ q .0 → q .0 < k → p q ≡ want
 
-pub passing-none : (p : Point → Bool) (j m : ℕ) (want : Bool) → j ≤ m → Passing p j m want j
+pub passing-none : (p : Point → Bool) (j : Point) (m : ℕ) (want : Bool) → j .0 ≤ m → Passing p j m want (j .0)
 passing-none p j m want l = record { begun = omega arith; reached = l; passes = λ q u o. absurd (omega arith) }
 
-module _ {p : Point → Bool} {j m : ℕ} {want : Bool} {k : ℕ} (t : Passing p j m want k) where
+module _ {p : Point → Bool} {j : Point} {m : ℕ} {want : Bool} {k : ℕ} (t : Passing p j m want k) where
   pub passing-more : k < m → p (point k) ≡ want → Passing p j m want (k + 1)
-  passing-more l e = record { begun = omega (arith, t .begun); reached = omega arith; passes = λ q u o. go q u o (tested (ltb q k)) }
+  passing-more l e = record { begun = omega (arith, t .begun); reached = omega arith; passes = λ q u o. go q u o (tested (ltb (q .0) k)) }
     where
-      go : (q : ℕ) → j ≤ q → q < k + 1 → Tested (ltb q k) → p (point q) ≡ want
-      go q u o (passed v) = t .passes q u (ltb-true q k v)
+      go : (q : Point) → j .0 ≤ q .0 → q .0 < k + 1 → Tested (ltb (q .0) k) → p q ≡ want
+      go q u o (passed v) = t .passes q u (ltb-true (q .0) k v)
       go q u o (failed v) =
-          let d : q ≡ k = omega (arith, ltb-false q k v) in
-          rw d e
+          let d : q .0 ≡ k = omega (arith, ltb-false (q .0) k v) in
+          ap (λ a. p (point a)) d ∙ e
 
-  pub passing-stops : p (point k) ≡ not want → DueRun p j m want k
+  pub passing-stops : p (point k) ≡ not want → DueRun p j m want (point k)
   passing-stops e = record { begun = t .begun; reached = t .reached; passes = t .passes; stops = λ l. e }
 
-  pub passing-all : m ≤ k → DueRun p j m want k
+  pub passing-all : m ≤ k → DueRun p j m want (point k)
   passing-all l = record { begun = t .begun; reached = t .reached; passes = t .passes; stops = λ o. absurd (omega arith) }
 
 -- a run of points that aren't due and then one of points that are go on
-pub goes-on : {p : Point → Bool} {j m from to : ℕ} → DueRun p j m false from → DueRun p from m true to → j < m → j < to
-goes-on {p} {j} {m} {from} {to} f t l = go (tested (ltb j to))
+pub goes-on : {p : Point → Bool} {j : Point} {m : ℕ} {from to : Point} → DueRun p j m false from → DueRun p from m true to → j .0 < m → j .0 < to .0
+goes-on {p} {j} {m} {from} {to} f t l = go (tested (ltb (j .0) (to .0)))
   where
-    go : Tested (ltb j to) → j < to
-    go (passed u) = ltb-true j to u
+    go : Tested (ltb (j .0) (to .0)) → j .0 < to .0
+    go (passed u) = ltb-true (j .0) (to .0) u
     go (failed u) =
-        let o : to ≤ j = ltb-false j to u in
-        let d : from ≡ to = omega (arith, f .begun, t .begun) in
-        let due : p (point from) ≡ true = f .stops (omega (arith, f .begun, t .begun)) in
-        let past : p (point to) ≡ false = t .stops (omega arith) in
+        let o : to .0 ≤ j .0 = ltb-false (j .0) (to .0) u in
+        let d : from .0 ≡ to .0 = omega (arith, f .begun, t .begun) in
+        let due : p from ≡ true = f .stops (omega (arith, f .begun, t .begun)) in
+        let past : p to ≡ false = t .stops (omega arith) in
         absurd (false≢true (sym past ∙ ap (λ k. p (point k)) (sym d) ∙ due))
 
 select-true : {A : Type 0} (xs : List A) → select (λ x. true) xs ≡ xs
@@ -151,13 +151,13 @@ module _ (τ : Point → Stamp) (w : Window) (right : Point → List (List ℕ))
       ap (gather (leading (λ u k. true) right i)) (select-append (dueAt τ w (τ i)) xs ys)
       ∙ gather-append (leading (λ u k. true) right i) (select (dueAt τ w (τ i)) xs) (select (dueAt τ w (τ i)) ys)
 
-  over-none : (a n : ℕ) → ((k : ℕ) → a ≤ k → k < a + n → dueAt τ w (τ i) (point k) ≡ false) → over (pointsFrom (point a) n) ≡ []
-  over-none a n h = ap (gather (leading (λ u k. true) right i)) (select-none (dueAt τ w (τ i)) a n (λ j u o. h (j .0) u o))
+  over-none : (a n : ℕ) → ((k : Point) → a ≤ k .0 → k .0 < a + n → dueAt τ w (τ i) k ≡ false) → over (pointsFrom (point a) n) ≡ []
+  over-none a n h = ap (gather (leading (λ u k. true) right i)) (select-none (dueAt τ w (τ i)) a n h)
 
-  over-all : (n a : ℕ) → ((k : ℕ) → a ≤ k → k < a + n → dueAt τ w (τ i) (point k) ≡ true) → over (pointsFrom (point a) n) ≡ gather right (pointsFrom (point a) n)
+  over-all : (n a : ℕ) → ((k : Point) → a ≤ k .0 → k .0 < a + n → dueAt τ w (τ i) k ≡ true) → over (pointsFrom (point a) n) ≡ gather right (pointsFrom (point a) n)
   over-all zero a h = refl
   over-all (suc n) a h =
-      let here : atPoint τ w (λ u k. true) right i (point a) ≡ right (point a) = rw (h a (omega arith) (omega arith)) (leading-all (point a)) in
+      let here : atPoint τ w (λ u k. true) right i (point a) ≡ right (point a) = rw (h (point a) (omega arith) (omega arith)) (leading-all (point a)) in
       point-one τ w (λ u k. true) right i (point a) (pointsFrom (point (suc a)) n)
       ∙ ap₂ (λ us vs. us ++ vs) here (over-all n (suc a) (λ k u o. h k (omega arith) (omega arith)))
 
@@ -173,21 +173,21 @@ module _ (τ : Point → Stamp) (w : Window) (right : Point → List (List ℕ))
       record { begun = omega arith; reached = l; put = rw e (added-none h) }
 
   module _ {m : ℕ} {old : List ℕ} {n : ℕ} {new : List ℕ} {k j : ℕ} (t : Going m old n new k j) where
-    pub going-more : {from to : ℕ} → DueRun (dueAt τ w (τ i)) j m false from → DueRun (dueAt τ w (τ i)) from m true to
-        → {rows : List (List ℕ)} → gather right (pointsFrom (point from) (to - from)) ≡ rows → {new' : List ℕ} {k' : ℕ} → Added new k new' k' rows → Going m old n new' k' to
+    pub going-more : {from to : Point} → DueRun (dueAt τ w (τ i)) (point j) m false from → DueRun (dueAt τ w (τ i)) from m true to
+        → {rows : List (List ℕ)} → gather right (pointsFrom from (to .0 - from .0)) ≡ rows → {new' : List ℕ} {k' : ℕ} → Added new k new' k' rows → Going m old n new' k' (to .0)
     going-more {from} {to} f d {rows} r h =
         let b = t .begun in
         let x = f .begun in
         let y = d .begun in
-        let e : j - i .0 + (from - j + (to - from)) ≡ to - i .0 = omega arith in
+        let e : j - i .0 + (from .0 - j + (to .0 - from .0)) ≡ to .0 - i .0 = omega arith in
         let p : i .0 + (j - i .0) ≡ j = omega arith in
-        let q : j + (from - j) ≡ from = omega arith in
-        let none = over-none j (from - j) (λ k u o. f .passes k u (omega arith)) in
-        let these = over-all (to - from) from (λ k u o. d .passes k u (omega arith)) in
-        let points : pointsFrom i (to - i .0) ≡ pointsFrom i (j - i .0) ++ (pointsFrom (point j) (from - j) ++ pointsFrom (point from) (to - from))
-        = ap (pointsFrom i) (sym e) ∙ pointsFrom-append i (j - i .0) (from - j + (to - from))
-        ∙ ap (λ a. pointsFrom i (j - i .0) ++ pointsFrom (point a) (from - j + (to - from))) p
-        ∙ ap (λ ps. pointsFrom i (j - i .0) ++ ps) (pointsFrom-append (point j) (from - j) (to - from) ∙ ap (λ a. pointsFrom (point j) (from - j) ++ pointsFrom (point a) (to - from)) q) in
+        let q : j + (from .0 - j) ≡ from .0 = omega arith in
+        let none = over-none j (from .0 - j) (λ k u o. f .passes k u (omega arith)) in
+        let these = over-all (to .0 - from .0) (from .0) (λ k u o. d .passes k u (omega arith)) in
+        let points : pointsFrom i (to .0 - i .0) ≡ pointsFrom i (j - i .0) ++ (pointsFrom (point j) (from .0 - j) ++ pointsFrom from (to .0 - from .0))
+        = ap (pointsFrom i) (sym e) ∙ pointsFrom-append i (j - i .0) (from .0 - j + (to .0 - from .0))
+        ∙ ap (λ a. pointsFrom i (j - i .0) ++ pointsFrom (point a) (from .0 - j + (to .0 - from .0))) p
+        ∙ ap (λ ps. pointsFrom i (j - i .0) ++ ps) (pointsFrom-append (point j) (from .0 - j) (to .0 - from .0) ∙ ap (λ a. pointsFrom (point j) (from .0 - j) ++ pointsFrom (point a) (to .0 - from .0)) q) in
         record {
           begun = omega arith;
           reached = d .reached;
@@ -195,8 +195,8 @@ module _ (τ : Point → Stamp) (w : Window) (right : Point → List (List ℕ))
               added-as (added-then (t .put) h)
               (sym
               (ap over points
-              ∙ over-append (pointsFrom i (j - i .0)) (pointsFrom (point j) (from - j) ++ pointsFrom (point from) (to - from))
-              ∙ ap (λ us. over (pointsFrom i (j - i .0)) ++ us) (over-append (pointsFrom (point j) (from - j)) (pointsFrom (point from) (to - from)) ∙ ap₂ (λ us vs. us ++ vs) none (these ∙ r))));
+              ∙ over-append (pointsFrom i (j - i .0)) (pointsFrom (point j) (from .0 - j) ++ pointsFrom from (to .0 - from .0))
+              ∙ ap (λ us. over (pointsFrom i (j - i .0)) ++ us) (over-append (pointsFrom (point j) (from .0 - j)) (pointsFrom from (to .0 - from .0)) ∙ ap₂ (λ us vs. us ++ vs) none (these ∙ r))));
         }
 
     pub going-all : m ≤ j → Added old n new k (untilRows τ m w (λ u k. true) right i)

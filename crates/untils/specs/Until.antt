@@ -20,11 +20,11 @@ abbrev pub dueAt : (Point → Stamp) → Window → Stamp → Point → Bool
 dueAt τ w start j = inWindow w (elapsed start (τ j))
 
 -- the points from j on before r pass a test as is wanted, and r doesn't, or is m
-pub record DueRun (p : Point → Bool) (j m : ℕ) (want : Bool) (r : ℕ) : Type 0 where
-  pub begun : j ≤ r
-  pub reached : r ≤ m
-  pub passes : (k : ℕ) → j ≤ k → k < r → p (point k) ≡ want
-  pub stops : r < m → p (point r) ≡ not want
+pub record DueRun (p : Point → Bool) (j : Point) (m : ℕ) (want : Bool) (r : Point) : Type 0 where
+  pub begun : j .0 ≤ r .0
+  pub reached : r .0 ≤ m
+  pub passes : (k : Point) → j .0 ≤ k .0 → k .0 < r .0 → p k ≡ want
+  pub stops : r .0 < m → p r ≡ not want
 
 -- left passes at point k for a row that is cut down already
 abbrev pub passesAt : Left → (Point → List (List ℕ)) → List ℕ → Point → Bool

@@ -227,18 +227,26 @@ pub fn until(
 }
 
 // The points from j on before m, as far as all of them are due or, where `want` is false, none is: the first that isn't so, or m.
-fn due_run(times: &[u32], base: Point, w: Window, start: Stamp, j: u32, m: u32, want: bool) -> u32
-    requires { ⌜ j ≤ m ⌝ }
+fn due_run(
+    times: &[u32],
+    base: Point,
+    w: Window,
+    start: Stamp,
+    j: Point,
+    m: u32,
+    want: bool,
+) -> Point
+    requires { ⌜ j .0 ≤ m ⌝ }
     ensures { λ r. ⌜ DueRun (dueAt (stampIn base (now (times .entry))) w start) j m want r ⌝ }
 {
-    let mut k = j;
+    let mut k = j.0;
     while k < m {
         if due(times, base, w, start, Point(k)) != want {
-            return k;
+            return Point(k);
         }
         k += 1;
     }
-    k
+    Point(k)
 }
 
 // Until at point i over the points before m where nothing is asked of left: the rows of a run of points that are due stand together, and are put in as one. Right's sets begin at set first, which is for point low.
@@ -263,11 +271,12 @@ pub fn eventually(
     let mut k = n;
     let mut j = i.0;
     while j < m {
-        let from = due_run(times, base, w, start, j, m, false);
-        j = due_run(times, base, w, start, from, m, true);
-        let p = first + (from - low.0) as usize;
-        let q = first + (j - low.0) as usize;
+        let from = due_run(times, base, w, start, Point(j), m, false);
+        let to = due_run(times, base, w, start, from, m, true);
+        let p = first + (from.0 - low.0) as usize;
+        let q = first + (to.0 - low.0) as usize;
         k = kinds::copy(rows, at[p] as usize, at[q] as usize, out, k);
+        j = to.0;
     }
     k
 }

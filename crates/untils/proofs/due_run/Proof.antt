@@ -3,6 +3,7 @@ use Prim.Native.Nat.{_-_}
 use native.Mathlib.Omega.{arith}
 use mathlib.Core.Path.{sym, _∙_}
 use borrow.Author.Needs.{needs}
+use Rattle.meaning.specs.Log.{point}
 use Rattle.method.specs.Stored.{stampIn}
 use Rattle.untils.specs.Until.{dueAt}
 use Rattle.untils.proofs.DueRuns.{Passing, passing-none, passing-more, passing-stops, passing-all, same-value, other-value}
@@ -10,10 +11,10 @@ use Rattle.untils.proofs.due_run.Statement.{statement}
 use Rattle.untils.proofs.due_run.Tie as tie
 
 abbrev Inv-loop : tie.InvT-loop
-Inv-loop times base w start j m want k₀ k = Passing (dueAt (stampIn base times) w start) j m want k
+Inv-loop times base w start m want k₀ k = Passing (dueAt (stampIn base times) w start) (point k₀) m want k
 
 abbrev μ-loop : tie.MeasureT-loop
-μ-loop times base w start j m want k₀ k = m - k
+μ-loop times base w start m want k₀ k = m - k
 
 loop-holds : tie.Need-loop-holds Inv-loop μ-loop
 loop-holds c =

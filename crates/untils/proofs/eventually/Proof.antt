@@ -26,13 +26,13 @@ abbrev turn : tie.After-due-run2 Inv-loop μ-loop → tie.At-loop Inv-loop μ-lo
 turn d = d .before .before .before
 
 -- the run's points are among those that stand
-laid-at : (d : tie.After-due-run2 Inv-loop μ-loop) → RunLaid (length (entry d .args .at .now)) (entry d .args .first) (entry d .args .low .0) (turn d .loop .j) (d .before .due-run .result) (d .due-run2 .result) (entry d .args .m)
+laid-at : (d : tie.After-due-run2 Inv-loop μ-loop) → RunLaid (length (entry d .args .at .now)) (entry d .args .first) (entry d .args .low) (point (turn d .loop .j)) (d .before .due-run .result) (d .due-run2 .result) (entry d .args .m)
 laid-at d =
     let s = entry d in
     run-laid (s .args .rows .now) (s .args .at .now) (s .args .first) (s .args .low) (s .pre .0) (turn d .loop .inv .begun) (d .before .due-run .ensures) (d .due-run2 .ensures)
 
 -- by the stamp of point i
-early : (d : tie.After-due-run2 Inv-loop μ-loop) → DueRun (dueAt (stampIn (entry d .args .base) (entry d .args .times .now)) (entry d .args .w) (stampIn (entry d .args .base) (entry d .args .times .now) (entry d .args .i))) (turn d .loop .j) (entry d .args .m) false (d .before .due-run .result)
+early : (d : tie.After-due-run2 Inv-loop μ-loop) → DueRun (dueAt (stampIn (entry d .args .base) (entry d .args .times .now)) (entry d .args .w) (stampIn (entry d .args .base) (entry d .args .times .now) (entry d .args .i))) (point (turn d .loop .j)) (entry d .args .m) false (d .before .due-run .result)
 early d = rw (turn d .before .time-in .ensures) at (d .before .due-run .ensures)
 
 late : (d : tie.After-due-run2 Inv-loop μ-loop) → DueRun (dueAt (stampIn (entry d .args .base) (entry d .args .times .now)) (entry d .args .w) (stampIn (entry d .args .base) (entry d .args .times .now) (entry d .args .i))) (d .before .due-run .result) (entry d .args .m) true (d .due-run2 .result)
@@ -45,31 +45,31 @@ loop-holds c =
 
 cast-copy : tie.Need-cast-copy Inv-loop μ-loop
 cast-copy c =
-    let d = c .before .before .before in
+    let d = c .before .before .before .before .before in
     let a = entry d .args in
-    omega (arith, c .shared-slice-known4 .given (a .first + (d .before .due-run .result - a .low .0)))
+    omega (arith, c .shared-slice-known4 .given (a .first + (d .before .due-run .result .0 - a .low .0)))
 
 cast-copy-2 : tie.Need-cast-copy-2 Inv-loop μ-loop
 cast-copy-2 c =
-    let d = c .before .before .before .before in
+    let d = c .before .before .before .before .before .before in
     let a = entry d .args in
-    omega (arith, c .shared-slice-known5 .given (a .first + (d .due-run2 .result - a .low .0)))
+    omega (arith, c .shared-slice-known5 .given (a .first + (d .due-run2 .result .0 - a .low .0)))
 
 copy-requires : tie.Need-copy-requires Inv-loop μ-loop
 copy-requires c κs =
-    let d = c .before .before .before .before .before in
+    let d = c .before .before .before .before .before .before .before in
     let s = entry d in
     let l = laid-at d in
-    (joined-run (s .args .rows .now) (s .args .at .now) (s .args .first) (s .args .low) (s .pre .0) (d .before .due-run .result) (d .due-run2 .result) (omega (arith, turn d .loop .inv .begun, l)) (l .ordered) (l .within), search needs)
+    (joined-run (s .args .rows .now) (s .args .at .now) (s .args .first) (s .args .low) (s .pre .0) (d .before .due-run .result .0) (d .due-run2 .result .0) (omega (arith, turn d .loop .inv .begun, l)) (l .ordered) (l .within), search needs)
 
 loop-again : tie.Need-loop-again Inv-loop μ-loop
 loop-again c =
-    let d = c .before .before .before .before .before .before .before .before in
+    let d = c .before .before .before .before .before .before .before .before .before .before in
     let s = entry d in
     let a = s .args in
     let l = laid-at d in
     going-more (stampIn (a .base) (a .times .now)) (a .w) (setAt (a .rows .now) (a .at .now) (a .first) (a .low)) (a .i) (turn d .loop .inv) (early d) (late d)
-    (joined (a .rows .now) (a .at .now) (a .first) (a .low) (s .pre .0) (d .before .due-run .result) (d .due-run2 .result) (omega (arith, turn d .loop .inv .begun, l)) (l .ordered) (l .within)) (c .before .before .copy .ensures)
+    (joined (a .rows .now) (a .at .now) (a .first) (a .low) (s .pre .0) (d .before .due-run .result .0) (d .due-run2 .result .0) (omega (arith, turn d .loop .inv .begun, l)) (l .ordered) (l .within)) (c .before .before .copy .ensures)
 
 pub eventually-spec : {M : Type 1} → statement M
 eventually-spec =
@@ -79,21 +79,21 @@ eventually-spec =
     loop-holds
     (λ c κs. c .before .loop .inv .reached)
     (λ c κs. c .due-run .ensures .reached)
-    (λ c. omega (arith, laid-at (c .before)))
-    (λ c. search needs)
-    (λ c. omega (arith, laid-at (c .before)))
     (λ c. omega (arith, laid-at (c .before .before)))
     (λ c. search needs)
     (λ c. omega (arith, laid-at (c .before .before)))
-    (λ c. omega (arith, laid-at (c .before .before)))
-    (λ c. omega (arith, laid-at (c .before .before .before)))
-    cast-copy
-    (λ c. omega (arith, laid-at (c .before .before .before)))
     (λ c. omega (arith, laid-at (c .before .before .before .before)))
+    (λ c. search needs)
+    (λ c. omega (arith, laid-at (c .before .before .before .before)))
+    (λ c. omega (arith, laid-at (c .before .before .before .before)))
+    (λ c. omega (arith, laid-at (c .before .before .before .before .before)))
+    cast-copy
+    (λ c. omega (arith, laid-at (c .before .before .before .before .before)))
+    (λ c. omega (arith, laid-at (c .before .before .before .before .before .before)))
     cast-copy-2
     copy-requires
     (λ c.
-    let d = c .before .before .before .before .before .before .before .before in
+    let d = c .before .before .before .before .before .before .before .before .before .before in
     omega (arith, goes-on (early d) (late d) (d .before .before .loop-test .taken), laid-at d))
     loop-again
     (λ c. c .before .loop .inv .put .long)
