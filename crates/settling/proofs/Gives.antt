@@ -84,7 +84,7 @@ module _ (b w rows at times : List ℕ) (base : Point) (oldAges oldValues : List
   given (Until x y t) = untilIn Holds right t
   given (NotUntil x y t) = untilIn Denied right t
   given (Once x t) = sinceIn Always left t
-  given (Eventually x t) = untilIn Always left t
+  given (Eventually x t) = untilRows (stampIn base times) (left .count) t (λ u k. true) (childSet rows at left) i
 
   module _ (v : Inputs) where
     -- since and until over a test of left, by what the Inputs says of the children c and d
@@ -154,7 +154,7 @@ module _ (b w rows at times : List ℕ) (base : Point) (oldAges oldValues : List
     given-same (Once x t) d s = rw (s .stamps) (since-rows Always t (d .children) (d .children) (s .children) (s .children))
     given-same (Eventually x t) d s =
         let e : min (left .count) (left .count) ≡ left .count = omega arith in
-        rw (s .stamps, s .children .counted) (until-rows Always t (d .children) (d .children) (s .children) (s .children) ∙ ap (λ m. untilRows (stampIn base times) m t (λ u k. true) (v .rows x) i) e)
+        rw (s .stamps, s .children .counted) (rw e at (until-rows Always t (d .children) (d .children) (s .children) (s .children)))
 
   -- the node's valuations, where what its kind gives was put into an empty set
   pub point-settled : {node kind : Node} {old out : List ℕ} {k : ℕ} → node ≡ kind → asked b w rows at oldAges oldValues left right start i kind → Added old 0 out k (given kind)

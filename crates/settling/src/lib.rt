@@ -164,7 +164,7 @@ fn next_at(
     copy_if(ok, a, rows, at, j, out)
 }
 
-// The until kinds at point i, over the points that both children have settled. Left is a and right is b; where nothing is asked of left, right may be given for left.
+// The until kinds of two children at point i, over the points that both have settled. Left is a and right is b.
 fn until_at(
     left: Left,
     a: Child,
@@ -283,9 +283,19 @@ pub fn settle_point(
             i,
             out,
         ),
-        Node::Eventually(_, w) => {
-            until_at(Left::Always, left, left, rows, at, times, base, w, i, out)
-        }
+        Node::Eventually(_, w) => untils::eventually(
+            rows,
+            at,
+            left.first,
+            left.low,
+            times,
+            base,
+            w,
+            i,
+            left.count,
+            out,
+            0,
+        ),
     }
 }
 

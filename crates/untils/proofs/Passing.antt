@@ -39,7 +39,7 @@ pub passes-as : (left : Left) {looked found t v : Bool} → found ≡ looked →
 passes-as left e f g = ap (passes left) (sym e) ∙ sym f ∙ g
 
 -- where nothing is asked, left passes
-all-true : (ps : List Point) → all (λ k. true) ps ≡ true
+pub all-true : (ps : List Point) → all (λ k. true) ps ≡ true
 all-true [] = refl
 all-true (k ∷ ps) = all-true ps
 

@@ -1,15 +1,30 @@
--- The test of left that until makes, over a node's sets, and where these sets stand.
-use Prim.Native.Nat.{ℕ, _+_, _-_, _≤_}
-use mathlib.Core.Bool.{Bool}
+-- The tests of a point and of left that until makes, over a node's sets, and where these sets stand.
+use Prim.Native.Nat.{ℕ, _+_, _-_, _≤_, _<_}
+use mathlib.Core.Path.{_≡_}
+use mathlib.Core.Bool.{Bool, not}
 use mathlib.Core.List.{List}
 use Rattle.meaning.specs.Lists.{all}
-use Rattle.meaning.specs.Log.{pointsFrom}
+use Rattle.meaning.specs.Log.{point, elapsed, pointsFrom}
+use Rattle.meaning.specs.Formula.{inWindow}
 use Rattle.meaning.specs.Evaluator.{cutTo, valuationOf, lookUp}
 use Rattle.meaning.specs.declared.Point.{Point}
+use Rattle.meaning.specs.declared.Stamp.{Stamp}
+use Rattle.meaning.specs.declared.Window.{Window}
 use Rattle.meaning.specs.View.{passes}
 use Rattle.meaning.specs.declared.Left.{Left}
 use Rattle.kinds.specs.Kinds.{inMask}
 use Rattle.room.specs.Room.{SetsInOrder}
+
+-- the window holds what has elapsed from a stamp to point j's
+abbrev pub dueAt : (Point → Stamp) → Window → Stamp → Point → Bool
+dueAt τ w start j = inWindow w (elapsed start (τ j))
+
+-- the points from j on before r pass a test as is wanted, and r doesn't, or is m
+pub record DueRun (p : Point → Bool) (j : Point) (m : ℕ) (want : Bool) (r : Point) : Type 0 where
+  pub begun : j .0 ≤ r .0
+  pub reached : r .0 ≤ m
+  pub passes : (k : Point) → j .0 ≤ k .0 → k .0 < r .0 → p k ≡ want
+  pub stops : r .0 < m → p r ≡ not want
 
 -- left passes at point k for a row that is cut down already
 abbrev pub passesAt : Left → (Point → List (List ℕ)) → List ℕ → Point → Bool

@@ -5,7 +5,7 @@ use meaning::Stamp;
 use meaning::Window;
 use rowset::Row;
 ghost use mathlib.Core.Path.{_≡_};
-ghost use mathlib.Core.Bool.{cond};
+ghost use mathlib.Core.Bool.{true, cond};
 ghost use mathlib.Core.List.{[]};
 ghost use Prim.Native.Nat.{_+_, _-_, _≤_, _<_};
 ghost use lib.ListN.{length, getD};
@@ -18,7 +18,7 @@ ghost use Rattle.method.specs.Stored.{stampIn};
 ghost use Rattle.rowset.specs.Rows.{wordsOf, rowsFrom};
 ghost use Rattle.rowset.specs.Sets.{Run, SetRoom, Added};
 ghost use Rattle.room.specs.Room.{setAt};
-ghost use Rattle.untils.specs.Until.{passesAt, leftTest, leads, Stand};
+ghost use Rattle.untils.specs.Until.{dueAt, passesAt, leftTest, leads, DueRun, Stand};
 
 // The rows of one set, from..to.
 pub struct Part {
@@ -222,6 +222,61 @@ pub fn until(
         let ok = due(times, base, w, start, here);
         k = put_point_if(ok, left, mask, rows, at, fa, la, fb, lb, i, here, out, k);
         j += 1;
+    }
+    k
+}
+
+// The points from j on before m, as far as all of them are due or, where `want` is false, none is: the first that isn't so, or m.
+fn due_run(
+    times: &[u32],
+    base: Point,
+    w: Window,
+    start: Stamp,
+    j: Point,
+    m: u32,
+    want: bool,
+) -> Point
+    requires { ⌜ j .0 ≤ m ⌝ }
+    ensures { λ r. ⌜ DueRun (dueAt (stampIn base (now (times .entry))) w start) j m want r ⌝ }
+{
+    let mut k = j.0;
+    while k < m {
+        if due(times, base, w, start, Point(k)) != want {
+            return Point(k);
+        }
+        k += 1;
+    }
+    Point(k)
+}
+
+// Until at point i over the points before m where nothing is asked of left: the rows of a run of points that are due stand together, and are put in as one. Right's sets begin at set first, which is for point low.
+pub fn eventually(
+    rows: &[u32],
+    at: &[u32],
+    first: usize,
+    low: Point,
+    times: &[u32],
+    base: Point,
+    w: Window,
+    i: Point,
+    m: u32,
+    out: &mut [u32],
+    n: usize,
+) -> usize
+    requires { ⌜ Stand (now rows) (now at) first low i m ⌝ }
+    requires { ⌜ SetRoom (now out) n ⌝ }
+    ensures { λ k. ⌜ Added (now (out .entry)) n (now (out .exit)) k (untilRows (stampIn base (now (times .entry))) m w (λ u k. true) (setAt (now (rows .entry)) (now (at .entry)) first low) i) ⌝ }
+{
+    let start = progress::time_in(times, base, i);
+    let mut k = n;
+    let mut j = i.0;
+    while j < m {
+        let from = due_run(times, base, w, start, Point(j), m, false);
+        let to = due_run(times, base, w, start, from, m, true);
+        let p = first + (from.0 - low.0) as usize;
+        let q = first + (to.0 - low.0) as usize;
+        k = kinds::copy(rows, at[p] as usize, at[q] as usize, out, k);
+        j = to.0;
     }
     k
 }

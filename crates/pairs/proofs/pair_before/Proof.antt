@@ -1,27 +1,39 @@
 -- `pair_before` meets its contract: each way out has decided the test.
+use Prim.Native.Nat.{_+_, _*_}
+use native.Mathlib.Omega.{arith}
 use mathlib.Core.Path.{sym, _∙_}
+use mathlib.Core.List.{_∷_, []}
 use borrow.Author.Needs.{needs}
-use borrow.Author.Tests.{lt-ltb, le-ltb, eq-eqb, ne-eqb}
-use Rattle.rowset.specs.Rows.{wordsOf}
-use Rattle.pairs.proofs.Order.{age-first}
+use Rattle.pairs.proofs.Order.{joint-less, joint-same, joint-more}
 use Rattle.pairs.proofs.pair_before.Statement.{statement}
 use Rattle.pairs.proofs.pair_before.Tie as tie
 
 returns : tie.Need-returns
 returns c =
-    let a = c .before .args in
-    sym (age-first (a .a) (a .b) (wordsOf (a .x)) (wordsOf (a .y)) ∙ simp (lt-ltb _ _ (c .if1 .taken)))
+    let j = c .before in
+    let a = j .before .before .args in
+    let x = a .x in
+    let y = a .y in
+    sym (joint-less (a .a) (x .v0) (x .v1 ∷ x .v2 ∷ x .v3 ∷ []) (a .b) (y .v0) (y .v1 ∷ y .v2 ∷ y .v3 ∷ []) (omega arith) (omega arith) (omega (arith, c .if1 .taken, j .joint2 .ensures, j .before .joint .ensures)))
 
 returns-2 : tie.Need-returns-2
 returns-2 c =
-    let a = c .before .before .before .args in
+    let j = c .before .before .before in
+    let a = j .before .before .args in
+    let x = a .x in
+    let y = a .y in
     c .is-before .ensures
-    ∙ sym (age-first (a .a) (a .b) (wordsOf (a .x)) (wordsOf (a .y)) ∙ simp (le-ltb _ _ (c .before .before .if1 .left), eq-eqb _ _ (c .before .if2 .taken)))
+    ∙ sym (joint-same (a .a) (x .v0) (x .v1 ∷ x .v2 ∷ x .v3 ∷ []) (a .b) (y .v0) (y .v1 ∷ y .v2 ∷ y .v3 ∷ []) (omega arith) (omega arith) (omega (arith, c .before .if2 .taken, j .joint2 .ensures, j .before .joint .ensures)))
 
 returns-3 : tie.Need-returns-3
 returns-3 c =
-    let a = c .before .before .args in
-    sym (age-first (a .a) (a .b) (wordsOf (a .x)) (wordsOf (a .y)) ∙ simp (le-ltb _ _ (c .before .if1 .left), ne-eqb _ _ (c .if2 .left)))
+    let j = c .before .before in
+    let a = j .before .before .args in
+    let x = a .x in
+    let y = a .y in
+    sym
+    (joint-more (a .a) (x .v0) (x .v1 ∷ x .v2 ∷ x .v3 ∷ []) (a .b) (y .v0) (y .v1 ∷ y .v2 ∷ y .v3 ∷ []) (omega arith) (omega arith)
+    (omega (arith, c .before .if1 .left, c .if2 .left, j .joint2 .ensures, j .before .joint .ensures)))
 
 pub pair-before-spec : {M : Type 1} → statement M
-pair-before-spec = tie.close (tie.spec returns (λ c κs. search needs) returns-2 returns-3)
+pair-before-spec = tie.close (tie.spec (λ c κs. search needs) (λ c κs. search needs) returns (λ c κs. search needs) returns-2 returns-3)

@@ -109,12 +109,11 @@ rows-at-requires-3 c κs =
     let t = told s (c .before .before .node10 .given .1) in
     (omega (arith, t .children .settled), (t .children .sets, (t .children .sets, ((t .pairs, t .ascends), s .pre .1))))
 
-until-at-requires-3 : tie.Need-until-at-requires-3
-until-at-requires-3 c κs =
+eventually-requires : tie.Need-eventually-requires
+eventually-requires c κs =
     let s = c .before .before .before .before .before .before .before .before .before .before .before .before in
     let t = told s (c .before .before .node11 .given .1) in
-    let (p, q) = both-stand (t .children) (t .children) in
-    (p, (q, s .pre .1))
+    (t .children .sets, s .pre .1)
 
 returns : tie.Need-returns
 returns c =
@@ -160,7 +159,7 @@ returns-13 : tie.Need-returns-13
 returns-13 c = gives (c .before .before .before .before .before .before .before .before .before .before .before .before .before .before .before) (c .before .before .before .before .before .node10 .given .1) (c .before .before .rows-at3 .ensures)
 
 returns-14 : tie.Need-returns-14
-returns-14 c = gives (c .before .before .before .before .before .before .before .before .before .before .before .before .before .before .before) (c .before .before .before .before .before .node11 .given .1) (c .before .before .until-at3 .ensures)
+returns-14 c = gives (c .before .before .before .before .before .before .before .before .before .before .before .before .before .before .before) (c .before .before .before .before .before .node11 .given .1) (c .before .before .eventually .ensures)
 
 pub settle-point-spec : {M : Type 1} → statement M
 settle-point-spec =
@@ -194,7 +193,7 @@ settle-point-spec =
     (λ c. search needs)
     rows-at-requires-3
     (λ c. search needs)
-    until-at-requires-3
+    eventually-requires
     (λ c. c .before .before .atom .ensures .long)
     returns
     (λ c. c .before .before .and-at .ensures .long)
@@ -221,5 +220,5 @@ settle-point-spec =
     returns-12
     (λ c. c .before .before .rows-at3 .ensures .long)
     returns-13
-    (λ c. c .before .before .until-at3 .ensures .long)
+    (λ c. c .before .before .eventually .ensures .long)
     returns-14)
