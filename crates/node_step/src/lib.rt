@@ -6,7 +6,7 @@ use meaning::Node;
 use meaning::Point;
 use room::Child;
 ghost use mathlib.Core.Path.{_≡_};
-ghost use mathlib.Core.List.{List·Memᴰ};
+ghost use mathlib.Core.List.{[], List·Memᴰ};
 ghost use Prim.Native.Nat.{ℕ, _+_, _*_, _≤_, _<_};
 ghost use lib.ListN.{length, set};
 ghost use Rattle.meaning.specs.RuleFile.{nodeCount, nodeAt, childrenOf};
@@ -407,4 +407,55 @@ pub fn own_step(
     );
     node_sets::move_down(rows, at, spot.below, spot.sets - spot.below, made);
     Place { kept, low: NO_NODE }
+}
+
+// The step of node x, which has no children, behind h sets.
+pub fn leaf_step(
+    rule: &[u8],
+    figures: &[u32],
+    owners: &[u32],
+    numbers: &[u32],
+    values: &[u32],
+    stamps: &[u32],
+    points: u32,
+    event: &[u32],
+    rows: &mut [u32],
+    at: &mut [u32],
+    out_numbers: &mut [u32],
+    out_values: &mut [u32],
+    blocks: &mut [u32],
+    x: u8,
+    h: usize,
+    kept: usize,
+) -> Place
+    requires { ⌜ CallReady (called (now rule) points (now stamps) (now owners) (now numbers) (now values)) (now event) (now owners) (now numbers) (now values) (now stamps) (now figures) ⌝ }
+    requires { ⌜ (x < nodeCount (now rule)) × (childrenOf (nodeAt (now rule) x) ≡ []) ⌝ }
+    requires { ⌜ RoomFor (now rows) (now at) h (setsMost (called (now rule) points (now stamps) (now owners) (now numbers) (now values)) (now event) x) (rowsMost (called (now rule) points (now stamps) (now owners) (now numbers) (now values)) (now event) x) ⌝ }
+    requires { ⌜ OutThere (called (now rule) points (now stamps) (now owners) (now numbers) (now values)) (now event) (now «out_numbers») (now «out_values») (now blocks) kept ⌝ }
+    ensures { λ r. ⌜ Walks (called (now (rule .entry)) points (now (stamps .entry)) (now (owners .entry)) (now (numbers .entry)) (now (values .entry))) (now (event .entry)) (λ y. y ≡ x) (length (entriesNow (called (now (rule .entry)) points (now (stamps .entry)) (now (owners .entry)) (now (numbers .entry)) (now (values .entry))) (now (event .entry)) x)) x h (now (rows .entry)) (now (at .entry)) (now (rows .exit)) (now (at .exit)) (now («out_numbers» .entry)) (now («out_values» .entry)) (now (blocks .entry)) (now («out_numbers» .exit)) (now («out_values» .exit)) (now (blocks .exit)) kept r ⌝ }
+{
+    let spot = Spot {
+        below: h,
+        sets: h,
+        left: h,
+        right: h,
+        kept,
+    };
+    own_step(
+        rule,
+        figures,
+        owners,
+        numbers,
+        values,
+        stamps,
+        points,
+        event,
+        rows,
+        at,
+        out_numbers,
+        out_values,
+        blocks,
+        x,
+        spot,
+    )
 }
