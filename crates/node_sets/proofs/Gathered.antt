@@ -1,4 +1,4 @@
--- The entries of sets at a run of points: one point more at either end, and what they begin with.
+-- The entries of sets at a run of points: one point more at either end, and what they begin with; and how many entries a run of words has.
 use Prim.Native.Nat.{ℕ, zero, suc, _+_, _-_, _<_}
 use mathlib.Core.Path.{_≡_, refl, ap, _∙_}
 use mathlib.Core.Bool.{Bool, true, false, _&&_}
@@ -6,15 +6,20 @@ use mathlib.Core.List.{List, [], _∷_, _++_, map, append-assoc, append-nil}
 use native.Mathlib.Omega.{arith}
 use lib.Dec.{eqb}
 use borrow.Author.Tests.{ne-eqb}
-use Rattle.meaning.specs.Lists.{gather}
+use lib.ListN.{length, length-map}
+use Rattle.meaning.specs.Lists.{range, gather}
 use Rattle.meaning.specs.Log.{point, pointAfter, pointsFrom}
 use Rattle.meaning.specs.Kept.{Entry, entryOf}
 use Rattle.meaning.specs.declared.Point.{Point}
-use Rattle.meaning.proofs.Lists.{gather-append}
+use Rattle.meaning.proofs.Lists.{range-length, gather-append}
 use Rattle.meaning.proofs.Points.{pointsFrom-append}
-use Rattle.entries.specs.Entries.{begins, hasOwner, isEntry}
+use Rattle.entries.specs.Entries.{entriesFrom, begins, hasOwner, isEntry}
 use Rattle.entries.proofs.Walking.{hasNumber}
 use Rattle.node_sets.specs.Shelved.{setEntries}
+
+pub entries-many : (os ns vs : List ℕ) (from count : ℕ) → length (entriesFrom os ns vs from count) ≡ count
+unfolding entriesFrom
+entries-many os ns vs from count = length-map (range from count) _ ∙ range-length from count
 
 module _ (x : ℕ) (S : Point → List (List ℕ)) where
   -- one point more behind the others

@@ -3,7 +3,8 @@ use Prim.Native.Nat.{ℕ, zero, suc, _+_, _-_, _≤_, _<_}
 use mathlib.Core.Path.{_≡_, refl, sym, ap, ap₂, _∙_}
 use mathlib.Core.List.{List, [], _∷_, _++_, map}
 use native.Mathlib.Omega.{arith}
-use lib.ListN.{length, getD, drop, length-append, length-map}
+use lib.ListN.{length, getD, take, drop, length-append, length-map}
+use lib.Seq.{getD-take, getD-drop}
 use lib.Dec.{ltb}
 use borrow.Author.Tests.{ltb-true, ltb-false}
 use Rattle.meaning.specs.Lists.{range}
@@ -22,7 +23,7 @@ use Rattle.entries.specs.Appended.{WordsPut, Copied}
 use Rattle.entries.proofs.Listed.{listed-append, listed-moved, map-twice}
 use Rattle.node_sets.specs.Shelved.{setEntries, agedEntries}
 use Rattle.node_sets.specs.Blocks.{EntriesPut}
-use Rattle.node_sets.specs.Parts.{PointsPut}
+use Rattle.node_sets.specs.Parts.{PointsPut, Numbered}
 use Rattle.node_sets.proofs.Gathered.{sets-more}
 
 -- marks that rise up to one of them
@@ -98,6 +99,72 @@ module _ {at : List ℕ} {q n from : ℕ} {old : List ℕ} {end : ℕ} {new : Li
   points-all l =
       let e : k ≡ n = omega (arith, t .reached) in
       rw e at (t .done)
+
+-- a word of a part of others
+pub part-word : (ws : List ℕ) (a count k : ℕ) → k < count → getD (take (a + count - a) (drop a ws)) k 0 ≡ getD ws (a + k) 0
+part-word ws a count k l =
+    let m : k < a + count - a = omega arith in
+    rw (getD-take, getD-drop)
+
+-- the marks of sets first, q, q + m and q + n rise, and the points of those from set q on before set q + m stand within so many words, where those from set first on begin at word begin
+pub record Spans (at : List ℕ) (first q m n begin long : ℕ) : Type 0 where
+  pub up-to : getD at first 0 ≤ getD at q 0
+  pub rise : getD at q 0 ≤ getD at (q + m) 0
+  pub left : getD at (q + m) 0 ≤ getD at (q + n) 0
+  pub within : begin + (getD at q 0 - getD at first 0) + (getD at (q + m) 0 - getD at q 0) ≤ long
+
+-- the points of the sets before point `before` copied from words where they stand, and those of the others put behind them
+module _ (at : List ℕ) (first low from n before begin end : ℕ) (numbers : List ℕ) (begun : low ≤ from) (up : (s : ℕ) → s < first + (from - low) + n → getD at s 0 ≤ getD at (s + 1) 0) (h : Numbered at first (before - low) low numbers begin) (l : from < before) (o : before ≤ from + n) where
+  abbrev q : ℕ
+  q = first + (from - low)
+
+  -- how many rows the sets from point `from` on before point `before` have, and where their points stand
+  abbrev count : ℕ
+  count = getD at (q + (before - from)) 0 - getD at q 0
+
+  abbrev start : ℕ
+  start = begin + (getD at q 0 - getD at first 0)
+
+  rises : (a b : ℕ) → a ≤ b → b ≤ q + n → getD at a 0 ≤ getD at b 0
+  rises a b i j = marks-up at a b i (λ s m. up s (omega arith))
+
+  pub spans : Spans at first q (before - from) n begin (length numbers)
+  spans =
+      let e : first + (before - low) ≡ q + (before - from) = omega arith in
+      let a = rises first q (omega arith) (omega arith) in
+      let b = rises q (q + (before - from)) (omega arith) (omega arith) in
+      record { up-to = a; rise = b; left = rises (q + (before - from)) (q + n) (omega arith) (omega arith); within = omega (arith, rw e at (h .within)) }
+
+  module _ {old mid new : List ℕ} {words : ℕ → ℕ} (are : (k : ℕ) → k < count → words k ≡ getD numbers (start + k) 0) (c : WordsPut old end mid count words) (p : PointsPut at (q + (before - from)) (n - (before - from)) before mid (end + count) new) where
+    copied-there : (k j : ℕ) → k < n → j < getD at (q + k + 1) 0 - getD at (q + k) 0 → Tested (ltb k (before - from)) → getD new (end + (getD at (q + k) 0 - getD at q 0) + j) 0 ≡ from + k
+    copied-there k j u m (passed w) =
+        let v : k < before - from = ltb-true k (before - from) w in
+        let a = rises q (q + k) (omega arith) (omega arith) in
+        let b = rises (q + k + 1) (q + (before - from)) (omega arith) (omega arith) in
+        let d : getD at (q + k) 0 - getD at q 0 + j < count = omega arith in
+        let e : end + (getD at (q + k) 0 - getD at q 0 + j) ≡ end + (getD at (q + k) 0 - getD at q 0) + j = omega arith in
+        let f : start + (getD at (q + k) 0 - getD at q 0 + j) ≡ begin + (getD at (q + k) 0 - getD at first 0) + j = omega (arith, spans .up-to) in
+        let g : first + (from - low + k) ≡ q + k = omega arith in
+        let i : low + (from - low + k) ≡ from + k = omega arith in
+        p .below (end + (getD at (q + k) 0 - getD at q 0) + j) (omega arith)
+        ∙ rw e at (c .there (getD at (q + k) 0 - getD at q 0 + j) d)
+        ∙ rw f at (are (getD at (q + k) 0 - getD at q 0 + j) d)
+        ∙ rw (g, i) at (h .points (from - low + k) j (omega arith) (rw g m))
+    copied-there k j u m (failed w) =
+        let v : before - from ≤ k = ltb-false k (before - from) w in
+        let a = rises (q + (before - from)) (q + k) (omega arith) (omega arith) in
+        let g : q + (before - from) + (k - (before - from)) ≡ q + k = omega arith in
+        let i : before + (k - (before - from)) ≡ from + k = omega arith in
+        let d : end + count + (getD at (q + k) 0 - getD at (q + (before - from)) 0) + j ≡ end + (getD at (q + k) 0 - getD at q 0) + j = omega (arith, spans .rise) in
+        rw (g, i, d) at (p .there (k - (before - from)) j (omega arith) (rw g m))
+
+    pub points-copied : PointsPut at q n from old end new
+    points-copied =
+        record {
+          long = p .long ∙ c .long;
+          below = λ j m. p .below j (omega arith) ∙ c .below j m;
+          there = λ k j u m. copied-there k j u m (tested (ltb k (before - from)));
+        }
 
 -- there is no room for them: nothing is written
 pub entries-full : (x mark : ℕ) (on ov : List ℕ) (kept : ℕ) (es : List Entry) → length on < kept + length es → EntriesPut x mark on ov on ov kept (length on + 1) es
@@ -214,6 +281,12 @@ module _ {rows at : List ℕ} (first : ℕ) (low from : Point) (n : ℕ) (begun 
   -- how many entries they give
   many : (x : ℕ) → length (setEntries x (setAt rows at first low) from n) ≡ getD at (first + (from .0 - low .0) + n) 0 - getD at (first + (from .0 - low .0)) 0
   many x = sets-long rows at (first + (from .0 - low .0)) n sets-rise (setAt rows at first low) from set-of x n (omega arith)
+
+  -- there are none
+  pub sets-none : n ≡ 0 → (on ov : List ℕ) (kept : ℕ) → kept ≤ length on + 1 → (x : ℕ) → EntriesPut x 0 on ov on ov kept kept (setEntries x (setAt rows at first low) from n)
+  sets-none e on ov kept m x =
+      let z : kept - kept ≡ 0 = omega arith in
+      rw e (record { onLong = refl; ovLong = refl; counted = omega arith; numbers-below = λ j o. refl; rows-below = λ j o. refl; there = λ o. rw z refl })
 
   pub sets-full : (on ov : List ℕ) (kept : ℕ) → length on < kept + (getD at (first + (from .0 - low .0) + n) 0 - getD at (first + (from .0 - low .0)) 0)
       → (x : ℕ) → EntriesPut x 0 on ov on ov kept (length on + 1) (setEntries x (setAt rows at first low) from n)

@@ -1,5 +1,6 @@
 -- Facts about a node's sets and pairs as entries.
 pub mod Gathered
+pub mod Marking
 pub mod Loading
 pub mod Paired
 pub mod Moving

@@ -5,9 +5,45 @@ ghost use lib.ListN.{length, getD};
 ghost use Rattle.rowset.specs.Sets.{Run};
 ghost use Rattle.kinds.specs.Kinds.{pairsFrom};
 ghost use Rattle.room.specs.Room.{setAt, SetsInOrder};
-ghost use Rattle.node_sets.specs.Shelved.{setEntries, agedEntries, Spaces, Loaded};
+ghost use Rattle.node_sets.specs.Shelved.{setEntries, agedEntries, Spaces, NumbersWithin, Loaded};
 ghost use Rattle.node_sets.specs.Blocks.{MovedDown, RoomToKeep, EntriesPut};
-ghost use Rattle.node_sets.specs.Parts.{Moved, MarksLowered, PointsPut};
+ghost use Rattle.node_sets.specs.Parts.{EndsMarked, MarksRaised, Moved, MarksLowered, PointsPut, Numbered};
+
+// Marks where each point's rows end, where those of the entries from cursor on begin at row `end`: for each entry the mark behind its point's set, that of point low being set `sets`, is the row behind its own. The last entry of a point stays.
+fn mark_ends(
+    numbers: &[u32],
+    cursor: usize,
+    count: usize,
+    low: Point,
+    at: &mut [u32],
+    sets: usize,
+    end: usize,
+)
+    requires { ⌜ (cursor ≤ count) × (count ≤ length (now numbers)) × NumbersWithin (now numbers) cursor count (low .0) (length (now at) - 1 - sets) × (end + (count - cursor) < 4294967296) ⌝ }
+    ensures { λ _. ⌜ EndsMarked (now (numbers .entry)) cursor count (low .0) (now (at .entry)) (now (at .exit)) sets end ⌝ }
+{
+    let mut i = cursor;
+    while i < count {
+        let p = (numbers[i] - low.0) as usize;
+        i += 1;
+        at[sets + p + 1] = (end + (i - cursor)) as u32;
+    }
+}
+
+// Raises each of n marks behind mark `sets` to the highest before it.
+fn raise_marks(at: &mut [u32], sets: usize, n: usize)
+    requires { ⌜ sets + n < length (now at) ⌝ }
+    ensures { λ _. ⌜ MarksRaised (now (at .entry)) (now (at .exit)) sets n ⌝ }
+{
+    let mut m = at[sets];
+    let mut k = 0;
+    while k < n {
+        k += 1;
+        let a = at[sets + k];
+        m = if m < a { a } else { m };
+        at[sets + k] = m;
+    }
+}
 
 // Appends a node's sets at n points, from low on, behind `sets` others: the rows of its entries from cursor on before count, all at once, and a mark behind those of each point.
 pub fn load_sets(
@@ -21,18 +57,17 @@ pub fn load_sets(
     at: &mut [u32],
     sets: usize,
 )
-    requires { ⌜ (count ≤ length (now numbers)) × Run (now values) cursor count × Spaces (now rows) (now at) sets n (count - cursor) × (low .0 + n < 4294967296) ⌝ }
+    requires { ⌜ (count ≤ length (now numbers)) × Run (now values) cursor count × Spaces (now rows) (now at) sets n (count - cursor) × NumbersWithin (now numbers) cursor count (low .0) n ⌝ }
     ensures { λ _. ⌜ Loaded (now (numbers .entry)) (now (values .entry)) cursor count low n (now (rows .entry)) (now (at .entry)) (now (rows .exit)) (now (at .exit)) sets ⌝ }
 {
+    if n == 0 {
+        return;
+    }
     let end = at[sets] as usize;
     entries::copy_rows(values, cursor, count, rows, end);
-    let mut next = cursor;
-    let mut k = 0;
-    while k < n {
-        next = entries::run_end(numbers, next, count, low.0 + k as u32);
-        k += 1;
-        at[sets + k] = (end + (next - cursor)) as u32;
-    }
+    entries::fill(end as u32, n, at, sets + 1);
+    mark_ends(numbers, cursor, count, low, at, sets, end);
+    raise_marks(at, sets, n);
 }
 
 // Copies rows from..to to row end and on, which isn't behind them.
@@ -96,7 +131,36 @@ fn put_points(at: &[u32], q: usize, n: usize, from: Point, numbers: &mut [u32], 
     }
 }
 
-// Puts the rows of a node's sets at n points from `from` on behind the kept entries, with their points as numbers, where there is room for all; how many entries are then kept, or one more than there is room for. Set `first` is the one at point low.
+// The same for a node's sets at n points from `from` on, where set `first` is the one at point low: the numbers of those before point `before` stand in `numbers` from word begin on, from point low's on.
+fn put_numbers(
+    at: &[u32],
+    first: usize,
+    low: Point,
+    from: Point,
+    n: usize,
+    numbers: &[u32],
+    begin: usize,
+    before: Point,
+    out_numbers: &mut [u32],
+    end: usize,
+)
+    requires { ⌜ (low .0 ≤ from .0) × (first + (from .0 - low .0) + n < length (now at)) × ((s : ℕ) → s < first + (from .0 - low .0) + n → getD (now at) s 0 ≤ getD (now at) (s + 1) 0) × (end + (getD (now at) (first + (from .0 - low .0) + n) 0 - getD (now at) (first + (from .0 - low .0)) 0) ≤ length (now «out_numbers»)) × (from .0 + n < 4294967296) × (before .0 ≤ from .0 + n) × Numbered (now at) first (before .0 - low .0) (low .0) (now numbers) begin ⌝ }
+    ensures { λ _. ⌜ PointsPut (now (at .entry)) (first + (from .0 - low .0)) n (from .0) (now («out_numbers» .entry)) end (now («out_numbers» .exit)) ⌝ }
+{
+    let q = first + (from.0 - low.0) as usize;
+    if before.0 <= from.0 {
+        put_points(at, q, n, from, out_numbers, end);
+        return;
+    }
+    let m = (before.0 - from.0) as usize;
+    let count = (at[q + m] - at[q]) as usize;
+    let start = begin + (at[q] - at[first]) as usize;
+    let stop = start + count;
+    entries::copy_words(&numbers[start..stop], count, out_numbers, end);
+    put_points(at, q + m, n - m, before, out_numbers, end + count);
+}
+
+// Puts the rows of a node's sets at n points from `from` on behind the kept entries, with their points as numbers, where there is room for all; how many entries are then kept, or one more than there is room for. Set `first` is the one at point low; the sets before point `before` were loaded from entries, whose numbers stand from word begin on.
 pub fn keep_sets(
     rows: &[u32],
     at: &[u32],
@@ -107,10 +171,16 @@ pub fn keep_sets(
     out_numbers: &mut [u32],
     out_values: &mut [u32],
     kept: usize,
+    numbers: &[u32],
+    begin: usize,
+    before: Point,
 ) -> usize
-    requires { ⌜ (low .0 ≤ from .0) × SetsInOrder (now rows) (now at) (first + (from .0 + n - low .0)) × (from .0 + n < 4294967296) × RoomToKeep (now «out_numbers») (now «out_values») kept ⌝ }
+    requires { ⌜ (low .0 ≤ from .0) × SetsInOrder (now rows) (now at) (first + (from .0 + n - low .0)) × (from .0 + n < 4294967296) × RoomToKeep (now «out_numbers») (now «out_values») kept × (before .0 ≤ from .0 + n) × Numbered (now at) first (before .0 - low .0) (low .0) (now numbers) begin ⌝ }
     ensures { λ r. ⌜ ((x : ℕ) → EntriesPut x 0 (now («out_numbers» .entry)) (now («out_values» .entry)) (now («out_numbers» .exit)) (now («out_values» .exit)) kept r (setEntries x (setAt (now (rows .entry)) (now (at .entry)) first low) from n)) ⌝ }
 {
+    if n == 0 {
+        return kept;
+    }
     let q = first + (from.0 - low.0) as usize;
     let start = at[q] as usize;
     let end = at[q + n] as usize;
@@ -120,11 +190,22 @@ pub fn keep_sets(
         return most + 1;
     }
     entries::copy_rows(rows, start, end, out_values, kept);
-    put_points(at, q, n, from, out_numbers, kept);
+    put_numbers(
+        at,
+        first,
+        low,
+        from,
+        n,
+        numbers,
+        begin,
+        before,
+        out_numbers,
+        kept,
+    );
     kept + count
 }
 
-// The same for pairs, each an age and a row, with their ages as numbers.
+// Puts pairs, each an age and a row, behind the kept entries with their ages as numbers, in the same way.
 pub fn keep_pairs(
     ages: &[u32],
     values: &[u32],

@@ -3,13 +3,12 @@ use Prim.Native.Nat.{ℕ, _+_, _-_, _*_, _≤_, _<_}
 use native.Mathlib.Omega.{arith}
 use mathlib.Core.Path.{_≡_, sym, ap, _∙_}
 use mathlib.Core.List.{List}
-use lib.ListN.{length, getD, length-map, length-append}
-use Rattle.meaning.specs.Lists.{range, gather}
+use lib.ListN.{length, getD, length-append}
+use Rattle.meaning.specs.Lists.{gather}
 use Rattle.meaning.specs.Log.{point, pointsFrom}
 use Rattle.meaning.specs.Outcome.{given}
 use Rattle.meaning.specs.RuleFile.{Accepted, checking, nodeCount}
 use Rattle.meaning.specs.Kept.{entryOf}
-use Rattle.meaning.proofs.Lists.{range-length}
 use Rattle.meaning.proofs.Accepted.{nodes-most}
 use Rattle.method.specs.Stored.{Stored, baseOf, held}
 use Rattle.method.specs.Step.{wantedFrom, countBefore, countAfter}
@@ -18,15 +17,13 @@ use Rattle.method.proofs.Bounds.{before-after, after-most, wanted-before, wante
 use Rattle.method.proofs.Room.{entries-rows}
 use Rattle.rowset.specs.Sets.{Run}
 use Rattle.entries.specs.Entries.{entriesFrom}
-use Rattle.node_sets.specs.Shelved.{setEntries, Spaces}
+use Rattle.node_sets.specs.Shelved.{setEntries, Spaces, NumbersWithin}
+use Rattle.node_sets.proofs.Gathered.{entries-many}
+use Rattle.node_sets.proofs.Loading.{numbers-within}
 use Rattle.node_step.specs.declared.Own.{Own}
 use Rattle.node_step.specs.Figures.{NodeFigures, CallReady}
 use Rattle.node_step.specs.Walks.{RoomFor}
 use Rattle.node_step.specs.Parts.{OwnFigures, ChildFigures}
-
-entries-many : (os ns vs : List ℕ) (from count : ℕ) → length (entriesFrom os ns vs from count) ≡ count
-unfolding entriesFrom
-entries-many os ns vs from count = length-map (range from count) _ ∙ range-length from count
 
 -- room for more is room for fewer
 fewer-words : (a k m r : ℕ) → (a + (k + m)) * 4 ≤ r → (a + k) * 4 ≤ r
@@ -128,6 +125,9 @@ module _ {s : Stored} {w os ns vs stamps f : List ℕ} (g : CallReady s w os ns 
     load-rows =
         let m = numbers in
         record { ordered = omega arith; there = omega arith }
+
+    pub load-numbers : NumbersWithin ns (o .begin) (o .pairs) (o .low .0) (o .before - o .low .0)
+    load-numbers = numbers-within (held (s .entries) x) (o .low) os ns vs (o .begin) (o .pairs) x (o .before - o .low .0) (numbers .begin-pairs) entries-here
 
     module _ {rows at : List ℕ} {n : ℕ} (r : RoomFor rows at n (setsMost s w x) (rowsMost s w x)) where
       pub room-here : RoomFor rows at n (o .after - o .low .0) (o .pairs - o .begin + 32 * (o .after - o .before))

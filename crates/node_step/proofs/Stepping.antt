@@ -30,6 +30,7 @@ use Rattle.entries.specs.Entries.{entriesFrom}
 use Rattle.entries.specs.Appended.{Extended}
 use Rattle.entries.proofs.Growth.{extended-as, extended-then}
 use Rattle.node_sets.specs.Shelved.{setEntries, agedEntries, Loaded}
+use Rattle.node_sets.specs.Parts.{Numbered}
 use Rattle.since.specs.Since.{heldIn}
 use Rattle.settling.specs.Inputs.{asked}
 use Rattle.kinds.specs.Kinds.{PairsThere}
@@ -37,7 +38,7 @@ use Rattle.node_step.specs.declared.Own.{Own}
 use Rattle.node_step.specs.declared.Spot.{Spot}
 use Rattle.node_step.specs.Figures.{CallReady}
 use Rattle.node_step.specs.Walks.{RoomFor, ChildrenStand, turnSet, OutThere}
-use Rattle.node_step.specs.Parts.{OwnFigures, ChildSetsAre, SeesFirst, PointsReady, PointsSettled, BlockReady, BlockPut, BlockKept}
+use Rattle.node_step.specs.Parts.{OwnFigures, ChildSetsAre, agesOf, SeesFirst, PointsReady, PointsSettled, BlockReady, BlockPut, BlockKept}
 use Rattle.node_step.proofs.Laying.{set-few, run-few, sets-more}
 use Rattle.node_step.proofs.Given.{sight, turn-pairs, rows-at, rows-held, rows-new}
 use Rattle.node_step.proofs.Pairs.{part-there, held-part}
@@ -94,7 +95,7 @@ module _ {s : Stored} {w os ns vs stamps f : List ℕ} {x : ℕ} {o : Own} {spot
 
   -- its pairs, as they stand in the words
   abbrev pub oldAges : List ℕ
-  oldAges = take (o .end - o .pairs) (drop (o .pairs) ns)
+  oldAges = agesOf ns o
 
   abbrev pub oldValues : List ℕ
   oldValues = take (o .end * 4 - o .pairs * 4) (drop (o .pairs * 4) vs)
@@ -248,7 +249,23 @@ module _ {s : Stored} {w os ns vs stamps f : List ℕ} {x : ℕ} {o : Own} {spot
           let many : o .after - o .want .0 ≡ countAfter s w x - wantedFrom (s .rule) (countAfter s w) x .0 = rw (want-is g x l h, after-is g x l h) in
           ap₂ (λ es fs. es ++ fs) (rows ∙ ap₂ (λ a n. gather (λ j. map (entryOf x 0 (j .0)) (rowsOfTurn (turn s w x) j)) (pointsFrom (point a) n)) (want-is g x l h) many) (ap (agedEntries x) pairs)
 
-      pub block-ready : {on ov bl : List ℕ} → OutThere s w on ov bl (spot .kept) → BlockReady (s .rule) w rows₂ at₂ stamps base oldAges oldValues left right (spot .sets) o node on ov bl x (spot .kept)
+      -- the numbers of its kept sets, by the marks that stand now
+      mark-loaded : (q : ℕ) → q ≤ o .before - o .low .0 → getD at₂ (spot .sets + q) 0 ≡ getD at₁ (spot .sets + q) 0
+      mark-loaded q u = p .more told .marks (spot .sets + q) (omega arith)
+
+      loaded-numbers : Numbered at₂ (spot .sets) (o .before - o .low .0) (o .low .0) ns (o .begin)
+      loaded-numbers =
+          let z : spot .sets + 0 ≡ spot .sets = omega arith in
+          let first : getD at₂ (spot .sets) 0 ≡ getD at₁ (spot .sets) 0 = rw z at (mark-loaded 0 (omega arith)) in
+          record {
+            points = λ q j u v.
+                let e : spot .sets + (q + 1) ≡ spot .sets + q + 1 = omega arith in
+                let next : getD at₂ (spot .sets + q + 1) 0 ≡ getD at₁ (spot .sets + q + 1) 0 = rw e at (mark-loaded (q + 1) (omega arith)) in
+                rw (mark-loaded q (omega arith), first) (k .read .numbered os x (held (s .entries) x) (entries-here g x l h) q j u (rw (mark-loaded q (omega arith), next) at v));
+            within = rw (mark-loaded (o .before - o .low .0) (omega arith), first) (omega (arith, loaded-end, loaded .marks (spot .sets) (omega arith), nums .begin-pairs, nums .pairs-end, nums .end-there, nums .numbers-there));
+          }
+
+      pub block-ready : {on ov bl : List ℕ} → OutThere s w on ov bl (spot .kept) → BlockReady (s .rule) w rows₂ at₂ stamps base ns oldValues left right (spot .sets) o node on ov bl x (spot .kept)
       block-ready out =
           let m = nums .before-after in
           record {
@@ -256,6 +273,9 @@ module _ {s : Stored} {w os ns vs stamps f : List ℕ} {x : ℕ} {o : Own} {spot
             want-after = nums .want-after;
             small = omega (arith, nums .after-most, nums .few-points);
             laid = whole .laid;
+            numbered = loaded-numbers;
+            pairs-end = nums .pairs-end;
+            end-there = omega (arith, nums .end-there, nums .numbers-there);
             pairs =
                 record {
                   ordered = nums .before-after;

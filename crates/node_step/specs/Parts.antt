@@ -3,7 +3,7 @@ use Prim.Native.Nat.{ℕ, _+_, _-_, _*_, _≤_, _<_, min}
 use mathlib.Core.Path.{_≡_}
 use mathlib.Core.Bool.{Bool, true, false}
 use mathlib.Core.List.{List, [], _∷_, _++_}
-use lib.ListN.{length, getD}
+use lib.ListN.{length, getD, take, drop}
 use Rattle.meaning.specs.Log.{point}
 use Rattle.meaning.specs.Outcome.{mostRows}
 use Rattle.meaning.specs.Kept.{Entry}
@@ -16,6 +16,7 @@ use Rattle.room.specs.declared.Child.{Child}
 use Rattle.entries.specs.Appended.{Space, Extended}
 use Rattle.node_sets.specs.Shelved.{setEntries, agedEntries, Spaces}
 use Rattle.node_sets.specs.Blocks.{RoomToKeep, EntriesPut}
+use Rattle.node_sets.specs.Parts.{Numbered}
 use Rattle.since.specs.Since.{heldIn}
 use Rattle.settling.specs.Inputs.{asked, InputsStand}
 use Rattle.node_step.specs.declared.Own.{Own}
@@ -48,6 +49,10 @@ pub record OwnFigures (f : List ℕ) (x : ℕ) (o : Own) : Type 0 where
   pub begin : o .begin ≡ beginIn f x
   pub pairs : o .pairs ≡ pairsIn f x
   pub end : o .end ≡ endIn f x
+
+-- the ages of its pairs, among the numbers of all entries
+abbrev pub agesOf : List ℕ → Own → List ℕ
+agesOf ns o = take (o .end - o .pairs) (drop (o .pairs) ns)
 
 -- ---- the newly settled points
 
@@ -116,13 +121,16 @@ pub record BlockPut (x : ℕ) (on ov bl on' ov' bl' : List ℕ) (kept kept' : �
   pub within : blockWord bl' x 2 ≤ kept'
   pub there : kept' ≤ length on → blockIn on' ov' bl' x ≡ es
 
--- what must stand for a node's block: its sets from set first on, and what its pairs ask for
-pub record BlockReady (b w rows at times : List ℕ) (base : Point) (oldAges oldValues : List ℕ) (left right : Child) (first : ℕ) (o : Own) (node : Node) (on ov bl : List ℕ) (x kept : ℕ) : Type 0 where
+-- what must stand for a node's block: its sets from set first on, the numbers of those that were loaded, and what its pairs ask for
+pub record BlockReady (b w rows at times : List ℕ) (base : Point) (ns oldValues : List ℕ) (left right : Child) (first : ℕ) (o : Own) (node : Node) (on ov bl : List ℕ) (x kept : ℕ) : Type 0 where
   pub low-want : o .low .0 ≤ o .want .0
   pub want-after : o .want .0 ≤ o .after
   pub small : o .after < 4294967296
   pub laid : SetsInOrder rows at (first + (o .after - o .low .0))
-  pub pairs : PairsReady b w rows at times base oldAges oldValues left right (point (o .before)) (point (o .after)) node on ov kept
+  pub numbered : Numbered at first (o .before - o .low .0) (o .low .0) ns (o .begin)
+  pub pairs-end : o .pairs ≤ o .end
+  pub end-there : o .end ≤ length ns
+  pub pairs : PairsReady b w rows at times base (agesOf ns o) oldValues left right (point (o .before)) (point (o .after)) node on ov kept
   pub table : setWords + x * 3 + 3 ≤ length bl
 
 -- its rows at the points that are wanted, and then its pairs, are its block

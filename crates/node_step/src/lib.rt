@@ -15,7 +15,7 @@ ghost use Rattle.method.specs.Room.{rowsMost, setsMost};
 ghost use Rattle.rowset.specs.Sets.{SetRoom};
 ghost use Rattle.node_step.specs.Figures.{called, CallReady};
 ghost use Rattle.node_step.specs.Walks.{setWords, RoomFor, ChildrenStand, OutThere, Walks};
-ghost use Rattle.node_step.specs.Parts.{childIn, ChildFigures, ChildSetsAre, OwnFigures, NextReady, NextSettled, PointsReady, PointsSettled, PairsReady, PairsKept, BlockReady, BlockKept};
+ghost use Rattle.node_step.specs.Parts.{childIn, ChildFigures, ChildSetsAre, OwnFigures, agesOf, NextReady, NextSettled, PointsReady, PointsSettled, PairsReady, PairsKept, BlockReady, BlockKept};
 
 // Where a node's step begins: so many sets are below its children's, so many stand in all, left's and right's begin at these sets, and so many entries are kept.
 pub struct Spot {
@@ -282,7 +282,7 @@ fn keep_node(
     times: &[u32],
     base: Point,
     event: &[u32],
-    old_ages: &[u32],
+    numbers: &[u32],
     old_values: &[u32],
     own: Own,
     out_numbers: &mut [u32],
@@ -291,8 +291,8 @@ fn keep_node(
     x: u8,
     spot: Spot,
 ) -> usize
-    requires { ⌜ BlockReady (now rule) (now event) (now rows) (now at) (now times) base (now «old_ages») (now «old_values») (children .left) (children .right) (spot .sets) own node (now «out_numbers») (now «out_values») (now blocks) x (spot .kept) ⌝ }
-    ensures { λ r. ⌜ BlockKept (now (rule .entry)) (now (event .entry)) (now (rows .entry)) (now (at .entry)) (now (times .entry)) base (now («old_ages» .entry)) (now («old_values» .entry)) (children .left) (children .right) (spot .sets) own node (now («out_numbers» .entry)) (now («out_values» .entry)) (now (blocks .entry)) x (spot .kept) (now («out_numbers» .exit)) (now («out_values» .exit)) (now (blocks .exit)) r ⌝ }
+    requires { ⌜ BlockReady (now rule) (now event) (now rows) (now at) (now times) base (now numbers) (now «old_values») (children .left) (children .right) (spot .sets) own node (now «out_numbers») (now «out_values») (now blocks) x (spot .kept) ⌝ }
+    ensures { λ r. ⌜ BlockKept (now (rule .entry)) (now (event .entry)) (now (rows .entry)) (now (at .entry)) (now (times .entry)) base (agesOf (now (numbers .entry)) own) (now («old_values» .entry)) (children .left) (children .right) (spot .sets) own node (now («out_numbers» .entry)) (now («out_values» .entry)) (now (blocks .entry)) x (spot .kept) (now («out_numbers» .exit)) (now («out_values» .exit)) (now (blocks .exit)) r ⌝ }
 {
     let n = (own.after - own.want.0) as usize;
     let pairs = node_sets::keep_sets(
@@ -305,7 +305,12 @@ fn keep_node(
         out_numbers,
         out_values,
         spot.kept,
+        numbers,
+        own.begin,
+        Point(own.before),
     );
+    let from = own.pairs;
+    let to = own.end;
     let kept = keep_pairs_at(
         node,
         rule,
@@ -315,7 +320,7 @@ fn keep_node(
         times,
         base,
         event,
-        old_ages,
+        &numbers[from..to],
         old_values,
         Point(own.before),
         Point(own.after),
@@ -405,7 +410,7 @@ pub fn own_step(
         stamps,
         base,
         event,
-        old_ages,
+        numbers,
         old_values,
         own,
         out_numbers,

@@ -1,59 +1,70 @@
--- `load_sets` meets its contract. The loop's invariant: the sets of k points are marked, and next is at the entries of the others.
-use Prim.Native.Nat.{_-_, _≤_}
+-- `load_sets` meets its contract: rows copied, marks filled, set by the entries and raised are the node's sets; or there is nothing to load.
+use Prim.Native.Nat.{_-_}
 use native.Mathlib.Omega.{arith}
-use mathlib.Core.Path.{refl}
+use mathlib.Core.Path.{_∙_}
 use borrow.Author.Needs.{needs}
-use Rattle.node_sets.proofs.Loading.{Loading, loading-none, run-fits, loading-more, loading-all}
+use Rattle.node_sets.proofs.Loading.{loaded-none, loaded-all, numbers-fit}
 use Rattle.node_sets.proofs.load_sets.Statement.{statement}
 use Rattle.node_sets.proofs.load_sets.Tie as tie
 
-abbrev Inv-loop : tie.InvT-loop
-Inv-loop numbers values cursor count low n rows at₀ sets end next₀ k₀ at next k = Loading numbers values cursor count low n rows at₀ at sets next k
+-- the places behind one another
+abbrev entry : tie.After-copy-rows → tie.Start
+entry c = c .before .before .before .before .before .before .before .before
 
-abbrev μ-loop : tie.MeasureT-loop
-μ-loop numbers values cursor count low n rows at₀ sets end next₀ k₀ at next k = n - k
+abbrev copied : tie.After-fill → tie.After-copy-rows
+copied c = c .before .before .before .before
 
-copy-rows-requires : tie.Need-copy-rows-requires Inv-loop μ-loop
-copy-rows-requires c κs = let s = c .before .before .before .before .before .before in (s .pre .1, s .pre .2 .words)
+abbrev filled : tie.After-mark-ends → tie.After-fill
+filled c = c .before .before .before .before
 
-loop-holds : tie.Need-loop-holds Inv-loop μ-loop
-loop-holds c =
-    let s = c .before .before .before .before .before .before .before .before .before in
+abbrev marked : tie.After-raise-marks → tie.After-mark-ends
+marked c = c .before .before .before .before
+
+returns : tie.Need-returns
+returns c =
+    let s = c .before .before .before .before .before in
     let a = s .args in
-    let l = s .pre .2 .laid in
-    loading-none (a .numbers .now) (a .values .now) (a .cursor) (a .count) (a .low) (a .n) (s .pre .1 .ordered)
-    (record { marks = l .marks; steps = l .steps; words = omega (arith, l .words, c .before .before .copy-rows .ensures .long) })
+    loaded-none (a .numbers .now) (a .values .now) (a .cursor) (a .count) (a .low) (a .n) (c .if1 .taken) (s .pre .2 .laid)
 
--- where the next run ends
-fits : (c : tie.After-run-end Inv-loop μ-loop) → c .run-end .result ≤ c .before .before .before .before .before .before .before .before .before .before .before .before .before .args .count
-fits c = omega (arith, c .run-end .ensures, run-fits (c .before .before .before .before .before .before .before .before .before .before .before .before .before .pre .2) (c .before .before .before .before .before .before .copy-rows .ensures) (c .before .before .before .loop .inv) (c .before .before .loop-test .taken))
+mark-ends-requires : tie.Need-mark-ends-requires
+mark-ends-requires c κs =
+    let f = c .before .before .before in
+    let s = entry (copied f) in
+    (s .pre .1 .ordered, s .pre .0, numbers-fit (s .pre .2) (s .pre .3) (f .fill .ensures), s .pre .2 .small)
 
-loop-again : tie.Need-loop-again Inv-loop μ-loop
-loop-again c = loading-more (c .before .before .before .before .before .before .before .before .before .before .before .before .before .pre .2) (c .before .before .before .before .before .before .copy-rows .ensures) (c .before .before .before .loop .inv) (c .before .before .loop-test .taken) (c .run-end .ensures) refl
+raise-marks-requires : tie.Need-raise-marks-requires
+raise-marks-requires c κs =
+    let m = c .before .before .before in
+    omega (arith, m .mark-ends .ensures .long, filled m .fill .ensures .long, entry (copied (filled m)) .pre .2 .marks)
+
+same-length-2 : tie.Need-same-length-2
+same-length-2 c =
+    let t = c .before .before in
+    let m = marked t in
+    t .raise-marks .ensures .long ∙ m .mark-ends .ensures .long ∙ filled m .fill .ensures .long
+
+returns-2 : tie.Need-returns-2
+returns-2 c =
+    let t = c .before .before in
+    let m = marked t in
+    let f = filled m in
+    let s = entry (copied f) in
+    loaded-all (s .args .values .now) (s .pre .1 .ordered) (s .pre .2) (copied f .copy-rows .ensures) (f .fill .ensures) (m .mark-ends .ensures) (t .raise-marks .ensures)
 
 pub load-sets-spec : {M : Type 1} → statement M
 load-sets-spec =
     tie.close
     (tie.spec
-    Inv-loop
-    μ-loop
+    returns
     (λ c. search needs)
-    (λ c. omega (arith, c .before .before .before .before .before .pre .2 .marks))
-    (λ c. omega (arith, c .before .before .before .before .before .pre .2 .small))
-    copy-rows-requires
-    loop-holds
-    (λ c. omega (arith, c .before .before .before .before .before .before .before .before .before .before .before .pre .3))
-    (λ c. omega (arith, c .before .before .before .before .before .before .before .before .before .before .before .before .pre .3))
-    (λ c κs. c .before .before .before .before .before .before .before .before .before .before .before .before .pre .0)
-    (λ c. omega (arith, c .before .before .loop-test .taken))
-    (λ c. omega (arith, c .run-end .ensures, c .before .before .before .loop .inv .onward))
-    (λ c. omega (arith, fits c, c .before .before .before .before .before .before .before .before .before .before .before .before .before .pre .2 .small))
-    (λ c. omega (arith, fits c, c .before .before .before .before .before .before .before .before .before .before .before .before .before .pre .2 .small))
-    (λ c. omega (arith, c .before .before .before .before .before .before .before .before .before .before .before .before .before .pre .2 .marks))
+    (λ c. omega (arith, c .before .before .before .before .before .before .pre .2 .laid .marks))
     (λ c. search needs)
-    (λ c. omega (arith, c .before .before .before .before .before .before .before .before .before .before .before .before .before .pre .2 .marks, c .before .before .before .loop .inv .more .atLong))
-    (λ c. omega (arith, c .before .before .loop-test .taken))
-    loop-again
-    (λ c. c .before .before .before .before .copy-rows .ensures .long)
-    (λ c. c .before .loop .inv .more .atLong)
-    (λ c. loading-all (c .before .before .before .before .before .before .before .before .before .before .before .pre .2) (c .before .before .before .before .copy-rows .ensures) (c .before .loop .inv) (c .loop-test .left)))
+    (λ c κs. let s = c .before .before .before .before .before .before .before in (s .pre .1, s .pre .2 .words))
+    (λ c. search needs)
+    (λ c. search needs)
+    (λ c κs. omega (arith, c .before .before .before .before .before .before .before .before .before .before .before .pre .2 .marks))
+    mark-ends-requires
+    raise-marks-requires
+    (λ c. copied (filled (marked (c .before .before))) .copy-rows .ensures .long)
+    same-length-2
+    returns-2)

@@ -9,7 +9,7 @@ use borrow.Author.Tests.{not-true, not-false}
 use Rattle.meaning.proofs.Accepted.{accepted}
 use Rattle.node_step.specs.Figures.{called}
 use Rattle.node_step.specs.Walks.{setWords}
-use Rattle.node_step.proofs.Numbers.{Numbers, numbers, load-rows, load-spaces}
+use Rattle.node_step.proofs.Numbers.{Numbers, numbers, load-rows, load-spaces, load-numbers}
 use Rattle.node_step.proofs.Seeing.{children-figures}
 use Rattle.node_step.proofs.Keeping.{set-room, table-stays, room-stays}
 use Rattle.node_step.proofs.Stepping.{Loads, points-ready, block-ready, down-laid}
@@ -67,7 +67,7 @@ load-sets-requires c κs =
       omega (arith, m .pairs-end, m .end-there, m .numbers-there),
       load-rows (s .pre .0) (s .args .x) (s .pre .1 .0 .0) (d .own-figures .ensures),
       load-spaces (s .pre .0) (s .args .x) (s .pre .1 .0 .0) (d .own-figures .ensures) (s .pre .1 .1 .0),
-      omega (arith, m .low-before, m .before-after, m .after-most, m .few-points),
+      load-numbers (s .pre .0) (s .args .x) (s .pre .1 .0 .0) (d .own-figures .ensures),
     )
 
 -- the table is there, and stays while sets are made before it
