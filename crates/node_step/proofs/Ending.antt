@@ -22,7 +22,7 @@ use Rattle.node_step.specs.declared.Spot.{Spot}
 use Rattle.node_step.specs.Walks.{turnSet, OutThere, BlockStands, Keeps, Walks}
 use Rattle.node_step.specs.Parts.{PointsSettled, BlockPut, BlockKept}
 use Rattle.node_step.proofs.Laying.{set-few, sets-fewer, sets-more, extended-front}
-use Rattle.node_step.proofs.Keeping.{block-same}
+use Rattle.node_step.proofs.Keeping.{TableStays, put-stays, block-same}
 use Rattle.node_step.proofs.Numbers.{numbers, sets-most, rows-most}
 use Rattle.node_step.proofs.Stepping.{Loads, base, oldAges, oldValues, crowds, front-stays, whole, whole-sets, whole-end, calm-here, block-now}
 
@@ -33,9 +33,9 @@ moved-end end b low high a k m e f h = omega arith
 module _ {s : Stored} {w : List ℕ} {x : ℕ} where
   -- ---- a crowded node
 
-  walks-crowded : {h sets : ℕ} {rows at rows' at' on ov bl : List ℕ} {kept W : ℕ} → x < 32 → h ≤ sets → Sets rows at sets → Extended rows at rows' at' sets 0 (λ q. []) → kept ≤ length on + 1 → crowdedNow s w x ≡ true
-      → Walks s w (λ y. y ≡ x) W x h rows at rows' at' on ov bl on ov bl kept (record { kept = kept; low = x })
-  walks-crowded {h} {sets} {rows} {at} {rows'} {at'} u l t e k c =
+  walks-crowded : {h sets : ℕ} {rows at rows' at' on ov bl bl' : List ℕ} {kept W : ℕ} → x < 32 → h ≤ sets → Sets rows at sets → Extended rows at rows' at' sets 0 (λ q. []) → length bl' ≡ length bl → kept ≤ length on + 1 → crowdedNow s w x ≡ true
+      → Walks s w (λ y. y ≡ x) W x h rows at rows' at' on ov bl on ov bl' kept (record { kept = kept; low = x })
+  walks-crowded {h} {sets} {rows} {at} {rows'} {at'} u l t e b k c =
       let n : eqb x 32 ≡ false = ne-eqb x 32 (λ d. omega arith) in
       let z : h + 0 ≡ h = omega arith in
       let f : Extended rows at rows' at' h 0 (turnSet s w x) = extended-front e h l in
@@ -50,7 +50,7 @@ module _ {s : Stored} {w : List ℕ} {x : ℕ} where
         few = k;
         onLong = refl;
         ovLong = refl;
-        blLong = refl;
+        blLong = b;
         keeps = λ d. absurd (omega arith);
       }
 
@@ -121,16 +121,16 @@ module _ {s : Stored} {w : List ℕ} {x : ℕ} where
 module _ {s : Stored} {w os ns vs stamps f : List ℕ} {x : ℕ} {o : Own} {spot : Spot} {rows at : List ℕ} {left right : Child} {node : Node} {rows₁ at₁ : List ℕ}
     (k : Loads s w os ns vs stamps f x o spot rows at left right node rows₁ at₁) {rows₂ at₂ : List ℕ} {done : Bool}
     (p : PointsSettled (s .rule) w rows₁ at₁ stamps (base k) (oldAges k) (oldValues k) left right (spot .sets + (o .before - o .low .0)) (point (o .before)) (point (o .after)) node rows₂ at₂ done)
-    {on ov bl : List ℕ} (out : OutThere s w on ov bl (spot .kept)) where
+    {on ov bl bl₁ : List ℕ} (out : OutThere s w on ov bl (spot .kept)) (table : TableStays bl bl₁) where
   few-nodes : x < 32
   few-nodes = numbers (k .ready) x (k .here) (k .figures) .node
 
-  pub step-crowded : done ≡ false → Walks s w (λ y. y ≡ x) (length (entriesNow s w x)) x (spot .below) rows at rows₂ at₂ on ov bl on ov bl (spot .kept) (record { kept = spot .kept; low = x })
-  step-crowded told = walks-crowded few-nodes (k .below) (k .room .stand) (front-stays k p) (out .counted) (crowds k p told)
+  pub step-crowded : done ≡ false → Walks s w (λ y. y ≡ x) (length (entriesNow s w x)) x (spot .below) rows at rows₂ at₂ on ov bl on ov bl₁ (spot .kept) (record { kept = spot .kept; low = x })
+  step-crowded told = walks-crowded few-nodes (k .below) (k .room .stand) (front-stays k p) (table .long) (out .counted) (crowds k p told)
 
-  pub step-kept : done ≡ true → {on' ov' bl' rows₃ at₃ : List ℕ} {kept' : ℕ} → BlockKept (s .rule) w rows₂ at₂ stamps (base k) (oldAges k) (oldValues k) left right (spot .sets) o node on ov bl x (spot .kept) on' ov' bl' kept'
+  pub step-kept : done ≡ true → {on' ov' bl' rows₃ at₃ : List ℕ} {kept' : ℕ} → BlockKept (s .rule) w rows₂ at₂ stamps (base k) (oldAges k) (oldValues k) left right (spot .sets) o node on ov bl₁ x (spot .kept) on' ov' bl' kept'
       → MovedDown rows₂ at₂ rows₃ at₃ (spot .below) (spot .sets - spot .below) (o .after - o .low .0)
       → Walks s w (λ y. y ≡ x) (length (entriesNow s w x)) x (spot .below) rows at rows₃ at₃ on ov bl on' ov' bl' (spot .kept) (record { kept = kept'; low = 32 })
   step-kept told b d =
-      walks-kept (out .counted) (block-now k p told b) (o .after - o .low .0) (o .pairs - o .begin) (32 * (o .after - o .before)) few-nodes (k .below) (sets-most (k .ready) x (k .here) (k .figures)) (rows-most (k .ready) x (k .here) (k .figures))
+      walks-kept (out .counted) (put-stays table (block-now k p told b)) (o .after - o .low .0) (o .pairs - o .begin) (32 * (o .after - o .before)) few-nodes (k .below) (sets-most (k .ready) x (k .here) (k .figures)) (rows-most (k .ready) x (k .here) (k .figures))
       (whole k p told) (whole-sets k p told) (whole-end k p told) d (calm-here k p told)

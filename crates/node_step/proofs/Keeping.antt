@@ -4,13 +4,15 @@ use native.Mathlib.Omega.{arith}
 use mathlib.Core.Path.{_≡_, refl, sym, ap, ap₂, _∙_}
 use mathlib.Core.List.{List, [], _∷_, _++_, map}
 use lib.ListN.{length, getD, set, take, drop, length-set, length-map, length-append, length-take, length-drop, List·getD-append}
-use lib.Seq.{getD-set-same, getD-set-other, getD-append-add, getD-take, length-take-le}
+use lib.Seq.{getD-set-same, getD-set-other, getD-append-add, getD-take, getD-drop, length-take-le}
 use Rattle.meaning.specs.Lists.{range}
 use Rattle.meaning.specs.Log.{point}
 use Rattle.meaning.specs.Kept.{Entry, entryOf}
 use Rattle.meaning.specs.declared.Point.{Point}
 use Rattle.meaning.specs.declared.Node.{Node}
+use Rattle.method.specs.Stored.{Stored}
 use Rattle.rowset.specs.Rows.{rowAt}
+use Rattle.rowset.specs.Sets.{SetRoom}
 use Rattle.kinds.specs.Kinds.{pairAt, pairsFrom, PairsThere}
 use Rattle.room.specs.declared.Child.{Child}
 use Rattle.entries.proofs.Listed.{listed-same, listed-moved, map-twice}
@@ -19,7 +21,7 @@ use Rattle.node_sets.specs.Blocks.{RoomToKeep, EntriesPut}
 use Rattle.since.specs.Since.{heldIn, PairsPut}
 use Rattle.settling.specs.Inputs.{PairsSettled}
 use Rattle.node_step.specs.Parts.{PairsReady, PairsKept, BlockPut}
-use Rattle.node_step.specs.Walks.{blockWord, blockIn}
+use Rattle.node_step.specs.Walks.{setWords, blockWord, blockIn, OutThere}
 
 -- ---- words
 
@@ -149,41 +151,83 @@ module _ {b w rows at times : List ℕ} {base : Point} {oldAges oldValues : List
 
 -- ---- blocks
 
+-- a set is made in the words before the table
+pub set-room : (bl : List ℕ) → setWords ≤ length bl → SetRoom (take setWords bl) 0
+set-room bl l = record { most = omega arith; there = omega (arith, length-take-le setWords bl l) }
+
+-- and the table stays
+pub record TableStays (bl bl' : List ℕ) : Type 0 where
+  pub long : length bl' ≡ length bl
+  pub words : (x k : ℕ) → blockWord bl' x k ≡ blockWord bl x k
+
+pub table-stays : (bl : List ℕ) → setWords ≤ length bl → (ws : List ℕ) → length ws ≡ length (take setWords bl) → TableStays bl (ws ++ drop setWords bl)
+table-stays bl l ws e =
+    let n : length ws ≡ setWords = e ∙ length-take-le setWords bl l in
+    record {
+      long = omega (arith, n, length-append ws (drop setWords bl), length-drop setWords bl);
+      words = λ x k.
+          let i : setWords + x * 3 + k ≡ length ws + (x * 3 + k) = omega (arith, n) in
+          let j : setWords + x * 3 + k ≡ setWords + (x * 3 + k) = omega arith in
+          ap (λ q. getD (ws ++ drop setWords bl) q 0) i ∙ getD-append-add ws (drop setWords bl) (x * 3 + k) 0 ∙ getD-drop setWords bl (x * 3 + k) 0
+          ∙ ap (λ q. getD bl q 0) (sym j);
+    }
+
+-- so that there is as much room, and what is put into it then is put into it as it was
+module _ {bl bl₁ : List ℕ} (t : TableStays bl bl₁) where
+  pub room-stays : {s : Stored} {w on ov : List ℕ} {kept : ℕ} → OutThere s w on ov bl kept → OutThere s w on ov bl₁ kept
+  room-stays out = record { few = out .few; rows = out .rows; table = omega (arith, out .table, t .long); counted = out .counted }
+
+  pub put-stays : {x : ℕ} {on ov on' ov' bl' : List ℕ} {kept kept' : ℕ} {es : List Entry} → BlockPut x on ov bl₁ on' ov' bl' kept kept' es → BlockPut x on ov bl on' ov' bl' kept kept' es
+  put-stays p =
+      record {
+        onLong = p .onLong;
+        ovLong = p .ovLong;
+        blLong = p .blLong ∙ t .long;
+        counted = p .counted;
+        numbers-below = p .numbers-below;
+        rows-below = p .rows-below;
+        others = λ y d k h. p .others y d k h ∙ t .words y k;
+        rows-first = p .rows-first;
+        pairs-last = p .pairs-last;
+        within = p .within;
+        there = p .there;
+      }
+
 -- the three words of node x set in the table
-module _ (bl : List ℕ) (x : ℕ) (l : x * 3 + 3 ≤ length bl) (i j k : ℕ) where
+module _ (bl : List ℕ) (x : ℕ) (l : setWords + x * 3 + 3 ≤ length bl) (i j k : ℕ) where
   abbrev pub noted : List ℕ
-  noted = set (set (set bl (x * 3) i) (x * 3 + 1) j) (x * 3 + 2) k
+  noted = set (set (set bl (setWords + x * 3) i) (setWords + x * 3 + 1) j) (setWords + x * 3 + 2) k
 
-  one-long : length (set bl (x * 3) i) ≡ length bl
-  one-long = length-set bl (x * 3) i
+  one-long : length (set bl (setWords + x * 3) i) ≡ length bl
+  one-long = length-set bl (setWords + x * 3) i
 
-  two-long : length (set (set bl (x * 3) i) (x * 3 + 1) j) ≡ length bl
-  two-long = length-set (set bl (x * 3) i) (x * 3 + 1) j ∙ one-long
+  two-long : length (set (set bl (setWords + x * 3) i) (setWords + x * 3 + 1) j) ≡ length bl
+  two-long = length-set (set bl (setWords + x * 3) i) (setWords + x * 3 + 1) j ∙ one-long
 
   pub noted-long : length noted ≡ length bl
-  noted-long = length-set (set (set bl (x * 3) i) (x * 3 + 1) j) (x * 3 + 2) k ∙ two-long
+  noted-long = length-set (set (set bl (setWords + x * 3) i) (setWords + x * 3 + 1) j) (setWords + x * 3 + 2) k ∙ two-long
 
   noted-first : blockWord noted x 0 ≡ i
   noted-first =
-      let e : x * 3 + 0 ≡ x * 3 = omega arith in
+      let e : setWords + x * 3 + 0 ≡ setWords + x * 3 = omega arith in
       ap (λ q. getD noted q 0) e
-      ∙ getD-set-other (set (set bl (x * 3) i) (x * 3 + 1) j) (x * 3 + 2) (x * 3) k 0 (omega arith)
-      ∙ getD-set-other (set bl (x * 3) i) (x * 3 + 1) (x * 3) j 0 (omega arith)
-      ∙ getD-set-same bl (x * 3) i 0 (omega arith)
+      ∙ getD-set-other (set (set bl (setWords + x * 3) i) (setWords + x * 3 + 1) j) (setWords + x * 3 + 2) (setWords + x * 3) k 0 (omega arith)
+      ∙ getD-set-other (set bl (setWords + x * 3) i) (setWords + x * 3 + 1) (setWords + x * 3) j 0 (omega arith)
+      ∙ getD-set-same bl (setWords + x * 3) i 0 (omega arith)
 
   noted-second : blockWord noted x 1 ≡ j
   noted-second =
-      getD-set-other (set (set bl (x * 3) i) (x * 3 + 1) j) (x * 3 + 2) (x * 3 + 1) k 0 (omega arith)
-      ∙ getD-set-same (set bl (x * 3) i) (x * 3 + 1) j 0 (omega (arith, one-long))
+      getD-set-other (set (set bl (setWords + x * 3) i) (setWords + x * 3 + 1) j) (setWords + x * 3 + 2) (setWords + x * 3 + 1) k 0 (omega arith)
+      ∙ getD-set-same (set bl (setWords + x * 3) i) (setWords + x * 3 + 1) j 0 (omega (arith, one-long))
 
   noted-third : blockWord noted x 2 ≡ k
-  noted-third = getD-set-same (set (set bl (x * 3) i) (x * 3 + 1) j) (x * 3 + 2) k 0 (omega (arith, two-long))
+  noted-third = getD-set-same (set (set bl (setWords + x * 3) i) (setWords + x * 3 + 1) j) (setWords + x * 3 + 2) k 0 (omega (arith, two-long))
 
   noted-other : (y : ℕ) → (y ≡ x → ⊥) → (q : ℕ) → q < 3 → blockWord noted y q ≡ blockWord bl y q
   noted-other y d q h =
-      getD-set-other (set (set bl (x * 3) i) (x * 3 + 1) j) (x * 3 + 2) (y * 3 + q) k 0 (λ e. d (omega arith))
-      ∙ getD-set-other (set bl (x * 3) i) (x * 3 + 1) (y * 3 + q) j 0 (λ e. d (omega arith))
-      ∙ getD-set-other bl (x * 3) (y * 3 + q) i 0 (λ e. d (omega arith))
+      getD-set-other (set (set bl (setWords + x * 3) i) (setWords + x * 3 + 1) j) (setWords + x * 3 + 2) (setWords + y * 3 + q) k 0 (λ e. d (omega arith))
+      ∙ getD-set-other (set bl (setWords + x * 3) i) (setWords + x * 3 + 1) (setWords + y * 3 + q) j 0 (λ e. d (omega arith))
+      ∙ getD-set-other bl (setWords + x * 3) (setWords + y * 3 + q) i 0 (λ e. d (omega arith))
 
 -- a run of entries in words of which those before an end are the same
 run-same : (x mark : ℕ) (on ov on' ov' : List ℕ) (end : ℕ) → ((j : ℕ) → j < end → getD on' j 0 ≡ getD on j 0) → ((j : ℕ) → j < end * 4 → getD ov' j 0 ≡ getD ov j 0) → (from to : ℕ) → to ≤ end
@@ -206,7 +250,7 @@ module _ {x : ℕ} {on ov on₁ ov₁ : List ℕ} {kept k₁ : ℕ} {es : List E
     pub rising : (kept ≤ k₁) × (k₁ ≤ k₂) × (k₂ ≤ length on + 1)
     rising = omega (arith, p .counted, q .counted, r .counted, p .onLong)
 
-    pub block-put : (bl : List ℕ) (l : x * 3 + 3 ≤ length bl) → BlockPut x on ov bl on₂ ov₂ (noted bl x l kept k₁ k₂) kept k₂ (es ++ fs)
+    pub block-put : (bl : List ℕ) (l : setWords + x * 3 + 3 ≤ length bl) → BlockPut x on ov bl on₂ ov₂ (noted bl x l kept k₁ k₂) kept k₂ (es ++ fs)
     block-put bl l =
         record {
           onLong = q .onLong ∙ p .onLong;

@@ -21,7 +21,7 @@ use Rattle.since.specs.Since.{heldIn}
 use Rattle.settling.specs.Inputs.{asked, InputsStand}
 use Rattle.node_step.specs.declared.Own.{Own}
 use Rattle.node_step.specs.Figures.{maskIn, lowIn, beforeIn, afterIn, wantIn, beginIn, pairsIn, endIn}
-use Rattle.node_step.specs.Walks.{blockWord, blockIn}
+use Rattle.node_step.specs.Walks.{setWords, blockWord, blockIn}
 
 -- ---- what is read off the figures
 
@@ -131,7 +131,7 @@ pub record BlockReady (b w rows at times : List ℕ) (base : Point) (ns oldValue
   pub pairs-end : o .pairs ≤ o .end
   pub end-there : o .end ≤ length ns
   pub pairs : PairsReady b w rows at times base (agesOf ns o) oldValues left right (point (o .before)) (point (o .after)) node on ov kept
-  pub table : x * 3 + 3 ≤ length bl
+  pub table : setWords + x * 3 + 3 ≤ length bl
 
 -- its rows at the points that are wanted, and then its pairs, are its block
 pub record BlockKept (b w rows at times : List ℕ) (base : Point) (oldAges oldValues : List ℕ) (left right : Child) (first : ℕ) (o : Own) (node : Node) (on ov bl : List ℕ) (x kept : ℕ) (on' ov' bl' : List ℕ) (kept' : ℕ) : Type 0 where

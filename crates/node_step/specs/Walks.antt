@@ -12,14 +12,18 @@ use Rattle.meaning.specs.Kept.{Entry, entryOf}
 use Rattle.method.specs.Stored.{Stored}
 use Rattle.method.specs.Step.{turn, entriesNow, storedNow, crowdedNow}
 use Rattle.method.specs.Room.{rowsMost, setsMost}
-use Rattle.rowset.specs.Rows.{rowAt}
+use Rattle.rowset.specs.Rows.{rowAt, mostHeld}
 use Rattle.room.specs.Room.{setIn, Sets}
 use Rattle.entries.specs.Appended.{Extended}
 use Rattle.node_step.specs.declared.Place.{Place}
 
--- What each node keeps goes to words for numbers and words for rows; a table has three words to a node: where its rows begin there, where its pairs begin, and the entry behind them.
+-- the words in which a set is made: the rows that it takes, of four words
+abbrev pub setWords : ℕ
+setWords = mostHeld * 4
+
+-- What each node keeps goes to words for numbers and words for rows. A table, behind the words of a set, has three words to a node: where its rows begin there, where its pairs begin, and the entry behind them.
 abbrev pub blockWord : List ℕ → ℕ → ℕ → ℕ
-blockWord bl x k = getD bl (x * 3 + k) 0
+blockWord bl x k = getD bl (setWords + x * 3 + k) 0
 
 abbrev pub blockIn : List ℕ → List ℕ → List ℕ → ℕ → List Entry
 blockIn on ov bl x =
@@ -50,11 +54,11 @@ module _ (s : Stored) (w : List ℕ) where
   ChildrenStand rows at n (y ∷ []) left right = ChildStands rows at n y left
   ChildrenStand rows at n (y ∷ z ∷ zs) left right = ChildStands rows at n y left × ChildStands rows at n z right
 
-  -- words for what is kept: as many entries as there are numbers, 512 at most; so many are kept so far, or one more than there is room for
+  -- words for what is kept, as many entries as there are numbers, 512 at most, and a table of blocks; so many are kept so far, or one more than there is room for
   pub record OutThere (on ov bl : List ℕ) (kept : ℕ) : Type 0 where
     pub few : length on ≤ mostKept
     pub rows : length on * 4 ≤ length ov
-    pub table : nodeCount (s .rule) * 3 ≤ length bl
+    pub table : setWords + nodeCount (s .rule) * 3 ≤ length bl
     pub counted : kept ≤ length on + 1
 
   -- what node x keeps stands where the table says

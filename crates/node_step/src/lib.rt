@@ -6,14 +6,15 @@ use meaning::Node;
 use meaning::Point;
 use room::Child;
 ghost use mathlib.Core.Path.{_≡_};
-ghost use mathlib.Core.List.{List·Memᴰ};
+ghost use mathlib.Core.List.{[], List·Memᴰ};
 ghost use Prim.Native.Nat.{ℕ, _+_, _*_, _≤_, _<_};
 ghost use lib.ListN.{length, set};
 ghost use Rattle.meaning.specs.RuleFile.{nodeCount, nodeAt, childrenOf};
 ghost use Rattle.method.specs.Step.{entriesNow};
 ghost use Rattle.method.specs.Room.{rowsMost, setsMost};
+ghost use Rattle.rowset.specs.Sets.{SetRoom};
 ghost use Rattle.node_step.specs.Figures.{called, CallReady};
-ghost use Rattle.node_step.specs.Walks.{RoomFor, ChildrenStand, OutThere, Walks};
+ghost use Rattle.node_step.specs.Walks.{setWords, RoomFor, ChildrenStand, OutThere, Walks};
 ghost use Rattle.node_step.specs.Parts.{childIn, ChildFigures, ChildSetsAre, OwnFigures, agesOf, NextReady, NextSettled, PointsReady, PointsSettled, PairsReady, PairsKept, BlockReady, BlockKept};
 
 // Where a node's step begins: so many sets are below its children's, so many stand in all, left's and right's begin at these sets, and so many entries are kept.
@@ -27,6 +28,9 @@ pub struct Spot {
 
 // Rows at most that a set has.
 const MOST: usize = MOST_ROWS as usize;
+
+// The first words of the table of blocks are lent to the set that is being made: 33 rows of 4 words, one row more than a set may have, so that one too many shows.
+pub const SET_WORDS: usize = (MOST + 1) * 4;
 
 // The number that stands for no node: one more than the last of as many as a rule may have.
 pub const NO_NODE: u8 = MOST_NODES as u8;
@@ -116,7 +120,7 @@ fn children_at(figures: &[u32], node: Node, first: usize, second: usize) -> Chil
     }
 }
 
-// Settles the node's point i, and puts its set behind n others; false where it has more than 32 rows. The node's pairs before point start are held in the old slices.
+// Settles the node's point i, and puts its set behind n others; false where it has more than 32 rows. The node's pairs before point start are held in the old slices. The set is made in `out`.
 fn settle_next(
     node: Node,
     rule: &[u8],
@@ -132,11 +136,12 @@ fn settle_next(
     old_values: &[u32],
     start: Point,
     i: Point,
+    out: &mut [u32],
 ) -> bool
     requires { ⌜ NextReady (now rule) (now event) (now rows) (now at) (now times) base (now «old_ages») (now «old_values») left right n start i node ⌝ }
+    requires { ⌜ SetRoom (now out) 0 ⌝ }
     ensures { λ r. ⌜ NextSettled (now (rule .entry)) (now (event .entry)) (now (rows .entry)) (now (at .entry)) (now (times .entry)) base (now («old_ages» .entry)) (now («old_values» .entry)) left right n start i node (now (rows .exit)) (now (at .exit)) r ⌝ }
 {
-    let mut out = [0u32; 132];
     let k = settling::settle_point(
         node,
         rule,
@@ -151,16 +156,16 @@ fn settle_next(
         old_values,
         start,
         i,
-        &mut out,
+        out,
     );
     if MOST < k {
         return false;
     }
-    entries::push(&out, 0, k, rows, at, n);
+    entries::push(out, 0, k, rows, at, n);
     true
 }
 
-// Settles the node's points from start on before end, and puts their sets behind `sets` others; false where a point has more than 32 rows. The node's pairs before these points are held in the old slices. The last point is settled behind the loop: mostly it is the only one.
+// Settles the node's points from start on before end, and puts their sets behind `sets` others; false where a point has more than 32 rows. The node's pairs before these points are held in the old slices. Each set is made in `out`. The last point is settled behind the loop: mostly it is the only one.
 fn settle_points(
     node: Node,
     rule: &[u8],
@@ -176,8 +181,10 @@ fn settle_points(
     old_values: &[u32],
     start: Point,
     end: Point,
+    out: &mut [u32],
 ) -> bool
     requires { ⌜ PointsReady (now rule) (now event) (now rows) (now at) (now times) base (now «old_ages») (now «old_values») left right sets start end node ⌝ }
+    requires { ⌜ SetRoom (now out) 0 ⌝ }
     ensures { λ r. ⌜ PointsSettled (now (rule .entry)) (now (event .entry)) (now (rows .entry)) (now (at .entry)) (now (times .entry)) base (now («old_ages» .entry)) (now («old_values» .entry)) left right sets start end node (now (rows .exit)) (now (at .exit)) r ⌝ }
 {
     let mut i = start.0;
@@ -197,6 +204,7 @@ fn settle_points(
             old_values,
             start,
             Point(i),
+            out,
         );
         if !done {
             return false;
@@ -255,10 +263,10 @@ fn keep_pairs_at(
 
 // Sets the three words of node x in the table.
 fn note_block(blocks: &mut [u32], x: u8, rows: usize, pairs: usize, end: usize)
-    requires { ⌜ (x * 3 + 3 ≤ length (now blocks)) × (rows < 4294967296) × (pairs < 4294967296) × (end < 4294967296) ⌝ }
-    ensures { λ _. ⌜ now (blocks .exit) ≡ set (set (set (now (blocks .entry)) (x * 3) rows) (x * 3 + 1) pairs) (x * 3 + 2) end ⌝ }
+    requires { ⌜ (setWords + x * 3 + 3 ≤ length (now blocks)) × (rows < 4294967296) × (pairs < 4294967296) × (end < 4294967296) ⌝ }
+    ensures { λ _. ⌜ now (blocks .exit) ≡ set (set (set (now (blocks .entry)) (setWords + x * 3) rows) (setWords + x * 3 + 1) pairs) (setWords + x * 3 + 2) end ⌝ }
 {
-    let k = x as usize * 3;
+    let k = SET_WORDS + x as usize * 3;
     blocks[k] = rows as u32;
     blocks[k + 1] = pairs as u32;
     blocks[k + 2] = end as u32;
@@ -385,6 +393,7 @@ pub fn own_step(
         old_values,
         Point(own.before),
         Point(own.after),
+        &mut blocks[0..SET_WORDS],
     );
     if !done {
         return Place {
@@ -412,4 +421,55 @@ pub fn own_step(
     );
     node_sets::move_down(rows, at, spot.below, spot.sets - spot.below, made);
     Place { kept, low: NO_NODE }
+}
+
+// The step of node x, which has no children, behind h sets.
+pub fn leaf_step(
+    rule: &[u8],
+    figures: &[u32],
+    owners: &[u32],
+    numbers: &[u32],
+    values: &[u32],
+    stamps: &[u32],
+    points: u32,
+    event: &[u32],
+    rows: &mut [u32],
+    at: &mut [u32],
+    out_numbers: &mut [u32],
+    out_values: &mut [u32],
+    blocks: &mut [u32],
+    x: u8,
+    h: usize,
+    kept: usize,
+) -> Place
+    requires { ⌜ CallReady (called (now rule) points (now stamps) (now owners) (now numbers) (now values)) (now event) (now owners) (now numbers) (now values) (now stamps) (now figures) ⌝ }
+    requires { ⌜ (x < nodeCount (now rule)) × (childrenOf (nodeAt (now rule) x) ≡ []) ⌝ }
+    requires { ⌜ RoomFor (now rows) (now at) h (setsMost (called (now rule) points (now stamps) (now owners) (now numbers) (now values)) (now event) x) (rowsMost (called (now rule) points (now stamps) (now owners) (now numbers) (now values)) (now event) x) ⌝ }
+    requires { ⌜ OutThere (called (now rule) points (now stamps) (now owners) (now numbers) (now values)) (now event) (now «out_numbers») (now «out_values») (now blocks) kept ⌝ }
+    ensures { λ r. ⌜ Walks (called (now (rule .entry)) points (now (stamps .entry)) (now (owners .entry)) (now (numbers .entry)) (now (values .entry))) (now (event .entry)) (λ y. y ≡ x) (length (entriesNow (called (now (rule .entry)) points (now (stamps .entry)) (now (owners .entry)) (now (numbers .entry)) (now (values .entry))) (now (event .entry)) x)) x h (now (rows .entry)) (now (at .entry)) (now (rows .exit)) (now (at .exit)) (now («out_numbers» .entry)) (now («out_values» .entry)) (now (blocks .entry)) (now («out_numbers» .exit)) (now («out_values» .exit)) (now (blocks .exit)) kept r ⌝ }
+{
+    let spot = Spot {
+        below: h,
+        sets: h,
+        left: h,
+        right: h,
+        kept,
+    };
+    own_step(
+        rule,
+        figures,
+        owners,
+        numbers,
+        values,
+        stamps,
+        points,
+        event,
+        rows,
+        at,
+        out_numbers,
+        out_values,
+        blocks,
+        x,
+        spot,
+    )
 }

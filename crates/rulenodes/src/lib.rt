@@ -12,11 +12,13 @@ use meaning::Times;
 use meaning::View;
 use meaning::Window;
 ghost use mathlib.Core.Path.{_≡_};
+ghost use mathlib.Core.List.{[]};
 ghost use Prim.Native.Nat.{ℕ, _+_, _*_, _≤_, _<_};
 ghost use lib.ListN.{length};
 ghost use Rattle.meaning.specs.View.{here, viewOf, childrenIn};
 ghost use Rattle.meaning.specs.RuleFile.{wordAt, nodeCount, arity, headAt, bodyAt, bodies, bit, termOf, comparisonOf, termsOfBody, nodeOf, nodeAt, childrenOf};
 ghost use Rattle.meaning.specs.declared.Body.{Body};
+ghost use Rattle.meaning.specs.declared.Node.the-variants.{Atom};
 
 // A byte as a word.
 fn wide(b: u8) -> u32
@@ -162,6 +164,25 @@ pub fn node_at(rule: &[u8], x: u8) -> Node
 {
     let h = head_at(rule, x);
     node_of(arity_at(rule, h.left), h, body_of(rule, x))
+}
+
+// What an atom is made of.
+pub struct AtomParts {
+    pub relation: u8,
+    pub terms: Terms,
+}
+
+// The parts of node x, which has no children: it is an atom, and isn't taken apart by its kind.
+pub fn atom_at(rule: &[u8], x: u8) -> AtomParts
+    requires { ⌜ (length (now rule) ≡ 12 + 20 * nodeCount (now rule)) × (x < nodeCount (now rule)) × (childrenOf (nodeAt (now rule) x) ≡ []) ⌝ }
+    ensures { λ r. ⌜ (nodeAt (now (rule .entry)) x ≡ Atom (r .relation) (r .terms)) × (arity (now (rule .entry)) (r .relation) ≡ r .terms .count) ⌝ }
+{
+    let h = head_at(rule, x);
+    let terms = terms_of(arity_at(rule, h.left), h.mask, body_of(rule, x));
+    AtomParts {
+        relation: h.left,
+        terms,
+    }
 }
 
 // The view of a node without a window.

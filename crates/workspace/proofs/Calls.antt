@@ -40,7 +40,7 @@ use Rattle.limits.specs.Weighs.{weighedOf, afterCrowds, Weighs}
 use Rattle.limits.proofs.Weighing.{words-few, not-written}
 use Rattle.node_step.specs.declared.Place.{Place}
 use Rattle.node_step.specs.Figures.{called, CallReady, NodeFigures, beforeIn, afterIn, lowIn, maskIn}
-use Rattle.node_step.specs.Walks.{blockIn, OutThere, Walked}
+use Rattle.node_step.specs.Walks.{setWords, blockIn, OutThere, Walked}
 use Rattle.workspace.specs.Stores.{EntriesStored, Storable}
 use Rattle.workspace.specs.Blocks.{lastPoints, LastReady}
 use Rattle.workspace.specs.Rooms.{largestRows}
@@ -268,7 +268,7 @@ module _ {b : List ℕ} {points : ℕ} {stamps os ns vs : List ℕ} {count : ℕ
       kept-all : r .kept ≤ room → r .kept ≡ length (storedNow s w .entries)
       kept-all u = omega (arith, t .counted none)
 
-      pub storable : r .kept ≤ room → r .kept ≤ mostKept → length on * 4 ≤ length ov → nodeCount b * 3 ≤ length bl → Storable on ov bl (nodeCount b) os ns vs
+      pub storable : r .kept ≤ room → r .kept ≤ mostKept → length on * 4 ≤ length ov → setWords + nodeCount b * 3 ≤ length bl → Storable on ov bl (nodeCount b) os ns vs
       storable u v wide table =
           let l : length (gather (blockIn on ov bl) (range 0 (nodeCount b))) ≤ 512 = omega (arith, ap length (blocks-are u), kept-all u) in
           record {

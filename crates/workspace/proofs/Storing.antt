@@ -3,7 +3,7 @@ use Prim.Native.Nat.{ℕ, zero, suc, _+_, _-_, _*_, _≤_, _<_}
 use native.Mathlib.Nat.{add-zero}
 use native.Mathlib.Omega.{arith}
 use mathlib.Core.Path.{_≡_, refl, sym, ap, ap₂, _∙_}
-use mathlib.Core.List.{List, _∷_, _++_, map}
+use mathlib.Core.List.{List, [], _∷_, _++_, map}
 use lib.ListN.{length, getD, take, drop, length-append, length-map, length-drop}
 use lib.Seq.{length-take-le, getD-take, getD-drop}
 use Rattle.meaning.specs.Lists.{range, gather}
@@ -13,8 +13,9 @@ use Rattle.method.proofs.Turns.{map-append}
 use Rattle.rowset.specs.Rows.{rowAt}
 use Rattle.entries.specs.Appended.{WordsPut, atFront}
 use Rattle.entries.proofs.Listed.{listed-append, map-twice}
+use Rattle.entries.proofs.Putting.{put-none}
 use Rattle.writer.proofs.Gathers.{gather-map}
-use Rattle.node_step.specs.Walks.{blockWord, blockIn}
+use Rattle.node_step.specs.Walks.{setWords, blockWord, blockIn}
 use Rattle.workspace.specs.Stores.{ownerOf, EntriesStored, Storable}
 use Rattle.workspace.specs.Blocks.{ListPut, EntriesPut, blockSize, BlockStorable}
 use Rattle.workspace.proofs.Fronts.{gather-split, gather-more, listed-at, list-put, put-two, front-more}
@@ -115,8 +116,8 @@ module _ (on ov bl : List ℕ) (x : ℕ) where
         }
 
 -- the first word of node x's block in the table
-pub first-word : (bl : List ℕ) (x : ℕ) → getD bl (x * 3) 0 ≡ blockWord bl x 0
-first-word bl x = ap (λ i. getD bl i 0) (sym (add-zero (x * 3)))
+pub first-word : (bl : List ℕ) (x : ℕ) → getD bl (setWords + x * 3) 0 ≡ blockWord bl x 0
+first-word bl x = ap (λ i. getD bl i 0) (sym (add-zero (setWords + x * 3)))
 
 -- the same, with that word as it is read
 pub block-put-from : (on ov bl : List ℕ) (x : ℕ) {from : ℕ} → from ≡ blockWord bl x 0 → blockWord bl x 0 ≤ blockWord bl x 1 → blockWord bl x 1 ≤ blockWord bl x 2
@@ -126,6 +127,13 @@ pub block-put-from : (on ov bl : List ℕ) (x : ℕ) {from : ℕ} → from ≡ b
     → WordsPut vs (k * 4) vs' ((blockWord bl x 2 - from) * 4) (λ i. getD (take (blockWord bl x 2 * 4 - from * 4) (drop (from * 4) ov)) i 0)
     → EntriesPut os ns vs os' ns' vs' k (blockIn on ov bl x) (k + (blockWord bl x 2 - from))
 block-put-from on ov bl x e p q r s n v = rw e (block-put on ov bl x p q (rw e at r) (rw e at s) (rw e at n) (rw e at v))
+
+-- a block of no entries, which leaves every word
+pub none-put : (on ov bl : List ℕ) (x : ℕ) → blockWord bl x 0 ≤ blockWord bl x 1 → blockWord bl x 1 ≤ blockWord bl x 2 → blockWord bl x 0 ≡ blockWord bl x 2 → (os ns vs : List ℕ) (k : ℕ) → EntriesPut os ns vs os ns vs k (blockIn on ov bl x) k
+none-put on ov bl x p q e os ns vs k =
+    let rows : blockWord bl x 1 - blockWord bl x 0 ≡ 0 = omega arith in
+    let pairs : blockWord bl x 2 - blockWord bl x 1 ≡ 0 = omega arith in
+    rw (rows, pairs) (record { counted = omega arith; owners = put-none os k (λ i. getD [] i 0); numbers = put-none ns k (λ i. getD [] i 0); values = put-none vs (k * 4) (λ i. getD [] i 0) })
 
 -- sums of lengths
 sum-within : {a b p q n : ℕ} → a ≡ p → b ≡ q → p + q ≤ n → a + b ≤ n

@@ -12,7 +12,7 @@ use Rattle.entries.specs.Appended.{WordsPut}
 use Rattle.writer.specs.declared.Points.{Points}
 use Rattle.writer.specs.Words.{words, Reportable}
 use Rattle.node_step.specs.Figures.{maskIn, lowIn, beforeIn, afterIn}
-use Rattle.node_step.specs.Walks.{blockWord}
+use Rattle.node_step.specs.Walks.{setWords, blockWord}
 use Rattle.workspace.specs.Stores.{ownerOf}
 
 -- the words of a list put at word k and on
@@ -33,7 +33,7 @@ blockSize bl x = blockWord bl x 2 - blockWord bl x 0
 -- node x's block stands in the out words, and behind k entries there is room for it
 pub record BlockStorable (on ov bl : List ℕ) (x : ℕ) (os ns vs : List ℕ) (k : ℕ) : Type 0 where
   pub node : x < 32
-  pub table : x * 3 + 3 ≤ length bl
+  pub table : setWords + x * 3 + 3 ≤ length bl
   pub rows-first : blockWord bl x 0 ≤ blockWord bl x 1
   pub pairs-last : blockWord bl x 1 ≤ blockWord bl x 2
   pub numbers-there : blockWord bl x 2 ≤ length on

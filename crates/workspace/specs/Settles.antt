@@ -13,6 +13,7 @@ use Rattle.limits.specs.declared.Refusal.{Refusal}
 use Rattle.limits.specs.declared.Weighed.{Weighed}
 use Rattle.limits.specs.declared.Weighed.the-variants.{Refused, Written}
 use Rattle.node_step.specs.Figures.{called, CallReady}
+use Rattle.node_step.specs.Walks.{setWords}
 use Rattle.workspace.specs.Stores.{EntriesStored}
 use Rattle.workspace.specs.declared.Settled.{Settled}
 use Rattle.workspace.specs.declared.Settled.the-variants.{Done, Full}
@@ -31,7 +32,7 @@ pub record ReadyIn (b : List ℕ) (points : ℕ) (stamps os ns vs : List ℕ) (c
 
 -- what is lent for the entries that are kept: words for them, and a table of blocks for every node
 abbrev pub RoomToKeep : List ℕ → List ℕ → List ℕ → List ℕ → Type 0
-RoomToKeep b on ov bl = (length on ≤ mostKept) × (length on * 4 ≤ length ov) × (nodeCount b * 3 ≤ length bl)
+RoomToKeep b on ov bl = (length on ≤ mostKept) × (length on * 4 ≤ length ov) × (setWords + nodeCount b * 3 ≤ length bl)
 
 -- what follows 9 to 12
 unfoldable pub weighedNow : Stored → List ℕ → ℕ → Outcome ℕ

@@ -6,7 +6,7 @@ use lib.ListN.{length}
 use Rattle.meaning.specs.Lists.{range, gather}
 use Rattle.meaning.specs.Kept.{Entry}
 use Rattle.entries.specs.Appended.{atFront}
-use Rattle.node_step.specs.Walks.{blockWord, blockIn}
+use Rattle.node_step.specs.Walks.{setWords, blockWord, blockIn}
 
 -- an entry's owner in one word: its node twice, and its mark
 abbrev pub ownerOf : Entry → ℕ
@@ -21,7 +21,7 @@ pub record EntriesStored (os ns vs os' ns' vs' : List ℕ) (es : List Entry) : T
 -- the blocks of n nodes stand in the out words, and there is room for them all in a state's
 pub record Storable (on ov bl : List ℕ) (n : ℕ) (os ns vs : List ℕ) : Type 0 where
   pub nodes : n ≤ 32
-  pub table : n * 3 ≤ length bl
+  pub table : setWords + n * 3 ≤ length bl
   pub rows-first : (x : ℕ) → x < n → blockWord bl x 0 ≤ blockWord bl x 1
   pub pairs-last : (x : ℕ) → x < n → blockWord bl x 1 ≤ blockWord bl x 2
   pub numbers-there : (x : ℕ) → x < n → blockWord bl x 2 ≤ length on

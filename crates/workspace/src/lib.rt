@@ -1,8 +1,10 @@
 // The room of a call, chosen by how many rows it needs and how many entries it may keep: the walk over the tree, refusals 13 to 16, the report, and the entries that are then kept, stored.
 use limits::Refusal;
 use limits::Weighed;
+use meaning::MOST_NODES;
 use meaning::Point;
 use node_step::NO_NODE;
+use node_step::SET_WORDS;
 use writer::Points;
 ghost use mathlib.Core.Path.{_≡_};
 ghost use Prim.Native.Nat.{_+_, _-_, _*_, _≤_, _<_};
@@ -42,10 +44,10 @@ const MANY_KEPT: usize = 384;
 // So many words of its event have an entry to spare where a call is tried: a row has five, and few nodes keep it.
 const WORDS_TO_SPARE: usize = 3;
 
-// The marks beside the rows, one more than the most sets that stand at once, and the words of the table of blocks, three to a node.
+// The marks beside the rows, one more than the most sets that stand at once; and the words of the table of blocks, three to a node behind those of the set that is being made.
 const MARKS: usize = 391;
 
-const TABLE: usize = 96;
+const TABLE: usize = SET_WORDS + MOST_NODES * 3;
 
 // A call that was tried: settled, or more entries would be kept than there was room for.
 pub enum Settled {
@@ -67,10 +69,13 @@ fn store_block(
     requires { ⌜ BlockStorable (now «out_numbers») (now «out_values») (now blocks) x (now owners) (now numbers) (now values) k ⌝ }
     ensures { λ r. ⌜ EntriesPut (now (owners .entry)) (now (numbers .entry)) (now (values .entry)) (now (owners .exit)) (now (numbers .exit)) (now (values .exit)) k (blockIn (now («out_numbers» .entry)) (now («out_values» .entry)) (now (blocks .entry)) x) r ⌝ }
 {
-    let at = (x as usize) * 3;
+    let at = SET_WORDS + (x as usize) * 3;
     let from = blocks[at] as usize;
     let pairs = blocks[at + 1] as usize;
     let to = blocks[at + 2] as usize;
+    if from == to {
+        return k;
+    }
     let owner = (x as u32) * 2;
     entries::fill(owner, pairs - from, owners, k);
     entries::fill(owner + 1, to - pairs, owners, k + (pairs - from));

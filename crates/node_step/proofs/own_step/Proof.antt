@@ -1,14 +1,17 @@
 -- `own_step` meets its contract: the node's kept sets are loaded, its new points settled, its block is kept, and its sets take the place of its children's.
-use Prim.Native.Nat.{_-_}
+use Prim.Native.Nat.{ℕ, _-_, _≤_}
 use native.Mathlib.Omega.{arith}
 use mathlib.Core.Path.{_∙_}
+use mathlib.Core.List.{List}
 use lib.ListN.{length}
 use borrow.Author.Needs.{needs}
 use borrow.Author.Tests.{not-true, not-false}
 use Rattle.meaning.proofs.Accepted.{accepted}
 use Rattle.node_step.specs.Figures.{called}
+use Rattle.node_step.specs.Walks.{setWords}
 use Rattle.node_step.proofs.Numbers.{Numbers, numbers, load-rows, load-spaces, load-numbers}
 use Rattle.node_step.proofs.Seeing.{children-figures}
+use Rattle.node_step.proofs.Keeping.{set-room, table-stays, room-stays}
 use Rattle.node_step.proofs.Stepping.{Loads, points-ready, block-ready, down-laid}
 use Rattle.node_step.proofs.Ending.{step-crowded, step-kept}
 use Rattle.node_step.proofs.own_step.Statement.{statement}
@@ -22,7 +25,7 @@ abbrev figured : tie.After-load-sets → tie.After-own-figures
 figured c = c .before .before .before .before .before .before .before
 
 abbrev loaded : tie.After-settle-points → tie.After-load-sets
-loaded c = c .before .before .before .before .before .before .before .before
+loaded c = c .before .before .before .before .before .before .before .before .before
 
 -- the node's figures, and what stands once its kept sets are loaded
 numbers-at : (c : tie.After-own-figures)
@@ -67,25 +70,36 @@ load-sets-requires c κs =
       load-numbers (s .pre .0) (s .args .x) (s .pre .1 .0 .0) (d .own-figures .ensures),
     )
 
+-- the table is there, and stays while sets are made before it
+table-there : (c : tie.After-own-figures) → setWords ≤ length (entry c .args .blocks .now)
+table-there c = omega (arith, entry c .pre .1 .1 .1 .1 .table)
+
+-- the words in which they were made
+abbrev made : tie.After-settle-points → List ℕ
+made c = c .settle-points .last .1 .1 .1 .1 .1 .1 .1 .1 .1 .1 .1 .1 .1 .1 .0
+
+settle-points-requires : tie.Need-settle-points-requires
+settle-points-requires c κs = (points-ready (loads-at (c .before .before .before .before .before .before .before .before)), set-room (entry (figured (c .before .before .before .before .before .before .before .before)) .args .blocks .now) (table-there (figured (c .before .before .before .before .before .before .before .before))))
+
 returns : tie.Need-returns
 returns c =
-    let t = c .before .before .before .before .before in
-    step-crowded (loads-at (loaded t)) (t .settle-points .ensures) (entry (figured (loaded t)) .pre .1 .1 .1 .1) (not-true (t .settle-points .result) (c .if1 .taken))
+    let t = c .before .before .before .before .before .before .before in
+    step-crowded (loads-at (loaded t)) (t .settle-points .ensures) (entry (figured (loaded t)) .pre .1 .1 .1 .1) (table-stays (entry (figured (loaded t)) .args .blocks .now) (table-there (figured (loaded t))) (made t) (c .before .before .blocks2 .given .0)) (not-true (t .settle-points .result) (c .if1 .taken))
 
 keep-node-requires : tie.Need-keep-node-requires
 keep-node-requires c κs =
-    let t = c .before .before .before .before .before .before .before .before .before .before in
-    block-ready (loads-at (loaded t)) (t .settle-points .ensures) (not-false (t .settle-points .result) (c .before .before .before .before .before .if1 .left)) (entry (figured (loaded t)) .pre .1 .1 .1 .1)
+    let t = c .before .before .before .before .before .before .before .before .before .before .before .before in
+    block-ready (loads-at (loaded t)) (t .settle-points .ensures) (not-false (t .settle-points .result) (c .before .before .before .before .before .if1 .left)) (room-stays (table-stays (entry (figured (loaded t)) .args .blocks .now) (table-there (figured (loaded t))) (made t) (c .before .before .before .before .before .before .before .blocks2 .given .0)) (entry (figured (loaded t)) .pre .1 .1 .1 .1))
 
 move-down-requires : tie.Need-move-down-requires
 move-down-requires c κs =
-    let t = c .before .before .before .before .before .before .before .before .before .before .before .before .before .before .before .before .before .before .before .before in
+    let t = c .before .before .before .before .before .before .before .before .before .before .before .before .before .before .before .before .before .before .before .before .before .before in
     down-laid (loads-at (loaded t)) (t .settle-points .ensures) (not-false (t .settle-points .result) (c .before .before .before .before .before .before .before .before .before .before .before .before .before .before .before .if1 .left))
 
 returns-2 : tie.Need-returns-2
 returns-2 c =
-    let t = c .before .before .before .before .before .before .before .before .before .before .before .before .before .before .before .before .before .before .before .before .before .before .before .before .before in
-    step-kept (loads-at (loaded t)) (t .settle-points .ensures) (entry (figured (loaded t)) .pre .1 .1 .1 .1) (not-false (t .settle-points .result) (c .before .before .before .before .before .before .before .before .before .before .before .before .before .before .before .before .before .before .before .before .if1 .left)) (c .before .before .before .before .before .before .before .before .before .before .before .before .before .before .keep-node .ensures) (c .before .before .before .before .move-down .ensures)
+    let t = c .before .before .before .before .before .before .before .before .before .before .before .before .before .before .before .before .before .before .before .before .before .before .before .before .before .before .before in
+    step-kept (loads-at (loaded t)) (t .settle-points .ensures) (entry (figured (loaded t)) .pre .1 .1 .1 .1) (table-stays (entry (figured (loaded t)) .args .blocks .now) (table-there (figured (loaded t))) (made t) (c .before .before .before .before .before .before .before .before .before .before .before .before .before .before .before .before .before .before .before .before .before .before .blocks2 .given .0)) (not-false (t .settle-points .result) (c .before .before .before .before .before .before .before .before .before .before .before .before .before .before .before .before .before .before .before .before .if1 .left)) (c .before .before .before .before .before .before .before .before .before .before .before .before .before .before .keep-node .ensures) (c .before .before .before .before .move-down .ensures)
 
 pub own-step-spec : {M : Type 1} → statement M
 own-step-spec =
@@ -113,16 +127,20 @@ own-step-spec =
     (λ c. omega (arith, numbers-at (c .before .before .before)))
     load-sets-requires
     (λ c. omega (arith, points-ready (loads-at (c .before .before .before .before .before .before .before)) .small))
-    (λ c κs. points-ready (loads-at (c .before .before .before .before .before .before .before)))
-    (λ c. c .before .before .before .before .before .settle-points .ensures .stay .rowsLong ∙ c .before .before .before .before .before .before .before .before .before .before .before .before .before .load-sets .ensures .more .rowsLong)
-    (λ c. c .before .before .before .before .before .settle-points .ensures .stay .atLong ∙ c .before .before .before .before .before .before .before .before .before .before .before .before .before .load-sets .ensures .more .atLong)
+    (λ c. omega arith)
+    (λ c. omega (arith, table-there (figured (c .before .before .before .before .before .before .before))))
+    (λ c. omega (arith, table-there (figured (c .before .before .before .before .before .before .before))))
+    settle-points-requires
+    (λ c. c .before .before .before .before .before .before .before .settle-points .ensures .stay .rowsLong ∙ c .before .before .before .before .before .before .before .before .before .before .before .before .before .before .before .before .load-sets .ensures .more .rowsLong)
+    (λ c. c .before .before .before .before .before .before .before .settle-points .ensures .stay .atLong ∙ c .before .before .before .before .before .before .before .before .before .before .before .before .before .before .before .before .load-sets .ensures .more .atLong)
+    (λ c. c .before .before .blocks2 .given .1)
     returns
     keep-node-requires
-    (λ c. c .before .before .before .before .before .before .before .before .before .before .before .before .before .before .before .before .before .before .before .before .before .before .before .before .before .before .before .before .before .before .before .before .before .before .before .before .before .before .before .before .before .before .before .before .before .before .before .before .before .before .pre .1 .0 .1)
+    (λ c. c .before .before .before .before .before .before .before .before .before .before .before .before .before .before .before .before .before .before .before .before .before .before .before .before .before .before .before .before .before .before .before .before .before .before .before .before .before .before .before .before .before .before .before .before .before .before .before .before .before .before .before .before .before .pre .1 .0 .1)
     move-down-requires
-    (λ c. c .before .before .before .before .move-down .ensures .more .rowsLong ∙ c .before .before .before .before .before .before .before .before .before .before .before .before .before .before .before .before .before .before .before .before .before .before .before .before .before .settle-points .ensures .stay .rowsLong ∙ c .before .before .before .before .before .before .before .before .before .before .before .before .before .before .before .before .before .before .before .before .before .before .before .before .before .before .before .before .before .before .before .before .before .load-sets .ensures .more .rowsLong)
-    (λ c. c .before .before .before .before .move-down .ensures .more .atLong ∙ c .before .before .before .before .before .before .before .before .before .before .before .before .before .before .before .before .before .before .before .before .before .before .before .before .before .settle-points .ensures .stay .atLong ∙ c .before .before .before .before .before .before .before .before .before .before .before .before .before .before .before .before .before .before .before .before .before .before .before .before .before .before .before .before .before .before .before .before .before .load-sets .ensures .more .atLong)
+    (λ c. c .before .before .before .before .move-down .ensures .more .rowsLong ∙ c .before .before .before .before .before .before .before .before .before .before .before .before .before .before .before .before .before .before .before .before .before .before .before .before .before .before .before .settle-points .ensures .stay .rowsLong ∙ c .before .before .before .before .before .before .before .before .before .before .before .before .before .before .before .before .before .before .before .before .before .before .before .before .before .before .before .before .before .before .before .before .before .before .before .before .load-sets .ensures .more .rowsLong)
+    (λ c. c .before .before .before .before .move-down .ensures .more .atLong ∙ c .before .before .before .before .before .before .before .before .before .before .before .before .before .before .before .before .before .before .before .before .before .before .before .before .before .before .before .settle-points .ensures .stay .atLong ∙ c .before .before .before .before .before .before .before .before .before .before .before .before .before .before .before .before .before .before .before .before .before .before .before .before .before .before .before .before .before .before .before .before .before .before .before .before .load-sets .ensures .more .atLong)
     (λ c. search needs)
     (λ c. search needs)
-    (λ c. search needs)
+    (λ c. c .before .before .before .before .before .before .before .before .before .blocks3 .given ∙ c .before .before .before .before .before .before .before .before .before .before .before .before .before .before .before .before .before .before .before .before .before .before .blocks2 .given .1)
     returns-2)
