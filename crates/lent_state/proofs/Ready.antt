@@ -31,7 +31,7 @@ use Rattle.node_step.specs.Figures.{beginIn, pairsIn, endIn, NodeFigures, CallR
 use Rattle.figures.specs.Counts.{bare, Counting}
 use Rattle.figures.specs.Tables.{rowsIn, CallTable}
 use Rattle.figures.proofs.Slices.{run-many}
-use Rattle.workspace.specs.Settles.{callIn, ReadyIn, weighedNow, SettledCall}
+use Rattle.call.specs.Settles.{callIn, ReadyIn, weighedNow, SettledCall}
 use Rattle.lent_state.specs.declared.Taken.{Taken}
 use Rattle.lent_state.specs.declared.Taken.the-variants as taken
 use Rattle.lent_state.specs.Answers.{Finishes, TakesIn}

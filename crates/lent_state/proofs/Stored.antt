@@ -27,7 +27,7 @@ use Rattle.events.specs.declared.Admitted.the-variants.{Fine}
 use Rattle.limits.specs.Weighs.{refusalOf}
 use Rattle.limits.specs.declared.Refusal.{Refusal}
 use Rattle.limits.specs.declared.Refusal.the-variants.{NotWellFormed, NotAnEvent, RowOut, TimeFalls, LogFull, Crowded, Backlog, KeptOver, BufferShort}
-use Rattle.workspace.specs.Settles.{weighedNow}
+use Rattle.call.specs.Settles.{weighedNow}
 use Rattle.lent_state.specs.Answers.{takeAnswer, TakesIn}
 use Rattle.lent_state.specs.declared.Taken.{Taken}
 use Rattle.lent_state.specs.declared.Taken.the-variants.{Refused}

@@ -10,7 +10,7 @@ use Rattle.method.specs.Stored.{Stored}
 use Rattle.method.specs.WellFormed.{Formed}
 use Rattle.method.proofs.Rowed.{rowed}
 use Rattle.figures.proofs.Front.{front-long, front-read}
-use Rattle.workspace.specs.Stores.{ownerOf}
+use Rattle.call.specs.Stores.{ownerOf}
 use Rattle.lent_state.specs.Lent.{Lent, fitting, stored, lentWith}
 use Rattle.lent_state.proofs.Words.{entries-back, values-long}
 use Rattle.lent_state.proofs.Memory.{fits-sized, sized-fits}

@@ -10,7 +10,7 @@ use Rattle.method.proofs.Rowed.{Rowed}
 use Rattle.entries.specs.Entries.{ownedBy, entryAt, entriesFrom}
 use Rattle.entries.proofs.Listed.{listed-moved}
 use Rattle.entries.proofs.Entries.{owned-by}
-use Rattle.workspace.specs.Stores.{ownerOf}
+use Rattle.call.specs.Stores.{ownerOf}
 
 entries-cons : (o n a b c d : ℕ) (os ns vs : List ℕ) (k : ℕ) → entriesFrom (o ∷ os) (n ∷ ns) (a ∷ b ∷ c ∷ d ∷ vs) 0 (suc k) ≡ ownedBy o n (a ∷ b ∷ c ∷ d ∷ []) ∷ entriesFrom os ns vs 0 k
 unfolding entriesFrom

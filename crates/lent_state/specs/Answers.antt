@@ -14,7 +14,7 @@ use Rattle.limits.specs.declared.Weighed.{Weighed}
 use Rattle.limits.specs.declared.Weighed.the-variants as weighed
 use Rattle.limits.specs.declared.Refusal.{Refusal}
 use Rattle.entries.specs.Appended.{atFront}
-use Rattle.workspace.specs.Stores.{EntriesStored}
+use Rattle.call.specs.Stores.{EntriesStored}
 use Rattle.lent_state.specs.declared.Taken.{Taken}
 use Rattle.lent_state.specs.declared.Taken.the-variants.{Refused, Done}
 

@@ -13,7 +13,7 @@ use Rattle.method.specs.Step.{storedNow, reportNow}
 use Rattle.limits.specs.Weighs.{refusalOf}
 use Rattle.entries.specs.Appended.{atFront}
 use Rattle.figures.specs.Fronts.{storedFront}
-use Rattle.workspace.specs.Stores.{ownerOf}
+use Rattle.call.specs.Stores.{ownerOf}
 use Rattle.lent_state.specs.Answers.{takeAnswer}
 use Rattle.lent_state.specs.declared.Answer.{Answer}
 use Rattle.lent_state.specs.declared.Answer.the-variants.{Written, Refused}

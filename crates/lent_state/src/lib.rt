@@ -20,7 +20,7 @@ ghost use Rattle.formed.specs.StateFigures.{storedIn, StateFigures, EntryPlaces
 ghost use Rattle.events.specs.Answers.{outcomeOf};
 ghost use Rattle.events.specs.declared.Admitted.the-variants.{Fine};
 ghost use Rattle.limits.specs.Weighs.{refusalOf};
-ghost use Rattle.workspace.specs.Settles.{weighedNow};
+ghost use Rattle.call.specs.Settles.{weighedNow};
 ghost use Rattle.lent_state.specs.declared.Answer.the-variants.{Refused};
 ghost use Rattle.lent_state.specs.Answers.{takeAnswer, Finishes, TakesIn};
 ghost use Rattle.lent_state.specs.Lent.{lent, lengthsFit, SizedWords, TakesLent};

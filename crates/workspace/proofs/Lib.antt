@@ -1,4 +1,2 @@
--- Facts about storing entries, and about a call in its room.
-pub mod Fronts
-pub mod Storing
-pub mod Calls
+-- That the rooms are enough.
+pub mod Enough

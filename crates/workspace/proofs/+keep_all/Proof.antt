@@ -4,7 +4,7 @@ use native.Mathlib.Omega.{arith}
 use mathlib.Core.Path.{refl}
 use borrow.Fn.Kinds.{In}
 use borrow.Fn.PlainCycle.{Measures, is, falls, and}
-use Rattle.workspace.proofs.Calls.{nodes-few}
+use Rattle.call.proofs.Calls.{nodes-few}
 use Rattle.workspace.proofs.keep_all.Reads as keep-all
 use Rattle.workspace.proofs.keep_all.Kinds as keep-all-kinds
 use Rattle.workspace.proofs.+keep_all.Lts-keep_all as keep-all-lts

@@ -4,7 +4,7 @@ use native.Mathlib.Omega.{arith}
 use mathlib.Core.Path.{refl}
 use borrow.Fn.Kinds.{In}
 use borrow.Fn.PlainCycle.{Measures, is, falls, and}
-use Rattle.workspace.proofs.Calls.{nodes-few}
+use Rattle.call.proofs.Calls.{nodes-few}
 use Rattle.workspace.proofs.keep_few.Reads as keep-few
 use Rattle.workspace.proofs.keep_few.Kinds as keep-few-kinds
 use Rattle.workspace.proofs.+keep_few.Lts-keep_few as keep-few-lts

@@ -4,7 +4,7 @@ use native.Mathlib.Omega.{arith}
 use mathlib.Core.Path.{refl}
 use borrow.Fn.Kinds.{In}
 use borrow.Fn.PlainCycle.{Measures, is, falls, and}
-use Rattle.workspace.proofs.Calls.{nodes-few}
+use Rattle.call.proofs.Calls.{nodes-few}
 use Rattle.workspace.proofs.keep_many.Reads as keep-many
 use Rattle.workspace.proofs.keep_many.Kinds as keep-many-kinds
 use Rattle.workspace.proofs.+keep_many.Lts-keep_many as keep-many-lts

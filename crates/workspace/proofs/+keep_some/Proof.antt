@@ -4,7 +4,7 @@ use native.Mathlib.Omega.{arith}
 use mathlib.Core.Path.{refl}
 use borrow.Fn.Kinds.{In}
 use borrow.Fn.PlainCycle.{Measures, is, falls, and}
-use Rattle.workspace.proofs.Calls.{nodes-few}
+use Rattle.call.proofs.Calls.{nodes-few}
 use Rattle.workspace.proofs.keep_some.Reads as keep-some
 use Rattle.workspace.proofs.keep_some.Kinds as keep-some-kinds
 use Rattle.workspace.proofs.+keep_some.Lts-keep_some as keep-some-lts

@@ -4,11 +4,11 @@ use native.Mathlib.Omega.{arith}
 use mathlib.Core.Path.{refl}
 use borrow.Fn.Kinds.{In}
 use borrow.Fn.PlainCycle.{Measures, is, falls, and}
-use Rattle.workspace.proofs.Calls.{marks-enough}
+use Rattle.workspace.proofs.Enough.{marks-enough}
 use Rattle.workspace.proofs.settle_large.Reads as settle-large
 use Rattle.workspace.proofs.settle_large.Kinds as settle-large-kinds
 use Rattle.workspace.proofs.+settle_large.Lts-settle_large as settle-large-lts
-use Rattle.workspace.proofs.settle.Reads as settle-reads
+use Rattle.call.proofs.settle.Reads as settle-reads
 use Rattle.workspace.proofs.+settle_large.{statement}
 use Rattle.workspace.proofs.+settle_large.Tie.{close}
 

@@ -4,11 +4,11 @@ use native.Mathlib.Omega.{arith}
 use mathlib.Core.Path.{refl}
 use borrow.Fn.Kinds.{In}
 use borrow.Fn.PlainCycle.{Measures, is, falls, and}
-use Rattle.workspace.proofs.Calls.{marks-enough}
+use Rattle.workspace.proofs.Enough.{marks-enough}
 use Rattle.workspace.proofs.settle_largest.Reads as settle-largest
 use Rattle.workspace.proofs.settle_largest.Kinds as settle-largest-kinds
 use Rattle.workspace.proofs.+settle_largest.Lts-settle_largest as settle-largest-lts
-use Rattle.workspace.proofs.settle.Reads as settle-reads
+use Rattle.call.proofs.settle.Reads as settle-reads
 use Rattle.workspace.proofs.+settle_largest.{statement}
 use Rattle.workspace.proofs.+settle_largest.Tie.{close}
 

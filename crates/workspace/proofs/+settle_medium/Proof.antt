@@ -4,11 +4,11 @@ use native.Mathlib.Omega.{arith}
 use mathlib.Core.Path.{refl}
 use borrow.Fn.Kinds.{In}
 use borrow.Fn.PlainCycle.{Measures, is, falls, and}
-use Rattle.workspace.proofs.Calls.{marks-enough}
+use Rattle.workspace.proofs.Enough.{marks-enough}
 use Rattle.workspace.proofs.settle_medium.Reads as settle-medium
 use Rattle.workspace.proofs.settle_medium.Kinds as settle-medium-kinds
 use Rattle.workspace.proofs.+settle_medium.Lts-settle_medium as settle-medium-lts
-use Rattle.workspace.proofs.settle.Reads as settle-reads
+use Rattle.call.proofs.settle.Reads as settle-reads
 use Rattle.workspace.proofs.+settle_medium.{statement}
 use Rattle.workspace.proofs.+settle_medium.Tie.{close}
 

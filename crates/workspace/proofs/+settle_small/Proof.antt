@@ -4,11 +4,11 @@ use native.Mathlib.Omega.{arith}
 use mathlib.Core.Path.{refl}
 use borrow.Fn.Kinds.{In}
 use borrow.Fn.PlainCycle.{Measures, is, falls, and}
-use Rattle.workspace.proofs.Calls.{marks-enough}
+use Rattle.workspace.proofs.Enough.{marks-enough}
 use Rattle.workspace.proofs.settle_small.Reads as settle-small
 use Rattle.workspace.proofs.settle_small.Kinds as settle-small-kinds
 use Rattle.workspace.proofs.+settle_small.Lts-settle_small as settle-small-lts
-use Rattle.workspace.proofs.settle.Reads as settle-reads
+use Rattle.call.proofs.settle.Reads as settle-reads
 use Rattle.workspace.proofs.+settle_small.{statement}
 use Rattle.workspace.proofs.+settle_small.Tie.{close}
 

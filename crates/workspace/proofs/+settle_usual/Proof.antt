@@ -4,11 +4,11 @@ use native.Mathlib.Omega.{arith}
 use mathlib.Core.Path.{refl}
 use borrow.Fn.Kinds.{In}
 use borrow.Fn.PlainCycle.{Measures, is, falls, and}
-use Rattle.workspace.proofs.Calls.{marks-enough}
+use Rattle.workspace.proofs.Enough.{marks-enough}
 use Rattle.workspace.proofs.settle_usual.Reads as settle-usual
 use Rattle.workspace.proofs.settle_usual.Kinds as settle-usual-kinds
 use Rattle.workspace.proofs.+settle_usual.Lts-settle_usual as settle-usual-lts
-use Rattle.workspace.proofs.settle.Reads as settle-reads
+use Rattle.call.proofs.settle.Reads as settle-reads
 use Rattle.workspace.proofs.+settle_usual.{statement}
 use Rattle.workspace.proofs.+settle_usual.Tie.{close}
 

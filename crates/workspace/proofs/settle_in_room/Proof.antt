@@ -1,7 +1,7 @@
 -- `settle_in_room` meets its contract: where a call with less room is full, it is made with room for all entries; no room's function calls itself.
 use native.Mathlib.Omega.{arith}
 use mathlib.Core.Path.{_∙_}
-use Rattle.workspace.proofs.Calls.{again-ready, again-needs, again-settled}
+use Rattle.call.proofs.Calls.{again-ready, again-needs, again-settled}
 use borrow.Author.Needs.{needs}
 use Rattle.workspace.proofs.settle_in_room.Statement.{statement}
 use Rattle.workspace.proofs.settle_in_room.Tie as tie

@@ -1,6 +1,6 @@
 -- `settle_in_rows` meets its contract: each room is chosen where it is enough, and the largest always is; no room's function calls itself.
 use native.Mathlib.Omega.{arith}
-use Rattle.workspace.proofs.Calls.{rows-enough}
+use Rattle.workspace.proofs.Enough.{rows-enough}
 use Rattle.workspace.proofs.settle_in_rows.Statement.{statement}
 use Rattle.workspace.proofs.settle_in_rows.Tie as tie
 

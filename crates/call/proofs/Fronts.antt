@@ -11,7 +11,7 @@ use borrow.Author.Tests.{ltb-true, ltb-false}
 use Rattle.meaning.specs.Lists.{range, gather}
 use Rattle.meaning.proofs.Points.{Tested, passed, failed, tested}
 use Rattle.entries.specs.Appended.{WordsPut, atFront}
-use Rattle.workspace.specs.Blocks.{ListPut}
+use Rattle.call.specs.Blocks.{ListPut}
 
 -- ---- numbers in a row
 

@@ -16,9 +16,9 @@ use Rattle.entries.proofs.Listed.{listed-append, map-twice}
 use Rattle.entries.proofs.Putting.{put-none}
 use Rattle.writer.proofs.Gathers.{gather-map}
 use Rattle.node_step.specs.Walks.{setWords, blockWord, blockIn}
-use Rattle.workspace.specs.Stores.{ownerOf, EntriesStored, Storable}
-use Rattle.workspace.specs.Blocks.{ListPut, EntriesPut, blockSize, BlockStorable}
-use Rattle.workspace.proofs.Fronts.{gather-split, gather-more, listed-at, list-put, put-two, front-more}
+use Rattle.call.specs.Stores.{ownerOf, EntriesStored, Storable}
+use Rattle.call.specs.Blocks.{ListPut, EntriesPut, blockSize, BlockStorable}
+use Rattle.call.proofs.Fronts.{gather-split, gather-more, listed-at, list-put, put-two, front-more}
 
 -- rows in a row as words
 rows-words : (vs : List ℕ) (a n : ℕ) → gather (rowAt vs) (range a n) ≡ map (λ j. getD vs j 0) (range (a * 4) (n * 4))

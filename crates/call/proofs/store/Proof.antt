@@ -1,9 +1,9 @@
 -- `store` meets its contract. The loop's invariant: the blocks of the first x nodes are stored.
 use Prim.Native.Nat.{_-_}
 use native.Mathlib.Omega.{arith}
-use Rattle.workspace.proofs.Storing.{Storing, storing-none, block-storable, storing-more, storing-all}
-use Rattle.workspace.proofs.store.Statement.{statement}
-use Rattle.workspace.proofs.store.Tie as tie
+use Rattle.call.proofs.Storing.{Storing, storing-none, block-storable, storing-more, storing-all}
+use Rattle.call.proofs.store.Statement.{statement}
+use Rattle.call.proofs.store.Tie as tie
 
 abbrev Inv-loop : tie.InvT-loop
 Inv-loop out-numbers out-values blocks n owners₀ numbers₀ values₀ k₀ x₀ owners numbers values k x = Storing out-numbers out-values blocks n owners₀ numbers₀ values₀ owners numbers values k x

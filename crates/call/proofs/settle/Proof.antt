@@ -3,10 +3,10 @@ use Prim.Native.Nat.{_*_}
 use native.Mathlib.Omega.{arith}
 use mathlib.Core.Path.{refl}
 use mathlib.Core.Logic.{inl, inr}
-use Rattle.workspace.proofs.Calls.{either-way, not-full, part-first, walked-is, rule-long, walk-asks, crowded-settles, last-ready, storable, refused-settles, written-fits, written-settles}
+use Rattle.call.proofs.Calls.{either-way, not-full, part-first, walked-is, rule-long, walk-asks, crowded-settles, last-ready, storable, refused-settles, written-fits, written-settles}
 use borrow.Author.Needs.{needs}
-use Rattle.workspace.proofs.settle.Statement.{statement}
-use Rattle.workspace.proofs.settle.Tie as tie
+use Rattle.call.proofs.settle.Statement.{statement}
+use Rattle.call.proofs.settle.Tie as tie
 
 walk-requires : tie.Need-walk-requires
 walk-requires c κs = let s = c .before .before .before .before .before .before .before .before .before .before .before .before .before .before .before .before .before .before .before .before .before .before .before .before in walk-asks (s .pre .0) (s .args .rows .now) (s .args .at .now) (s .args .out-numbers .now) (s .args .out-values .now) (s .args .blocks .now) (part-first (c .before .before .before .before .before .before .before .before .before .before .before .before .before .before .before .before .before .before .before .before .before .before .before .before .args .owners .now) (c .before .before .before .before .before .before .before .before .before .before .before .before .before .before .before .before .before .before .before .before .before .before .before .before .args .count)) (part-first (c .before .before .before .before .before .before .before .before .before .before .before .before .before .before .before .before .before .before .before .before .before .before .before .before .args .numbers .now) (c .before .before .before .before .before .before .before .before .before .before .before .before .before .before .before .before .before .before .before .before .before .before .before .before .args .count)) (part-first (c .before .before .before .before .before .before .before .before .before .before .before .before .before .before .before .before .before .before .before .before .before .before .before .before .args .values .now) (c .before .before .before .before .before .before .before .before .before .before .before .before .before .before .before .before .before .before .before .before .before .before .before .before .args .count * 4)) (s .pre .1 .0) (s .pre .1 .1)

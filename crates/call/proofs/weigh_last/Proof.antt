@@ -1,10 +1,10 @@
 -- `weigh_last` meets its contract: the points that are weighed are the last node's.
 use native.Mathlib.Omega.{arith}
 use Rattle.meaning.specs.RuleFile.{lastNode}
-use Rattle.workspace.proofs.Calls.{first-figure}
+use Rattle.call.proofs.Calls.{first-figure}
 use borrow.Author.Needs.{needs}
-use Rattle.workspace.proofs.weigh_last.Statement.{statement}
-use Rattle.workspace.proofs.weigh_last.Tie as tie
+use Rattle.call.proofs.weigh_last.Statement.{statement}
+use Rattle.call.proofs.weigh_last.Tie as tie
 
 cast-t14 : tie.Need-cast-t14
 cast-t14 c = omega (arith, first-figure (c .before .before .before .before .before .before .before .before .before .before .before .args .figures .now) (lastNode (c .before .before .before .before .before .before .before .before .before .before .before .args .rule .now)), c .before .before .before .before .before .before .before .before .before .before .before .pre .mask-small)

@@ -13,7 +13,7 @@ use Rattle.writer.specs.declared.Points.{Points}
 use Rattle.writer.specs.Words.{words, Reportable}
 use Rattle.node_step.specs.Figures.{maskIn, lowIn, beforeIn, afterIn}
 use Rattle.node_step.specs.Walks.{setWords, blockWord}
-use Rattle.workspace.specs.Stores.{ownerOf}
+use Rattle.call.specs.Stores.{ownerOf}
 
 -- the words of a list put at word k and on
 abbrev pub ListPut : List ℕ → ℕ → List ℕ → List ℕ → Type 0

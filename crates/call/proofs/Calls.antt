@@ -27,7 +27,6 @@ use Rattle.method.specs.WellFormed.{Formed}
 use Rattle.method.specs.Room.{rowsNeeded, marksNeeded}
 use Rattle.method.proofs.Bounds.{before-after, after-most, new-few, wanted-before}
 use Rattle.method.proofs.Turns.{map-points, turns-at}
-use Rattle.method.proofs.Room.{room-enough}
 use Rattle.kinds.specs.Kinds.{inMask}
 use Rattle.room.specs.Room.{setIn, setAt}
 use Rattle.writer.specs.Words.{reportedFrom, words, Reportable}
@@ -41,11 +40,10 @@ use Rattle.limits.proofs.Weighing.{words-few, not-written}
 use Rattle.node_step.specs.declared.Place.{Place}
 use Rattle.node_step.specs.Figures.{called, CallReady, NodeFigures, beforeIn, afterIn, lowIn, maskIn}
 use Rattle.node_step.specs.Walks.{setWords, blockIn, OutThere, Walked}
-use Rattle.workspace.specs.Stores.{EntriesStored, Storable}
-use Rattle.workspace.specs.Blocks.{lastPoints, LastReady}
-use Rattle.workspace.specs.Rooms.{largestRows}
-use Rattle.workspace.specs.Settles.{callIn, ReadyIn, RoomToKeep, weighedNow, SettledCall}
-use Rattle.workspace.specs.declared.Settled.the-variants.{Done, Full}
+use Rattle.call.specs.Stores.{EntriesStored, Storable}
+use Rattle.call.specs.Blocks.{lastPoints, LastReady}
+use Rattle.call.specs.Settles.{callIn, ReadyIn, RoomToKeep, weighedNow, SettledCall}
+use Rattle.call.specs.declared.Settled.the-variants.{Done, Full}
 
 pub either-way : {A B C : Type 0} → (A → C) → (B → C) → A ⊎ B → C
 either-way f g (inl x) = f x
@@ -145,13 +143,6 @@ module _ {b : List ℕ} {points : ℕ} {stamps os ns vs : List ℕ} {count : ℕ
 
   pub rule-long : 2 < length b
   rule-long = omega (arith, accepted b a ok .long)
-
-  -- the largest room is enough
-  pub rows-enough : rowsNeeded s w ≤ largestRows
-  rows-enough = room-enough s formed w .rows
-
-  pub marks-enough : marksNeeded s w < 391
-  marks-enough = omega (arith, room-enough s formed w .marks)
 
   -- what the walk asks, where the entries that it is given are the first of the words
   pub walk-asks : {os' ns' vs' : List ℕ} (rows at on ov bl : List ℕ) → os' ≡ take count os → ns' ≡ take count ns → vs' ≡ take (count * 4) vs

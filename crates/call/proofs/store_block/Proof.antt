@@ -4,10 +4,10 @@ use native.Mathlib.Omega.{arith}
 use mathlib.Core.Path.{_≡_, sym, _∙_}
 use lib.ListN.{getD}
 use Rattle.node_step.specs.Walks.{setWords, blockWord}
-use Rattle.workspace.proofs.Storing.{part-long, first-word, block-put-from, none-put}
+use Rattle.call.proofs.Storing.{part-long, first-word, block-put-from, none-put}
 use borrow.Author.Needs.{needs}
-use Rattle.workspace.proofs.store_block.Statement.{statement}
-use Rattle.workspace.proofs.store_block.Tie as tie
+use Rattle.call.proofs.store_block.Statement.{statement}
+use Rattle.call.proofs.store_block.Tie as tie
 
 -- where the block begins, as it is read
 begins : (s : tie.Start) → getD (s .args .blocks .now) (setWords + s .args .x * 3) 0 ≡ blockWord (s .args .blocks .now) (s .args .x) 0

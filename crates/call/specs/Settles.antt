@@ -14,9 +14,9 @@ use Rattle.limits.specs.declared.Weighed.{Weighed}
 use Rattle.limits.specs.declared.Weighed.the-variants.{Refused, Written}
 use Rattle.node_step.specs.Figures.{called, CallReady}
 use Rattle.node_step.specs.Walks.{setWords}
-use Rattle.workspace.specs.Stores.{EntriesStored}
-use Rattle.workspace.specs.declared.Settled.{Settled}
-use Rattle.workspace.specs.declared.Settled.the-variants.{Done, Full}
+use Rattle.call.specs.Stores.{EntriesStored}
+use Rattle.call.specs.declared.Settled.{Settled}
+use Rattle.call.specs.declared.Settled.the-variants.{Done, Full}
 
 -- what is stored as the call begins, where the first count entries of the words are a state's
 abbrev pub callIn : List ℕ → ℕ → List ℕ → List ℕ → List ℕ → List ℕ → ℕ → Stored
