@@ -8,7 +8,7 @@ use node_step::own_step;
 use rulenodes::children_at;
 ghost use mathlib.Core.Path.{_≡_};
 ghost use mathlib.Core.Bool.{cond};
-ghost use Prim.Native.Nat.{_+_, _-_, _*_, _≤_, _<_, min};
+ghost use Prim.Native.Nat.{_+_, _-_, _*_, _≤_, _<_};
 ghost use lib.ListN.{length};
 ghost use lib.Dec.{eqb};
 ghost use Rattle.meaning.specs.RuleFile.{nodeCount};
@@ -92,12 +92,6 @@ fn stood(figures: &[u32], x: u8, low: u8) -> usize
         return sets_of(figures, x);
     }
     0
-}
-
-fn lower(a: u8, b: u8) -> u8
-    ensures { λ r. ⌜ r ≡ min a b ⌝ }
-{
-    if a < b { a } else { b }
 }
 
 // Where the own step of a node with two children begins, behind h sets: the sets of the one that was walked first, d of them, stand before the other's, of which there are e.
@@ -201,9 +195,14 @@ fn climb(
                 h + d,
                 p.kept,
             );
-            let low = lower(p.low, q.low);
-            if low < NO_NODE {
-                return Place { kept: q.kept, low };
+            if p.low < q.low {
+                return Place {
+                    kept: q.kept,
+                    low: p.low,
+                };
+            }
+            if q.low < NO_NODE {
+                return q;
             }
             let e = sets_of(figures, second);
             let spot = behind_two(h, d, e, sides.swapped, q.kept);

@@ -28,7 +28,6 @@ use Rattle.node_step.proofs.own_step.Reads as own-step-reads
 use Rattle.tree_walk.proofs.behind_two.Reads as behind-two-reads
 use Rattle.rulenodes.proofs.children_at.Reads as children-at-reads
 use Rattle.tree_walk.proofs.descend.Reads as descend-reads
-use Rattle.tree_walk.proofs.lower.Reads as lower-reads
 use Rattle.tree_walk.proofs.ordered.Reads as ordered-reads
 use Rattle.tree_walk.proofs.sets_of.Reads as sets-of-reads
 use Rattle.tree_walk.proofs.stood.Reads as stood-reads
@@ -65,11 +64,11 @@ abbrev tree-below : ℕ → In 12 tree-kinds.ps
 tree-below t = and 12 tree-kinds.ps (falls 12 tree-kinds.ps _<_ μ-tree t) tree.Pre
 
 -- what `climb` knows of one child
-one-child : (t : ℕ) (c : climb-lts.After-known-told (children-at-reads.Asked, children-at-reads.Learnt, sets-of-reads.Asked, sets-of-reads.Learnt, own-step-reads.Asked, own-step-reads.Learnt, ordered-reads.Asked, ordered-reads.Learnt, stood-reads.Asked, stood-reads.Learnt, second-tree-below t, second-tree.Post, lower-reads.Asked, lower-reads.Learnt, behind-two-reads.Asked, behind-two-reads.Learnt) (climb-at t) climb.Post) → childrenOf (nodeAt (c .before .before .before .before .before .before .before .before .before .before .before .before .before .before .before .before .args .rule .now) (c .before .before .before .before .before .before .before .before .before .before .before .before .before .before .before .before .args .x)) ≡ c .before .children .given .0 .0 ∷ []
+one-child : (t : ℕ) (c : climb-lts.After-known-told (children-at-reads.Asked, children-at-reads.Learnt, sets-of-reads.Asked, sets-of-reads.Learnt, own-step-reads.Asked, own-step-reads.Learnt, ordered-reads.Asked, ordered-reads.Learnt, stood-reads.Asked, stood-reads.Learnt, second-tree-below t, second-tree.Post, behind-two-reads.Asked, behind-two-reads.Learnt) (climb-at t) climb.Post) → childrenOf (nodeAt (c .before .before .before .before .before .before .before .before .before .before .before .before .before .before .before .before .args .rule .now) (c .before .before .before .before .before .before .before .before .before .before .before .before .before .before .before .before .args .x)) ≡ c .before .children .given .0 .0 ∷ []
 one-child t c = sym (c .before .before .before .children-at .ensures) ∙ ap childrenIn (c .before .children .given .1)
 
 -- and of two, once they are put in order
-two-children : (t : ℕ) (c : climb-lts.After-ordered (children-at-reads.Asked, children-at-reads.Learnt, sets-of-reads.Asked, sets-of-reads.Learnt, own-step-reads.Asked, own-step-reads.Learnt, ordered-reads.Asked, ordered-reads.Learnt, stood-reads.Asked, stood-reads.Learnt, second-tree-below t, second-tree.Post, lower-reads.Asked, lower-reads.Learnt, behind-two-reads.Asked, behind-two-reads.Learnt) (climb-at t) climb.Post)
+two-children : (t : ℕ) (c : climb-lts.After-ordered (children-at-reads.Asked, children-at-reads.Learnt, sets-of-reads.Asked, sets-of-reads.Learnt, own-step-reads.Asked, own-step-reads.Learnt, ordered-reads.Asked, ordered-reads.Learnt, stood-reads.Asked, stood-reads.Learnt, second-tree-below t, second-tree.Post, behind-two-reads.Asked, behind-two-reads.Learnt) (climb-at t) climb.Post)
     → TwoOrdered (c .before .before .before .before .before .before .before .before .before .before .before .before .before .before .before .before .before .args .rule .now) (c .before .before .before .before .before .before .before .before .before .before .before .before .before .before .before .before .before .args .x) (c .before .before .children2 .given .0 .0) (c .before .before .children2 .given .0 .1 .0) (c .ordered .result .first) (c .ordered .result .second) (c .ordered .result .swapped)
 two-children t c =
     let s = c .before .before .before .before .before .before .before .before .before .before .before .before .before .before .before .before .before in
@@ -91,7 +90,7 @@ tree-μ-loop rule figures owners numbers values stamps points event rows₀ at�
 pub +climb+second-tree+tree-spec : {M : Type 1} → statement M
 +climb+second-tree+tree-spec =
     close μ-climb μ-second-tree μ-tree
-    (λ t. climb-lts.spec (children-at-reads.Asked, children-at-reads.Learnt, sets-of-reads.Asked, sets-of-reads.Learnt, own-step-reads.Asked, own-step-reads.Learnt, ordered-reads.Asked, ordered-reads.Learnt, stood-reads.Asked, stood-reads.Learnt, second-tree-below t, second-tree.Post, lower-reads.Asked, lower-reads.Learnt, behind-two-reads.Asked, behind-two-reads.Learnt) (climb-at t) climb.Post
+    (λ t. climb-lts.spec (children-at-reads.Asked, children-at-reads.Learnt, sets-of-reads.Asked, sets-of-reads.Learnt, own-step-reads.Asked, own-step-reads.Learnt, ordered-reads.Asked, ordered-reads.Learnt, stood-reads.Asked, stood-reads.Learnt, second-tree-below t, second-tree.Post, behind-two-reads.Asked, behind-two-reads.Learnt) (climb-at t) climb.Post
     (λ c κs. let s = c .before .before .before .before .before .before .before .before .before .before .before .before in let g = s .pre .1 .0 in let v = s .pre .1 .1 in let x = s .args .x in let o = v .begun .inside in head-there (s .args .rule .now) (g .formed .accepted .0) (g .formed .accepted .1) x o)
     (λ c. search needs)
     (λ c. search needs)
@@ -104,16 +103,21 @@ pub +climb+second-tree+tree-spec : {M : Type 1} → statement M
     (λ c κs. let s = c .before .before .before .before .before .before .before .before .before .before .before .before .before .before .before .before .before in let g = s .pre .1 .0 in let v = s .pre .1 .1 in let x = s .args .x in let o = v .begun .inside in let k = two-children t c in (figure-there g (c .ordered .result .first) (first-inside g x o k), low-first g (c .ordered .result .first) (first-inside g x o k)))
     (λ c. let s = c .before .before .before .before .before .before .before .before .before .before .before .before .before .before .before .before .before .before .before .before .before .before .before in let g = s .pre .1 .0 in let v = s .pre .1 .1 in let x = s .args .x in let o = v .begun .inside in let k = two-children t (c .before .before .before .before .before .before) in let d = c .before .before .before .before .before .stood .result in let i = c .before .before .before .before .before .before .ordered .result .first in let e = c .before .before .before .before .before .stood .ensures ∙ stood-figured g (s .args .p .low) i (first-inside g x o k) in omega (arith, first-few g x o k v d e))
     (λ c κs. let s = c .before .before .before .before .before .before .before .before .before .before .before .before .before .before .before .before .before .before .before .before .before .before .before in let g = s .pre .1 .0 in let v = s .pre .1 .1 in let x = s .args .x in let o = v .begun .inside in let k = two-children t (c .before .before .before .before .before .before) in let d = c .before .before .before .before .before .stood .result in let i = c .before .before .before .before .before .before .ordered .result .first in let e = c .before .before .before .before .before .stood .ensures ∙ stood-figured g (s .args .p .low) i (first-inside g x o k) in (omega (arith, s .pre .0, second-lower g x o k), (g, second-ready g x o k v d e)))
-    (λ c κs. search needs)
-    (λ c. c .before .before .before .before .before .before .before .before .before .before .before .rows2 .given)
-    (λ c. c .before .before .before .before .before .before .before .before .before .at2 .given)
-    (λ c. c .before .before .before .before .before .before .before .out-numbers2 .given)
-    (λ c. c .before .before .before .before .before .out-values2 .given)
-    (λ c. c .before .before .before .blocks3 .given)
-    (λ c. let s = c .before .before .before .before .before .before .before .before .before .before .before .before .before .before .before .before .before .before .before .before .before .before .before .before .before .before .before .before .before .before .before .before .before .before .before .before in let g = s .pre .1 .0 in let v = s .pre .1 .1 in let x = s .args .x in let o = v .begun .inside in let k = two-children t (c .before .before .before .before .before .before .before .before .before .before .before .before .before .before .before .before .before .before .before) in let d = c .before .before .before .before .before .before .before .before .before .before .before .before .before .before .before .before .before .before .stood .result in let i = c .before .before .before .before .before .before .before .before .before .before .before .before .before .before .before .before .before .before .before .ordered .result .first in let e = c .before .before .before .before .before .before .before .before .before .before .before .before .before .before .before .before .before .before .stood .ensures ∙ stood-figured g (s .args .p .low) i (first-inside g x o k) in two-stuck g x o k d e (c .before .before .before .before .before .before .before .before .before .before .before .before .second-tree .ensures) _ refl (c .before .lower .ensures) (c .if2 .taken))
-    (λ c κs. let s = c .before .before .before .before .before .before .before .before .before .before .before .before .before .before .before .before .before .before .before .before .before .before .before .before .before .before .before .before .before .before .before .before .before .before .before .before in let g = s .pre .1 .0 in let v = s .pre .1 .1 in let x = s .args .x in let o = v .begun .inside in let k = two-children t (c .before .before .before .before .before .before .before .before .before .before .before .before .before .before .before .before .before .before .before) in (figure-there g (c .before .before .before .before .before .before .before .before .before .before .before .before .before .before .before .before .before .before .before .ordered .result .second) (second-inside g x o k), low-first g (c .before .before .before .before .before .before .before .before .before .before .before .before .before .before .before .before .before .before .before .ordered .result .second) (second-inside g x o k)))
-    (λ c κs. let s = c .before .before .before .before .before .before .before .before .before .before .before .before .before .before .before .before .before .before .before .before .before .before .before .before .before .before .before .before .before .before .before .before .before .before .before .before .before in let g = s .pre .1 .0 in let v = s .pre .1 .1 in let x = s .args .x in let o = v .begun .inside in let k = two-children t (c .before .before .before .before .before .before .before .before .before .before .before .before .before .before .before .before .before .before .before .before) in let d = c .before .before .before .before .before .before .before .before .before .before .before .before .before .before .before .before .before .before .before .stood .result in let i = c .before .before .before .before .before .before .before .before .before .before .before .before .before .before .before .before .before .before .before .before .ordered .result .first in let e = c .before .before .before .before .before .before .before .before .before .before .before .before .before .before .before .before .before .before .before .stood .ensures ∙ stood-figured g (s .args .p .low) i (first-inside g x o k) in let q = c .before .before .before .before .before .before .before .before .before .before .before .before .before .second-tree in let z : (s .args .p .low ≡ 32) × (q .result .low ≡ 32) = (omega (arith, v .walked .low, c .before .before .lower .ensures, c .before .if2 .left), omega (arith, q .ensures .low, c .before .before .lower .ensures, c .before .if2 .left)) in let u = c .sets-of2 .ensures ∙ sets-figured g (c .before .before .before .before .before .before .before .before .before .before .before .before .before .before .before .before .before .before .before .before .ordered .result .second) (second-inside g x o k) in rw u (two-few g x o k v d e (q .ensures) (z .0) (z .1)))
-    (λ c κs. let s = c .before .before .before .before .before .before .before .before .before .before .before .before .before .before .before .before .before .before .before .before .before .before .before .before .before .before .before .before .before .before .before .before .before .before .before .before .before .before .before .before .before .before .before in let g = s .pre .1 .0 in let v = s .pre .1 .1 in let x = s .args .x in let o = v .begun .inside in let k = two-children t (c .before .before .before .before .before .before .before .before .before .before .before .before .before .before .before .before .before .before .before .before .before .before .before .before .before .before) in let d = c .before .before .before .before .before .before .before .before .before .before .before .before .before .before .before .before .before .before .before .before .before .before .before .before .before .stood .result in let i = c .before .before .before .before .before .before .before .before .before .before .before .before .before .before .before .before .before .before .before .before .before .before .before .before .before .before .ordered .result .first in let e = c .before .before .before .before .before .before .before .before .before .before .before .before .before .before .before .before .before .before .before .before .before .before .before .before .before .stood .ensures ∙ stood-figured g (s .args .p .low) i (first-inside g x o k) in let q = c .before .before .before .before .before .before .before .before .before .before .before .before .before .before .before .before .before .before .before .second-tree in let z : (s .args .p .low ≡ 32) × (q .result .low ≡ 32) = (omega (arith, v .walked .low, c .before .before .before .before .before .before .before .before .lower .ensures, c .before .before .before .before .before .before .before .if2 .left), omega (arith, q .ensures .low, c .before .before .before .before .before .before .before .before .lower .ensures, c .before .before .before .before .before .before .before .if2 .left)) in let u = c .before .before .before .before .before .before .sets-of2 .ensures ∙ sets-figured g (c .before .before .before .before .before .before .before .before .before .before .before .before .before .before .before .before .before .before .before .before .before .before .before .before .before .before .ordered .result .second) (second-inside g x o k) in let b = c .before .before .before .before .before .behind-two .ensures in (g, ((o, rw b (omega arith)), (rw (b, u) (two-room g x o k v d e (q .ensures) (z .0) (z .1)), (rw (b, u) (two-stand g x o k v d e (q .ensures) (z .0) (z .1)), rw b (two-out g x o k v d e (q .ensures) (z .0) (z .1)))))))
+    (λ c. c .before .before .before .before .before .before .before .before .before .before .before .before .rows2 .given)
+    (λ c. c .before .before .before .before .before .before .before .before .before .before .at2 .given)
+    (λ c. c .before .before .before .before .before .before .before .before .out-numbers2 .given)
+    (λ c. c .before .before .before .before .before .before .out-values2 .given)
+    (λ c. c .before .before .before .before .blocks3 .given)
+    (λ c. let s = c .before .before .before .before .before .before .before .before .before .before .before .before .before .before .before .before .before .before .before .before .before .before .before .before .before .before .before .before .before .before .before .before .before .before .before .before .before in let g = s .pre .1 .0 in let v = s .pre .1 .1 in let x = s .args .x in let o = v .begun .inside in let k = two-children t (c .before .before .before .before .before .before .before .before .before .before .before .before .before .before .before .before .before .before .before .before) in let d = c .before .before .before .before .before .before .before .before .before .before .before .before .before .before .before .before .before .before .before .stood .result in let i = c .before .before .before .before .before .before .before .before .before .before .before .before .before .before .before .before .before .before .before .before .ordered .result .first in let e = c .before .before .before .before .before .before .before .before .before .before .before .before .before .before .before .before .before .before .before .stood .ensures ∙ stood-figured g (s .args .p .low) i (first-inside g x o k) in two-stuck g x o k d e (c .before .before .before .before .before .before .before .before .before .before .before .before .before .second-tree .ensures) (record { kept = c .before .before .before .before .before .before .before .before .before .before .before .before .before .second-tree .result .kept; low = s .args .p .low }) refl (omega (arith, c .if2 .taken)) (omega (arith, c .before .before .before .before .before .before .before .before .before .before .before .before .before .second-tree .ensures .low, c .if2 .taken)))
+    (λ c. c .before .before .before .before .before .before .before .before .before .before .before .before .before .before .rows2 .given)
+    (λ c. c .before .before .before .before .before .before .before .before .before .before .before .before .at2 .given)
+    (λ c. c .before .before .before .before .before .before .before .before .before .before .out-numbers2 .given)
+    (λ c. c .before .before .before .before .before .before .before .before .out-values2 .given)
+    (λ c. c .before .before .before .before .before .before .blocks3 .given)
+    (λ c. let s = c .before .before .before .before .before .before .before .before .before .before .before .before .before .before .before .before .before .before .before .before .before .before .before .before .before .before .before .before .before .before .before .before .before .before .before .before .before .before .before in let g = s .pre .1 .0 in let v = s .pre .1 .1 in let x = s .args .x in let o = v .begun .inside in let k = two-children t (c .before .before .before .before .before .before .before .before .before .before .before .before .before .before .before .before .before .before .before .before .before .before) in let d = c .before .before .before .before .before .before .before .before .before .before .before .before .before .before .before .before .before .before .before .before .before .stood .result in let i = c .before .before .before .before .before .before .before .before .before .before .before .before .before .before .before .before .before .before .before .before .before .before .ordered .result .first in let e = c .before .before .before .before .before .before .before .before .before .before .before .before .before .before .before .before .before .before .before .before .before .stood .ensures ∙ stood-figured g (s .args .p .low) i (first-inside g x o k) in two-stuck g x o k d e (c .before .before .before .before .before .before .before .before .before .before .before .before .before .before .before .second-tree .ensures) (c .before .before .before .before .before .before .before .before .before .before .before .before .before .before .before .second-tree .result) refl (omega (arith, c .before .before .if2 .left)) (c .if3 .taken))
+    (λ c κs. let s = c .before .before .before .before .before .before .before .before .before .before .before .before .before .before .before .before .before .before .before .before .before .before .before .before .before .before .before .before .before .before .before .before .before .before .before .before .before .before .before in let g = s .pre .1 .0 in let v = s .pre .1 .1 in let x = s .args .x in let o = v .begun .inside in let k = two-children t (c .before .before .before .before .before .before .before .before .before .before .before .before .before .before .before .before .before .before .before .before .before .before) in (figure-there g (c .before .before .before .before .before .before .before .before .before .before .before .before .before .before .before .before .before .before .before .before .before .before .ordered .result .second) (second-inside g x o k), low-first g (c .before .before .before .before .before .before .before .before .before .before .before .before .before .before .before .before .before .before .before .before .before .before .ordered .result .second) (second-inside g x o k)))
+    (λ c κs. let s = c .before .before .before .before .before .before .before .before .before .before .before .before .before .before .before .before .before .before .before .before .before .before .before .before .before .before .before .before .before .before .before .before .before .before .before .before .before .before .before .before in let g = s .pre .1 .0 in let v = s .pre .1 .1 in let x = s .args .x in let o = v .begun .inside in let k = two-children t (c .before .before .before .before .before .before .before .before .before .before .before .before .before .before .before .before .before .before .before .before .before .before .before) in let d = c .before .before .before .before .before .before .before .before .before .before .before .before .before .before .before .before .before .before .before .before .before .before .stood .result in let i = c .before .before .before .before .before .before .before .before .before .before .before .before .before .before .before .before .before .before .before .before .before .before .before .ordered .result .first in let e = c .before .before .before .before .before .before .before .before .before .before .before .before .before .before .before .before .before .before .before .before .before .before .stood .ensures ∙ stood-figured g (s .args .p .low) i (first-inside g x o k) in let q = c .before .before .before .before .before .before .before .before .before .before .before .before .before .before .before .before .second-tree in let z : (s .args .p .low ≡ 32) × (q .result .low ≡ 32) = (omega (arith, v .walked .low, c .before .before .before .if2 .left, c .before .if3 .left), omega (arith, q .ensures .low, c .before .before .before .if2 .left, c .before .if3 .left)) in let u = c .sets-of2 .ensures ∙ sets-figured g (c .before .before .before .before .before .before .before .before .before .before .before .before .before .before .before .before .before .before .before .before .before .before .before .ordered .result .second) (second-inside g x o k) in rw u (two-few g x o k v d e (q .ensures) (z .0) (z .1)))
+    (λ c κs. let s = c .before .before .before .before .before .before .before .before .before .before .before .before .before .before .before .before .before .before .before .before .before .before .before .before .before .before .before .before .before .before .before .before .before .before .before .before .before .before .before .before .before .before .before .before .before .before in let g = s .pre .1 .0 in let v = s .pre .1 .1 in let x = s .args .x in let o = v .begun .inside in let k = two-children t (c .before .before .before .before .before .before .before .before .before .before .before .before .before .before .before .before .before .before .before .before .before .before .before .before .before .before .before .before .before) in let d = c .before .before .before .before .before .before .before .before .before .before .before .before .before .before .before .before .before .before .before .before .before .before .before .before .before .before .before .before .stood .result in let i = c .before .before .before .before .before .before .before .before .before .before .before .before .before .before .before .before .before .before .before .before .before .before .before .before .before .before .before .before .before .ordered .result .first in let e = c .before .before .before .before .before .before .before .before .before .before .before .before .before .before .before .before .before .before .before .before .before .before .before .before .before .before .before .before .stood .ensures ∙ stood-figured g (s .args .p .low) i (first-inside g x o k) in let q = c .before .before .before .before .before .before .before .before .before .before .before .before .before .before .before .before .before .before .before .before .before .before .second-tree in let z : (s .args .p .low ≡ 32) × (q .result .low ≡ 32) = (omega (arith, v .walked .low, c .before .before .before .before .before .before .before .before .before .if2 .left, c .before .before .before .before .before .before .before .if3 .left), omega (arith, q .ensures .low, c .before .before .before .before .before .before .before .before .before .if2 .left, c .before .before .before .before .before .before .before .if3 .left)) in let u = c .before .before .before .before .before .before .sets-of2 .ensures ∙ sets-figured g (c .before .before .before .before .before .before .before .before .before .before .before .before .before .before .before .before .before .before .before .before .before .before .before .before .before .before .before .before .before .ordered .result .second) (second-inside g x o k) in let b = c .before .before .before .before .before .behind-two .ensures in (g, ((o, rw b (omega arith)), (rw (b, u) (two-room g x o k v d e (q .ensures) (z .0) (z .1)), (rw (b, u) (two-stand g x o k v d e (q .ensures) (z .0) (z .1)), rw b (two-out g x o k v d e (q .ensures) (z .0) (z .1)))))))
     (λ c. let s = c .before .before .before .before .before .before .before .before .before .before .before .before .before .before .before in let g = s .pre .1 .0 in let v = s .pre .1 .1 in let x = s .args .x in let o = v .begun .inside in let k = sym (c .before .before .children-at .ensures) ∙ ap childrenIn (c .enum-told .given .1) in let l : x < x = rw k at (v .lower) in absurd (omega arith))
     (λ c. c .before .before .before .before .before .before .before .before .before .rows .given)
     (λ c. c .before .before .before .before .before .before .before .at .given)
@@ -121,12 +125,12 @@ pub +climb+second-tree+tree-spec : {M : Type 1} → statement M
     (λ c. c .before .before .before .out-values .given)
     (λ c. c .before .blocks2 .given)
     (λ c. let s = c .before .before .before .before .before .before .before .before .before .before .before .before .before .before .before .before .before .before .before .before .before .before .before .before .before .before .before .before .before .before .before .before .before .before .before in let g = s .pre .1 .0 in let v = s .pre .1 .1 in let x = s .args .x in let o = v .begun .inside in let n = c .before .before .before .before .before .before .before .before .before .before .before .before .before .before .before .before .before .before .before .before .children .given .0 .0 in let k = one-child t (c .before .before .before .before .before .before .before .before .before .before .before .before .before .before .before .before .before .before .before) in let z = first-calm g x o v (c .before .before .before .before .before .before .before .before .before .before .before .before .before .before .before .before .before .if1 .left) in one-climbs g x o n k z (c .before .before .before .before .before .before .before .before .before .before .own-step .ensures))
-    (λ c. c .before .before .before .before .before .before .before .before .before .rows3 .given ∙ c .before .before .before .before .before .before .before .before .before .before .before .before .before .before .before .before .before .before .before .before .before .before .before .before .before .before .before .before .before .rows2 .given)
-    (λ c. c .before .before .before .before .before .before .before .at3 .given ∙ c .before .before .before .before .before .before .before .before .before .before .before .before .before .before .before .before .before .before .before .before .before .before .before .before .before .before .before .at2 .given)
-    (λ c. c .before .before .before .before .before .out-numbers3 .given ∙ c .before .before .before .before .before .before .before .before .before .before .before .before .before .before .before .before .before .before .before .before .before .before .before .before .before .out-numbers2 .given)
-    (λ c. c .before .before .before .out-values3 .given ∙ c .before .before .before .before .before .before .before .before .before .before .before .before .before .before .before .before .before .before .before .before .before .before .before .out-values2 .given)
-    (λ c. c .before .blocks4 .given ∙ c .before .before .before .before .before .before .before .before .before .before .before .before .before .before .before .before .before .before .before .before .before .blocks3 .given)
-    (λ c. let s = c .before .before .before .before .before .before .before .before .before .before .before .before .before .before .before .before .before .before .before .before .before .before .before .before .before .before .before .before .before .before .before .before .before .before .before .before .before .before .before .before .before .before .before .before .before .before .before .before .before .before .before .before .before .before in let g = s .pre .1 .0 in let v = s .pre .1 .1 in let x = s .args .x in let o = v .begun .inside in let k = two-children t (c .before .before .before .before .before .before .before .before .before .before .before .before .before .before .before .before .before .before .before .before .before .before .before .before .before .before .before .before .before .before .before .before .before .before .before .before .before) in let d = c .before .before .before .before .before .before .before .before .before .before .before .before .before .before .before .before .before .before .before .before .before .before .before .before .before .before .before .before .before .before .before .before .before .before .before .before .stood .result in let i = c .before .before .before .before .before .before .before .before .before .before .before .before .before .before .before .before .before .before .before .before .before .before .before .before .before .before .before .before .before .before .before .before .before .before .before .before .before .ordered .result .first in let e = c .before .before .before .before .before .before .before .before .before .before .before .before .before .before .before .before .before .before .before .before .before .before .before .before .before .before .before .before .before .before .before .before .before .before .before .before .stood .ensures ∙ stood-figured g (s .args .p .low) i (first-inside g x o k) in let q = c .before .before .before .before .before .before .before .before .before .before .before .before .before .before .before .before .before .before .before .before .before .before .before .before .before .before .before .before .before .before .second-tree in let z : (s .args .p .low ≡ 32) × (q .result .low ≡ 32) = (omega (arith, v .walked .low, c .before .before .before .before .before .before .before .before .before .before .before .before .before .before .before .before .before .before .before .lower .ensures, c .before .before .before .before .before .before .before .before .before .before .before .before .before .before .before .before .before .before .if2 .left), omega (arith, q .ensures .low, c .before .before .before .before .before .before .before .before .before .before .before .before .before .before .before .before .before .before .before .lower .ensures, c .before .before .before .before .before .before .before .before .before .before .before .before .before .before .before .before .before .before .if2 .left)) in two-climbs g x o k d e (q .ensures) (z .0) (z .1) (rw (c .before .before .before .before .before .before .before .before .before .before .before .before .before .before .before .before .behind-two .ensures) at (c .before .before .before .before .before .before .before .before .before .before .own-step2 .ensures))))
+    (λ c. c .before .before .before .before .before .before .before .before .before .rows3 .given ∙ c .before .before .before .before .before .before .before .before .before .before .before .before .before .before .before .before .before .before .before .before .before .before .before .before .before .before .before .before .before .before .before .before .rows2 .given)
+    (λ c. c .before .before .before .before .before .before .before .at3 .given ∙ c .before .before .before .before .before .before .before .before .before .before .before .before .before .before .before .before .before .before .before .before .before .before .before .before .before .before .before .before .before .before .at2 .given)
+    (λ c. c .before .before .before .before .before .out-numbers3 .given ∙ c .before .before .before .before .before .before .before .before .before .before .before .before .before .before .before .before .before .before .before .before .before .before .before .before .before .before .before .before .out-numbers2 .given)
+    (λ c. c .before .before .before .out-values3 .given ∙ c .before .before .before .before .before .before .before .before .before .before .before .before .before .before .before .before .before .before .before .before .before .before .before .before .before .before .out-values2 .given)
+    (λ c. c .before .blocks4 .given ∙ c .before .before .before .before .before .before .before .before .before .before .before .before .before .before .before .before .before .before .before .before .before .before .before .before .blocks3 .given)
+    (λ c. let s = c .before .before .before .before .before .before .before .before .before .before .before .before .before .before .before .before .before .before .before .before .before .before .before .before .before .before .before .before .before .before .before .before .before .before .before .before .before .before .before .before .before .before .before .before .before .before .before .before .before .before .before .before .before .before .before .before .before in let g = s .pre .1 .0 in let v = s .pre .1 .1 in let x = s .args .x in let o = v .begun .inside in let k = two-children t (c .before .before .before .before .before .before .before .before .before .before .before .before .before .before .before .before .before .before .before .before .before .before .before .before .before .before .before .before .before .before .before .before .before .before .before .before .before .before .before .before) in let d = c .before .before .before .before .before .before .before .before .before .before .before .before .before .before .before .before .before .before .before .before .before .before .before .before .before .before .before .before .before .before .before .before .before .before .before .before .before .before .before .stood .result in let i = c .before .before .before .before .before .before .before .before .before .before .before .before .before .before .before .before .before .before .before .before .before .before .before .before .before .before .before .before .before .before .before .before .before .before .before .before .before .before .before .before .ordered .result .first in let e = c .before .before .before .before .before .before .before .before .before .before .before .before .before .before .before .before .before .before .before .before .before .before .before .before .before .before .before .before .before .before .before .before .before .before .before .before .before .before .before .stood .ensures ∙ stood-figured g (s .args .p .low) i (first-inside g x o k) in let q = c .before .before .before .before .before .before .before .before .before .before .before .before .before .before .before .before .before .before .before .before .before .before .before .before .before .before .before .before .before .before .before .before .before .second-tree in let z : (s .args .p .low ≡ 32) × (q .result .low ≡ 32) = (omega (arith, v .walked .low, c .before .before .before .before .before .before .before .before .before .before .before .before .before .before .before .before .before .before .before .before .if2 .left, c .before .before .before .before .before .before .before .before .before .before .before .before .before .before .before .before .before .before .if3 .left), omega (arith, q .ensures .low, c .before .before .before .before .before .before .before .before .before .before .before .before .before .before .before .before .before .before .before .before .if2 .left, c .before .before .before .before .before .before .before .before .before .before .before .before .before .before .before .before .before .before .if3 .left)) in two-climbs g x o k d e (q .ensures) (z .0) (z .1) (rw (c .before .before .before .before .before .before .before .before .before .before .before .before .before .before .before .before .behind-two .ensures) at (c .before .before .before .before .before .before .before .before .before .before .own-step2 .ensures))))
     (λ t. second-tree-lts.spec (children-at-reads.Asked, children-at-reads.Learnt, tree-below t, tree.Post, leaf-step-reads.Asked, leaf-step-reads.Learnt) (second-tree-at t) second-tree.Post
     (λ c κs. let s = c .before .before .before .before .before .before .before .before .before .before .before .before in let g = s .pre .1 .0 in let v = s .pre .1 .1 in let x = s .args .x in head-there (s .args .rule .now) (g .formed .accepted .0) (g .formed .accepted .1) x (v .inside))
     (λ c. search needs)
