@@ -95,9 +95,6 @@ module _ {s : Stored} {w os ns vs stamps f : List ℕ} (g : CallReady s w os ns 
       pub none-room : {rows at : List ℕ} {h : ℕ} → RoomFor rows at h (setsFor x) (rowsFor x) → RoomFor rows at h (setsMost s w x) (rowsMost s w x)
       none-room r = room-less r (omega (arith, none-need (setsMost s w))) (omega (arith, none-need (rowsMost s w)))
 
-      pub none-stand : (rows at : List ℕ) (h : ℕ) → ChildrenStand s w rows at h (childrenOf (nodeAt (s .rule) x)) h h
-      none-stand rows at h = rw k tt
-
       pub none-walks : {h : ℕ} {rows at rows' at' on ov bl on' ov' bl' : List ℕ} {kept : ℕ} {r : Place}
           → OwnWalks h rows at rows' at' on ov bl on' ov' bl' kept r → TreeWalks s w x h rows at rows' at' on ov bl on' ov' bl' kept r
       none-walks v =

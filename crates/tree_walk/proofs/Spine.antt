@@ -4,16 +4,16 @@ use native.Mathlib.Omega.{arith}
 use mathlib.Core.Path.{_≡_, subst, ap, _∙_}
 use mathlib.Core.List.{List}
 use lib.ListN.{getD}
-use Rattle.meaning.specs.RuleFile.{nodeCount, nodeAt, childrenOf}
+use Rattle.meaning.specs.RuleFile.{nodeCount}
 use Rattle.method.specs.Stored.{Stored}
 use Rattle.method.specs.Room.{setsMost, rowsMost}
 use Rattle.node_step.specs.declared.Place.{Place}
 use Rattle.node_step.specs.Figures.{CallReady}
-use Rattle.node_step.specs.Walks.{RoomFor, ChildrenStand, Walks}
+use Rattle.node_step.specs.Walks.{RoomFor, Walks}
 use Rattle.tree_walk.specs.Tree.{keptOf, firstOf, HeavyPath, TreeReady, TreeWalks, FirstWalked, Climbs}
 use Rattle.tree_walk.proofs.Paths.{path-low, path-need}
 use Rattle.tree_walk.proofs.Standing.{room-less}
-use Rattle.tree_walk.proofs.Arms.{none-room, none-stand, none-walks}
+use Rattle.tree_walk.proofs.Arms.{none-room, none-walks}
 
 -- from the walk of node y's tree, left off at p, to that of node z's, left off at r
 pub record Climbed (s : Stored) (w : List ℕ) (h y z : ℕ) (rows at on ov bl : List ℕ) (p : Place) (rows' at' on' ov' bl' : List ℕ) (r : Place) : Type 0 where
@@ -53,12 +53,9 @@ module _ {s : Stored} {w os ns vs stamps f : List ℕ} (g : CallReady s w os ns 
           out = ready .out;
         }
 
-    -- what the own step of its last node asks
+    -- and for the step of its last node
     pub leaf-room : RoomFor rows0 at0 h (setsMost s w (getD path n 0)) (rowsMost s w (getD path n 0))
     leaf-room = none-room g (getD path n 0) (path-inside n (omega arith)) (t .leaf) (path-ready n (omega arith) .room)
-
-    pub leaf-stand : ChildrenStand s w rows0 at0 h (childrenOf (nodeAt (s .rule) (getD path n 0))) h h
-    leaf-stand = none-stand g (getD path n 0) (path-inside n (omega arith)) (t .leaf) rows0 at0 h
 
     -- after that step, at node k of the path
     module _ {rows at on ov bl rows' at' on' ov' bl' : List ℕ} {p q : Place} (k : ℕ) (l : k ≤ n)

@@ -3,11 +3,12 @@ use meaning::Children;
 use node_step::NO_NODE;
 use node_step::Place;
 use node_step::Spot;
+use node_step::leaf_step;
 use node_step::own_step;
 use rulenodes::children_at;
 ghost use mathlib.Core.Path.{_≡_};
 ghost use mathlib.Core.Bool.{cond};
-ghost use Prim.Native.Nat.{_+_, _-_, _*_, _≤_, _<_, min};
+ghost use Prim.Native.Nat.{_+_, _-_, _*_, _≤_, _<_};
 ghost use lib.ListN.{length};
 ghost use lib.Dec.{eqb};
 ghost use Rattle.meaning.specs.RuleFile.{nodeCount};
@@ -93,12 +94,6 @@ fn stood(figures: &[u32], x: u8, low: u8) -> usize
     0
 }
 
-fn lower(a: u8, b: u8) -> u8
-    ensures { λ r. ⌜ r ≡ min a b ⌝ }
-{
-    if a < b { a } else { b }
-}
-
 // Where the own step of a node with two children begins, behind h sets: the sets of the one that was walked first, d of them, stand before the other's, of which there are e.
 fn behind_two(h: usize, d: usize, e: usize, swapped: bool, kept: usize) -> Spot
     requires { ⌜ h + d + e < 4294967296 ⌝ }
@@ -182,7 +177,7 @@ fn climb(
             let sides = ordered(figures, a, c);
             let second = sides.second;
             let d = stood(figures, sides.first, p.low);
-            let q = tree(
+            let q = second_tree(
                 rule,
                 figures,
                 owners,
@@ -200,9 +195,14 @@ fn climb(
                 h + d,
                 p.kept,
             );
-            let low = lower(p.low, q.low);
-            if low < NO_NODE {
-                return Place { kept: q.kept, low };
+            if p.low < q.low {
+                return Place {
+                    kept: q.kept,
+                    low: p.low,
+                };
+            }
+            if q.low < NO_NODE {
+                return q;
             }
             let e = sets_of(figures, second);
             let spot = behind_two(h, d, e, sides.swapped, q.kept);
@@ -225,6 +225,70 @@ fn climb(
             )
         }
     }
+}
+
+// The tree of a second child x, behind h sets: x's own step alone where it has no children.
+fn second_tree(
+    rule: &[u8],
+    figures: &[u32],
+    owners: &[u32],
+    numbers: &[u32],
+    values: &[u32],
+    stamps: &[u32],
+    points: u32,
+    event: &[u32],
+    rows: &mut [u32],
+    at: &mut [u32],
+    out_numbers: &mut [u32],
+    out_values: &mut [u32],
+    blocks: &mut [u32],
+    x: u8,
+    h: usize,
+    kept: usize,
+) -> Place
+    requires { ⌜ CallReady (called (now rule) points (now stamps) (now owners) (now numbers) (now values)) (now event) (now owners) (now numbers) (now values) (now stamps) (now figures) ⌝ }
+    requires { ⌜ TreeReady (called (now rule) points (now stamps) (now owners) (now numbers) (now values)) (now event) (now rows) (now at) (now «out_numbers») (now «out_values») (now blocks) x h kept ⌝ }
+    ensures { λ r. ⌜ TreeWalks (called (now (rule .entry)) points (now (stamps .entry)) (now (owners .entry)) (now (numbers .entry)) (now (values .entry))) (now (event .entry)) x h (now (rows .entry)) (now (at .entry)) (now (rows .exit)) (now (at .exit)) (now («out_numbers» .entry)) (now («out_values» .entry)) (now (blocks .entry)) (now («out_numbers» .exit)) (now («out_values» .exit)) (now (blocks .exit)) kept r ⌝ }
+{
+    let children = children_at(rule, x);
+    let Children::None = children else {
+        return tree(
+            rule,
+            figures,
+            owners,
+            numbers,
+            values,
+            stamps,
+            points,
+            event,
+            rows,
+            at,
+            out_numbers,
+            out_values,
+            blocks,
+            x,
+            h,
+            kept,
+        );
+    };
+    leaf_step(
+        rule,
+        figures,
+        owners,
+        numbers,
+        values,
+        stamps,
+        points,
+        event,
+        rows,
+        at,
+        out_numbers,
+        out_values,
+        blocks,
+        x,
+        h,
+        kept,
+    )
 }
 
 // The tree of node x, behind h sets: from the last node of its heavy path up to x itself, so that only the lighter of two children takes a call of its own.
@@ -252,14 +316,7 @@ fn tree(
 {
     let mut path = [0u8; meaning::MOST_NODES];
     let mut k = descend(rule, figures, &mut path, x);
-    let spot = Spot {
-        below: h,
-        sets: h,
-        left: h,
-        right: h,
-        kept,
-    };
-    let mut p = own_step(
+    let mut p = leaf_step(
         rule,
         figures,
         owners,
@@ -274,7 +331,8 @@ fn tree(
         out_values,
         blocks,
         path[k],
-        spot,
+        h,
+        kept,
     );
     while 0 < k {
         k -= 1;
