@@ -25,9 +25,9 @@ const LARGE_ROWS: usize = 2688;
 const LARGEST_ROWS: usize = 8512;
 
 // For how many entries that are kept there is room, where it is less than for all that may be.
-const FEW_KEPT: usize = 128;
+const FEW_KEPT: usize = 32;
 
-const SOME_KEPT: usize = 256;
+const SOME_KEPT: usize = 128;
 
 const MANY_KEPT: usize = 384;
 
