@@ -27,12 +27,15 @@ use Rattle.node_step.proofs.Laying.{run-few, sets-more, extended-front}
 
 -- ---- one point
 
+pub next-space : {rows at : List ℕ} {n k : ℕ} → Space rows at n mostRows → k ≤ mostRows → Space rows at n (k - 0)
+next-space s u = record { laid = s .laid; mark = s .mark; words = omega (arith, s .words); small = omega (arith, s .small) }
+
 module _ {b w rows at times : List ℕ} {base : Point} {oldAges oldValues : List ℕ} {left right : Child} {n : ℕ} {start i : Point} {node : Node}
-    (r : NextReady b w rows at times base oldAges oldValues left right n start i node) {out : List ℕ} {k : ℕ} (p : PointSettled b w rows at times base oldAges oldValues left right start i node out k) where
+    (space : Space rows at n mostRows) {out : List ℕ} {k : ℕ} (p : PointSettled b w rows at times base oldAges oldValues left right start i node out k) where
   pub next-crowded : mostRows < k → NextSettled b w rows at times base oldAges oldValues left right n start i node rows at false
   next-crowded u =
       record {
-        stay = extended-none (r .space .laid);
+        stay = extended-none (space .laid);
         more = λ d. absurd (false≢true d);
         few = λ d. absurd (false≢true d);
         there = λ d. absurd (false≢true d);
@@ -40,11 +43,6 @@ module _ {b w rows at times : List ℕ} {base : Point} {oldAges oldValues : List
       }
 
   module _ (u : k ≤ mostRows) where
-    pub next-space : Space rows at n (k - 0)
-    next-space =
-        let s = r .space in
-        record { laid = s .laid; mark = s .mark; words = omega (arith, s .words); small = omega (arith, s .small) }
-
     pub next-more : {rows' at' : List ℕ} → Pushed rows at rows' at' n (k - 0) (rowsFrom out 0 (k - 0)) → NextSettled b w rows at times base oldAges oldValues left right n start i node rows' at' true
     next-more h =
         let f : k - 0 ≡ k = omega arith in
@@ -151,3 +149,17 @@ module _ {b w rows at times : List ℕ} {base : Point} {oldAges oldValues : List
           there = λ d. u .there;
           crowded = λ d. absurd (false≢true (sym d));
         }
+
+  -- where there is one point, it is all
+  pub one-space : start .0 + 1 ≡ end .0 → Space rows at n mostRows
+  one-space l = let z : n + (start .0 - start .0) ≡ n = omega arith in rw z at (point-ready going-none (omega arith) .space)
+
+  module _ (l : start .0 + 1 ≡ end .0) {rows' at' : List ℕ} {done : Bool} (p : NextSettled b w rows at times base oldAges oldValues left right n start start node rows' at' done) where
+    first : NextSettled b w rows at times base oldAges oldValues left right (n + (start .0 - start .0)) start start node rows' at' done
+    first = let z : n + (start .0 - start .0) ≡ n = omega arith in rw z p
+
+    pub one-crowded : done ≡ false → PointsSettled b w rows at times base oldAges oldValues left right n start end node rows' at' false
+    one-crowded told = going-crowded going-none (omega arith) first told
+
+    pub one-settled : done ≡ true → PointsSettled b w rows at times base oldAges oldValues left right n start end node rows' at' true
+    one-settled told = going-all (going-more going-none (omega arith) first told) (omega arith)

@@ -16,11 +16,14 @@ use Rattle.rowset.specs.Sets.{SetRoom}
 use Rattle.kinds.specs.Kinds.{pairAt, pairsFrom, PairsThere}
 use Rattle.room.specs.declared.Child.{Child}
 use Rattle.entries.proofs.Listed.{listed-same, listed-moved, map-twice}
+use Rattle.room.specs.Room.{SetsInOrder}
 use Rattle.node_sets.specs.Shelved.{agedEntries}
 use Rattle.node_sets.specs.Blocks.{RoomToKeep, EntriesPut}
+use Rattle.node_sets.specs.Parts.{Numbered}
 use Rattle.since.specs.Since.{heldIn, PairsPut}
 use Rattle.settling.specs.Inputs.{PairsSettled}
-use Rattle.node_step.specs.Parts.{PairsReady, PairsKept, BlockPut}
+use Rattle.node_step.specs.declared.Own.{Own}
+use Rattle.node_step.specs.Parts.{PairsReady, PairsKept, BlockPut, BlockReady}
 use Rattle.node_step.specs.Walks.{setWords, blockWord, blockIn, OutThere}
 
 -- ---- words
@@ -240,6 +243,27 @@ pub block-same : (x : ℕ) (on ov bl on' ov' bl' : List ℕ) (end : ℕ) → ((j
 block-same x on ov bl on' ov' bl' end h g t l o =
     rw (t 0 (omega arith), t 1 (omega arith), t 2 (omega arith))
     (ap₂ (λ s t. s ++ t) (run-same x 0 on ov on' ov' end h g (blockWord bl x 0) (blockWord bl x 1) (omega arith)) (run-same x 1 on ov on' ov' end h g (blockWord bl x 1) (blockWord bl x 2) o))
+
+-- nothing is put
+pub nothing-put : {x : ℕ} {on ov : List ℕ} {kept : ℕ} → RoomToKeep on ov kept → EntriesPut x 1 on ov on ov kept kept []
+nothing-put {kept = kept} r =
+    record {
+      onLong = refl;
+      ovLong = refl;
+      counted = omega (arith, r .counted);
+      numbers-below = λ j h. refl;
+      rows-below = λ j h. refl;
+      there = λ u. let z : kept - kept ≡ 0 = omega arith in rw z refl;
+    }
+
+-- what a node's sets ask to be kept
+pub sets-ready : {b w rows at times : List ℕ} {base : Point} {ns oldValues : List ℕ} {left right : Child} {first : ℕ} {o : Own} {node : Node} {on ov bl : List ℕ} {x kept : ℕ}
+    → BlockReady b w rows at times base ns oldValues left right first o node on ov bl x kept
+    → (o .low .0 ≤ o .want .0) × SetsInOrder rows at (first + (o .want .0 + (o .after - o .want .0) - o .low .0)) × (o .want .0 + (o .after - o .want .0) < 4294967296) × RoomToKeep on ov kept
+    × (o .before ≤ o .want .0 + (o .after - o .want .0)) × Numbered at first (o .before - o .low .0) (o .low .0) ns (o .begin)
+sets-ready {o = o} p =
+    let e : o .want .0 + (o .after - o .want .0) ≡ o .after = omega (arith, p .want-after) in
+    (p .low-want, rw e (p .laid), omega (arith, p .small, p .want-after), p .pairs .room, rw e (p .pairs .ordered), p .numbered)
 
 module _ {x : ℕ} {on ov on₁ ov₁ : List ℕ} {kept k₁ : ℕ} {es : List Entry} (r : RoomToKeep on ov kept) (p : EntriesPut x 0 on ov on₁ ov₁ kept k₁ es) where
   -- there is still room

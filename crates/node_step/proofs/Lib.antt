@@ -11,3 +11,4 @@ pub mod Numbers
 pub mod Seeing
 pub mod Stepping
 pub mod Ending
+pub mod Leaf

@@ -6,11 +6,13 @@ use mathlib.Core.List.{List, [], _∷_, _++_}
 use lib.ListN.{length, getD, take, drop}
 use Rattle.meaning.specs.Log.{point}
 use Rattle.meaning.specs.Outcome.{mostRows}
+use Rattle.meaning.specs.RuleFile.{nodeCount, nodeAt, childrenOf}
 use Rattle.meaning.specs.Kept.{Entry}
 use Rattle.meaning.specs.declared.Point.{Point}
 use Rattle.meaning.specs.declared.Node.{Node}
 use Rattle.method.specs.Settle.{Inputs, settle}
 use Rattle.method.specs.Step.{newPairs}
+use Rattle.kinds.specs.Kinds.{EventThere}
 use Rattle.room.specs.Room.{setIn, setAt, SetsInOrder, Sets}
 use Rattle.room.specs.declared.Child.{Child}
 use Rattle.entries.specs.Appended.{Space, Extended}
@@ -69,6 +71,19 @@ module _ (b w rows at times : List ℕ) (base : Point) (oldAges oldValues : List
     pub few : done ≡ true → length (setIn rows' at' n) ≤ mostRows
     pub there : done ≡ true → (v : Inputs) → InputsStand v b w rows at times base left right node → setIn rows' at' n ≡ settle v (heldIn oldAges oldValues) start i node
     pub crowded : done ≡ false → (v : Inputs) → InputsStand v b w rows at times base left right node → mostRows < length (settle v (heldIn oldAges oldValues) start i node)
+
+-- the same where node x has no children: it is an atom, to which the event is enough
+pub record LeafReady (b w rows at : List ℕ) (x n : ℕ) : Type 0 where
+  pub long : length b ≡ 12 + 20 * nodeCount b
+  pub node : x < nodeCount b
+  pub alone : childrenOf (nodeAt b x) ≡ []
+  pub event : EventThere w
+  pub space : Space rows at n mostRows
+
+-- so that its set is the same whatever else stands, and at any point
+abbrev pub LeafSettled : List ℕ → List ℕ → List ℕ → List ℕ → ℕ → ℕ → List ℕ → List ℕ → Bool → Type 0
+LeafSettled b w rows at x n rows' at' done =
+    (times : List ℕ) (base : Point) (oldAges oldValues : List ℕ) (left right : Child) (start i : Point) → NextSettled b w rows at times base oldAges oldValues left right n start i (nodeAt b x) rows' at' done
 
 module _ (b w rows at times : List ℕ) (base : Point) (oldAges oldValues : List ℕ) (left right : Child) (n : ℕ) (start end : Point) (node : Node) where
   -- a Inputs that say of the node's children what stands in any words whose first n sets are these

@@ -15,7 +15,7 @@ ghost use Rattle.method.specs.Room.{rowsMost, setsMost};
 ghost use Rattle.rowset.specs.Sets.{SetRoom};
 ghost use Rattle.node_step.specs.Figures.{called, CallReady};
 ghost use Rattle.node_step.specs.Walks.{setWords, RoomFor, ChildrenStand, OutThere, Walks};
-ghost use Rattle.node_step.specs.Parts.{childIn, ChildFigures, ChildSetsAre, OwnFigures, agesOf, NextReady, NextSettled, PointsReady, PointsSettled, PairsReady, PairsKept, BlockReady, BlockKept};
+ghost use Rattle.node_step.specs.Parts.{childIn, ChildFigures, ChildSetsAre, OwnFigures, agesOf, NextReady, NextSettled, LeafReady, LeafSettled, PointsReady, PointsSettled, PairsReady, PairsKept, BlockReady, BlockKept};
 
 // Where a node's step begins: so many sets are below its children's, so many stand in all, left's and right's begin at these sets, and so many entries are kept.
 pub struct Spot {
@@ -423,7 +423,31 @@ pub fn own_step(
     Place { kept, low: NO_NODE }
 }
 
-// The step of node x, which has no children, behind h sets.
+// Settles the newest point of node x, which has no children, and puts its set behind n others; false where it has more than 32 rows. The set is made in `out`.
+fn settle_leaf(
+    rule: &[u8],
+    event: &[u32],
+    rows: &mut [u32],
+    at: &mut [u32],
+    x: u8,
+    n: usize,
+    out: &mut [u32],
+) -> bool
+    requires { ⌜ LeafReady (now rule) (now event) (now rows) (now at) x n ⌝ }
+    requires { ⌜ SetRoom (now out) 0 ⌝ }
+    ensures { λ r. ⌜ LeafSettled (now (rule .entry)) (now (event .entry)) (now (rows .entry)) (now (at .entry)) x n (now (rows .exit)) (now (at .exit)) r ⌝ }
+{
+    let atom = rulenodes::atom_at(rule, x);
+    let terms = atom.terms;
+    let k = kinds::atom(atom.relation as u32, terms, event, out, 0);
+    if MOST < k {
+        return false;
+    }
+    entries::push(out, 0, k, rows, at, n);
+    true
+}
+
+// The step of node x, which has no children, behind h sets: it is an atom, which settles the newest point and has no pairs. The owners, the times and the number of points are there for the contract, which says what is stored.
 pub fn leaf_step(
     rule: &[u8],
     figures: &[u32],
@@ -448,28 +472,49 @@ pub fn leaf_step(
     requires { ⌜ OutThere (called (now rule) points (now stamps) (now owners) (now numbers) (now values)) (now event) (now «out_numbers») (now «out_values») (now blocks) kept ⌝ }
     ensures { λ r. ⌜ Walks (called (now (rule .entry)) points (now (stamps .entry)) (now (owners .entry)) (now (numbers .entry)) (now (values .entry))) (now (event .entry)) (λ y. y ≡ x) (length (entriesNow (called (now (rule .entry)) points (now (stamps .entry)) (now (owners .entry)) (now (numbers .entry)) (now (values .entry))) (now (event .entry)) x)) x h (now (rows .entry)) (now (at .entry)) (now (rows .exit)) (now (at .exit)) (now («out_numbers» .entry)) (now («out_values» .entry)) (now (blocks .entry)) (now («out_numbers» .exit)) (now («out_values» .exit)) (now (blocks .exit)) kept r ⌝ }
 {
-    let spot = Spot {
-        below: h,
-        sets: h,
-        left: h,
-        right: h,
-        kept,
-    };
-    own_step(
-        rule,
-        figures,
-        owners,
+    let own = own_figures(figures, x);
+    let loaded = (own.before - own.low.0) as usize;
+    node_sets::load_sets(
         numbers,
         values,
-        stamps,
-        points,
+        own.begin,
+        own.pairs,
+        own.low,
+        loaded,
+        rows,
+        at,
+        h,
+    );
+    let done = settle_leaf(
+        rule,
         event,
         rows,
         at,
+        x,
+        h + loaded,
+        &mut blocks[0..SET_WORDS],
+    );
+    if !done {
+        return Place { kept, low: x };
+    }
+    let n = (own.after - own.want.0) as usize;
+    let end = node_sets::keep_sets(
+        rows,
+        at,
+        h,
+        own.low,
+        own.want,
+        n,
         out_numbers,
         out_values,
-        blocks,
-        x,
-        spot,
-    )
+        kept,
+        numbers,
+        own.begin,
+        Point(own.before),
+    );
+    note_block(blocks, x, kept, end, end);
+    Place {
+        kept: end,
+        low: NO_NODE,
+    }
 }

@@ -1,9 +1,7 @@
 -- `keep_node` meets its contract: its rows and then its pairs are put behind what is kept, and the table says where.
-use Prim.Native.Nat.{_+_, _-_}
 use native.Mathlib.Omega.{arith}
-use mathlib.Core.Path.{_≡_}
 use borrow.Author.Needs.{needs}
-use Rattle.node_step.proofs.Keeping.{room-then, rising, block-put}
+use Rattle.node_step.proofs.Keeping.{sets-ready, room-then, rising, block-put}
 use Rattle.node_step.proofs.keep_node.Statement.{statement}
 use Rattle.node_step.proofs.keep_node.Tie as tie
 
@@ -15,11 +13,7 @@ abbrev sets-kept : tie.After-keep-pairs-at → tie.After-keep-sets
 sets-kept c = c .before .before .before .before .before .before .before .before
 
 keep-sets-requires : tie.Need-keep-sets-requires
-keep-sets-requires c κs =
-    let p = c .before .before .before .before .before .before .before .before .before .before .before .before .before .pre in
-    let o = c .before .before .before .before .before .before .before .before .before .before .before .before .before .args .own in
-    let e : o .want .0 + (o .after - o .want .0) ≡ o .after = omega (arith, p .want-after) in
-    (p .low-want, rw e (p .laid), omega (arith, p .small, p .want-after), p .pairs .room, rw e (p .pairs .ordered), p .numbered)
+keep-sets-requires c κs = sets-ready (c .before .before .before .before .before .before .before .before .before .before .before .before .before .pre)
 
 keep-pairs-at-requires : tie.Need-keep-pairs-at-requires
 keep-pairs-at-requires c κs =

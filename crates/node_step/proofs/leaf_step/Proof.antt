@@ -1,22 +1,175 @@
--- `leaf_step` meets its contract: it is the node's own step, and no children's sets stand.
+-- `leaf_step` meets its contract: it is the step of a node whose children's sets are none, which settles one point, keeps no pairs and moves no set.
+use Prim.Native.Nat.{ℕ, _+_, _-_, _*_, _≤_}
 use native.Mathlib.Omega.{arith}
+use mathlib.Core.Path.{_≡_, refl, _∙_}
+use mathlib.Core.Bool.{true, false}
+use mathlib.Core.List.{List, _++_}
+use lib.ListN.{length, drop}
 use borrow.Author.Needs.{needs}
+use borrow.Author.Tests.{not-true, not-false}
+use Rattle.meaning.specs.Log.{point}
+use Rattle.meaning.specs.RuleFile.{nodeAt}
+use Rattle.meaning.proofs.Accepted.{accepted}
+use Rattle.method.specs.Stored.{Stored}
+use Rattle.room.specs.declared.Child.{Child}
+use Rattle.node_step.specs.declared.Own.{Own}
+use Rattle.node_step.specs.declared.Spot.{Spot}
+use Rattle.node_step.specs.Figures.{called}
+use Rattle.node_step.specs.Walks.{setWords}
+use Rattle.node_step.specs.Parts.{NextSettled, PointsSettled, BlockReady}
+use Rattle.node_step.proofs.Numbers.{Numbers, numbers, load-rows, load-spaces, load-numbers}
+use Rattle.node_step.proofs.Going.{one-space, one-crowded, one-settled}
+use Rattle.node_step.proofs.Keeping.{TableStays, set-room, table-stays, room-stays, sets-ready, room-then, nothing-put, rising}
+use Rattle.node_step.proofs.Stepping.{Loads, base, oldAges, oldValues, points-ready, whole, block-ready}
+use Rattle.node_step.proofs.Ending.{step-crowded, step-kept}
+use Rattle.node_step.proofs.Leaf.{one-new, leaf-kept, not-moved}
 use Rattle.node_step.proofs.leaf_step.Statement.{statement}
 use Rattle.node_step.proofs.leaf_step.Tie as tie
 
-own-step-requires : tie.Need-own-step-requires
-own-step-requires c κs =
-    let p = c .before .before .before .before .before .before .before .before .before .before .before .before .before .before .before .before .before .pre in
-    (p .0, ((p .1 .0 .0, omega arith), (p .1 .1 .0, (rw (p .1 .0 .1) tt, p .1 .1 .1))))
+-- the places behind one another
+abbrev entry : tie.After-own-figures → tie.Start
+entry c = c .before .before .before .before .before .before .before .before .before .before .before .before .before
+
+abbrev figured : tie.After-load-sets → tie.After-own-figures
+figured c = c .before .before .before .before
+
+abbrev loaded : tie.After-settle-leaf → tie.After-load-sets
+loaded c = c .before .before .before .before .before .before .before .before
+
+-- what is stored, where the step begins, the sets of no child, and the words in which the set was made
+abbrev stored : tie.Start → Stored
+stored s = called (s .args .rule .now) (s .args .points) (s .args .stamps .now) (s .args .owners .now) (s .args .numbers .now) (s .args .values .now)
+
+abbrev spot : tie.Start → Spot
+spot s = record { below = s .args .h; sets = s .args .h; left = s .args .h; right = s .args .h; kept = s .args .kept }
+
+abbrev noChild : Child
+noChild = record { first = 0; low = point 0; count = 0; mask = 0 }
+
+abbrev made : tie.After-settle-leaf → List ℕ
+made c = c .settle-leaf .last .1 .1 .1 .1 .1 .1 .0
+
+numbers-at : (c : tie.After-own-figures)
+    → Numbers (entry c .args .points) (entry c .args .x) (length (entry c .args .stamps .now)) (length (entry c .args .owners .now)) (length (entry c .args .numbers .now)) (length (entry c .args .values .now)) (length (entry c .args .figures .now)) (c .own-figures .result)
+numbers-at c = numbers (entry c .pre .0) (entry c .args .x) (entry c .pre .1 .0 .0) (c .own-figures .ensures)
+
+-- the one point that is new
+one-at : (c : tie.After-own-figures) → c .own-figures .result .before + 1 ≡ c .own-figures .result .after
+one-at c = one-new (entry c .pre .0) (entry c .args .x) (entry c .pre .1 .0 .0) (entry c .pre .1 .0 .1) (c .own-figures .ensures)
+
+loads-at : (c : tie.After-load-sets)
+    → Loads (stored (entry (figured c))) (entry (figured c) .args .event .now) (entry (figured c) .args .owners .now) (entry (figured c) .args .numbers .now) (entry (figured c) .args .values .now) (entry (figured c) .args .stamps .now) (entry (figured c) .args .figures .now) (entry (figured c) .args .x)
+    (figured c .own-figures .result) (spot (entry (figured c))) (entry (figured c) .args .rows .now) (entry (figured c) .args .at .now) noChild noChild (nodeAt (entry (figured c) .args .rule .now) (entry (figured c) .args .x)) (c .load-sets .last .1 .1 .1 .1 .1 .1 .0) (c .load-sets .last .1 .1 .1 .1 .1 .1 .1 .0)
+loads-at c =
+    let s = entry (figured c) in
+    record {
+      ready = s .pre .0;
+      here = s .pre .1 .0 .0;
+      below = omega arith;
+      room = s .pre .1 .1 .0;
+      stand = rw (s .pre .1 .0 .1) tt;
+      figures = figured c .own-figures .ensures;
+      decoded = refl;
+      children = rw (s .pre .1 .0 .1) tt;
+      read = c .load-sets .ensures;
+    }
+
+load-sets-requires : tie.Need-load-sets-requires
+load-sets-requires c κs =
+    let d = c .before .before .before in
+    let s = entry d in
+    let m = numbers-at d in (
+      omega (arith, m .pairs-end, m .end-there, m .numbers-there),
+      load-rows (s .pre .0) (s .args .x) (s .pre .1 .0 .0) (d .own-figures .ensures),
+      load-spaces (s .pre .0) (s .args .x) (s .pre .1 .0 .0) (d .own-figures .ensures) (s .pre .1 .1 .0),
+      load-numbers (s .pre .0) (s .args .x) (s .pre .1 .0 .0) (d .own-figures .ensures),
+    )
+
+-- the table is there, and stays while the set is made before it
+table-there : (c : tie.After-own-figures) → setWords ≤ length (entry c .args .blocks .now)
+table-there c = omega (arith, entry c .pre .1 .1 .1 .table)
+
+settle-leaf-requires : tie.Need-settle-leaf-requires
+settle-leaf-requires c κs =
+    let t = c .before .before .before .before .before .before .before in
+    let s = entry (figured t) in
+    let (a, ok) = s .pre .0 .formed .accepted in
+    (record { long = accepted _ a ok .long; node = s .pre .1 .0 .0; alone = s .pre .1 .0 .1; event = s .pre .0 .event; space = one-space (points-ready (loads-at t)) (one-at (figured t)) }, set-room (s .args .blocks .now) (table-there (figured t)))
+
+-- the point, settled
+point-at : (c : tie.After-settle-leaf)
+    → NextSettled (entry (figured (loaded c)) .args .rule .now) (entry (figured (loaded c)) .args .event .now) (loaded c .load-sets .last .1 .1 .1 .1 .1 .1 .0) (loaded c .load-sets .last .1 .1 .1 .1 .1 .1 .1 .0) (entry (figured (loaded c)) .args .stamps .now) (base (loads-at (loaded c))) (oldAges (loads-at (loaded c))) (oldValues (loads-at (loaded c))) noChild noChild
+    (entry (figured (loaded c)) .args .h + (figured (loaded c) .own-figures .result .before - figured (loaded c) .own-figures .result .low .0)) (point (figured (loaded c) .own-figures .result .before)) (point (figured (loaded c) .own-figures .result .before)) (nodeAt (entry (figured (loaded c)) .args .rule .now) (entry (figured (loaded c)) .args .x)) (c .settle-leaf .last .1 .1 .0) (c .settle-leaf .last .1 .1 .1 .0) (c .settle-leaf .result)
+point-at c = c .settle-leaf .ensures (entry (figured (loaded c)) .args .stamps .now) (base (loads-at (loaded c))) (oldAges (loads-at (loaded c))) (oldValues (loads-at (loaded c))) noChild noChild (point (figured (loaded c) .own-figures .result .before)) (point (figured (loaded c) .own-figures .result .before))
+
+returns : tie.Need-returns
+returns c =
+    let t = c .before .before .before .before .before .before .before in
+    let u = loaded t in
+    let s = entry (figured u) in
+    step-crowded (loads-at u) (one-crowded (points-ready (loads-at u)) (one-at (figured u)) (point-at t) (not-true (t .settle-leaf .result) (c .if1 .taken))) (s .pre .1 .1 .1) (table-stays (s .args .blocks .now) (table-there (figured u)) (made t) (c .before .before .blocks2 .given .0)) refl
+
+settled-at : (c : tie.After-settle-leaf) → c .settle-leaf .result ≡ true
+    → PointsSettled (entry (figured (loaded c)) .args .rule .now) (entry (figured (loaded c)) .args .event .now) (loaded c .load-sets .last .1 .1 .1 .1 .1 .1 .0) (loaded c .load-sets .last .1 .1 .1 .1 .1 .1 .1 .0) (entry (figured (loaded c)) .args .stamps .now) (base (loads-at (loaded c))) (oldAges (loads-at (loaded c))) (oldValues (loads-at (loaded c))) noChild noChild
+    (entry (figured (loaded c)) .args .h + (figured (loaded c) .own-figures .result .before - figured (loaded c) .own-figures .result .low .0)) (point (figured (loaded c) .own-figures .result .before)) (point (figured (loaded c) .own-figures .result .after)) (nodeAt (entry (figured (loaded c)) .args .rule .now) (entry (figured (loaded c)) .args .x)) (c .settle-leaf .last .1 .1 .0) (c .settle-leaf .last .1 .1 .1 .0) true
+settled-at c told = one-settled (points-ready (loads-at (loaded c))) (one-at (figured (loaded c))) (point-at c) told
+
+keep-sets-requires : tie.Need-keep-sets-requires
+keep-sets-requires c κs =
+    let t = c .before .before .before .before .before .before .before .before .before .before .before .before in
+    let u = loaded t in
+    let s = entry (figured u) in
+    sets-ready (block-ready (loads-at u) (settled-at t (not-false (t .settle-leaf .result) (c .before .before .before .before .before .if1 .left))) refl (s .pre .1 .1 .1))
+
+note-block-requires : tie.Need-note-block-requires
+note-block-requires c κs =
+    let t = c .before .before .before .before .before .before .before .before .before .before .before .before .before .before .before .before .before .before in
+    let u = loaded t in
+    let s = entry (figured u) in
+    let b = block-ready (loads-at u) (settled-at t (not-false (t .settle-leaf .result) (c .before .before .before .before .before .before .before .before .before .before .before .if1 .left))) refl (room-stays (table-stays (s .args .blocks .now) (table-there (figured u)) (made t) (c .before .before .before .before .before .before .before .before .before .before .before .before .before .blocks2 .given .0)) (s .pre .1 .1 .1)) in
+    let r = b .pairs .room in
+    let p = c .before .before .before .before .before .keep-sets .ensures (s .args .x) in
+    let k = rising r p (nothing-put (room-then r p)) in
+    let f = r .few in
+    (b .table, omega (arith, k), omega (arith, k), omega (arith, k))
+
+returns-2 : tie.Need-returns-2
+returns-2 c =
+    let t = c .before .before .before .before .before .before .before .before .before .before .before .before .before .before .before .before .before .before .before .before .before in
+    let u = loaded t in
+    let s = entry (figured u) in
+    let told = not-false (t .settle-leaf .result) (c .before .before .before .before .before .before .before .before .before .before .before .before .before .before .if1 .left) in
+    let table = table-stays (s .args .blocks .now) (table-there (figured u)) (made t) (c .before .before .before .before .before .before .before .before .before .before .before .before .before .before .before .before .blocks2 .given .0) in
+    let b = block-ready (loads-at u) (settled-at t told) refl (room-stays table (s .pre .1 .1 .1)) in
+    rw (c .before .before .note-block .ensures)
+    (step-kept (loads-at u) (settled-at t told) (s .pre .1 .1 .1) table refl
+    (leaf-kept (nodeAt (s .args .rule .now) (s .args .x)) (s .pre .1 .0 .1) (one-at (figured u)) (b .pairs .room) (c .before .before .before .before .before .before .before .before .keep-sets .ensures (s .args .x)) (made t ++ drop setWords (s .args .blocks .now)) (b .table))
+    (not-moved (whole (loads-at u) (settled-at t told) refl .laid)))
 
 pub leaf-step-spec : {M : Type 1} → statement M
 leaf-step-spec =
     tie.close
     (tie.spec
-    own-step-requires
+    (λ c κs. let s = c .before .before .before .before .before .before .before .before .before .before .before .before in omega (arith, s .pre .0 .figures-there, s .pre .1 .0 .0))
+    (λ c. omega (arith, numbers-at (c .before) .low-before))
+    (λ c. search needs)
+    load-sets-requires
+    (λ c. omega (arith, points-ready (loads-at (c .before .before .before .before .before .before)) .small))
+    (λ c. omega arith)
+    (λ c. omega (arith, table-there (figured (c .before .before .before .before .before .before))))
+    (λ c. omega (arith, table-there (figured (c .before .before .before .before .before .before))))
+    settle-leaf-requires
+    (λ c. point-at (c .before .before .before .before .before .before .before) .stay .rowsLong ∙ c .before .before .before .before .before .before .before .before .before .before .before .before .before .before .before .load-sets .ensures .more .rowsLong)
+    (λ c. point-at (c .before .before .before .before .before .before .before) .stay .atLong ∙ c .before .before .before .before .before .before .before .before .before .before .before .before .before .before .before .load-sets .ensures .more .atLong)
+    (λ c. c .before .before .blocks2 .given .1)
+    returns
+    (λ c. omega (arith, numbers-at (c .before .before .before .before .before .before .before .before .before .before .before .before .before .before .before .before .before .before .before .before) .want-after))
+    (λ c. search needs)
+    keep-sets-requires
+    note-block-requires
+    (λ c. point-at (c .before .before .before .before .before .before .before .before .before .before .before .before .before .before .before .before .before .before .before .before .before) .stay .rowsLong ∙ c .before .before .before .before .before .before .before .before .before .before .before .before .before .before .before .before .before .before .before .before .before .before .before .before .before .before .before .before .before .load-sets .ensures .more .rowsLong)
+    (λ c. point-at (c .before .before .before .before .before .before .before .before .before .before .before .before .before .before .before .before .before .before .before .before .before) .stay .atLong ∙ c .before .before .before .before .before .before .before .before .before .before .before .before .before .before .before .before .before .before .before .before .before .before .before .before .before .before .before .before .before .load-sets .ensures .more .atLong)
     (λ c. search needs)
     (λ c. search needs)
-    (λ c. search needs)
-    (λ c. search needs)
-    (λ c. search needs)
-    (λ c. search needs))
+    (λ c. c .before .blocks3 .given ∙ c .before .before .before .before .before .before .before .before .before .before .before .before .before .before .before .before .blocks2 .given .1)
+    returns-2)

@@ -9,14 +9,14 @@ settle-point-requires : tie.Need-settle-point-requires
 settle-point-requires c κs = (c .before .before .before .before .before .before .before .before .before .before .before .pre .0 .asks, c .before .before .before .before .before .before .before .before .before .before .before .pre .1)
 
 returns : tie.Need-returns
-returns c = next-crowded (c .before .before .before .before .before .before .before .before .before .before .before .before .before .before .before .pre .0) (c .before .before .before .settle-point .ensures) (omega (arith, c .if1 .taken))
+returns c = next-crowded (c .before .before .before .before .before .before .before .before .before .before .before .before .before .before .before .pre .0 .space) (c .before .before .before .settle-point .ensures) (omega (arith, c .if1 .taken))
 
 push-requires : tie.Need-push-requires
 push-requires c κs =
-    (record { ordered = omega arith; there = omega (arith, c .before .before .before .if1 .left, c .before .before .before .before .before .before .before .before .before .before .before .before .before .before .before .before .before .before .pre .1 .there, c .before .before .before .before .before .out .given) }, next-space (c .before .before .before .before .before .before .before .before .before .before .before .before .before .before .before .before .before .before .pre .0) (c .before .before .before .before .before .before .settle-point .ensures) (omega (arith, c .before .before .before .if1 .left)))
+    (record { ordered = omega arith; there = omega (arith, c .before .before .before .if1 .left, c .before .before .before .before .before .before .before .before .before .before .before .before .before .before .before .before .before .before .pre .1 .there, c .before .before .before .before .before .out .given) }, next-space (c .before .before .before .before .before .before .before .before .before .before .before .before .before .before .before .before .before .before .pre .0 .space) (omega (arith, c .before .before .before .if1 .left)))
 
 returns-2 : tie.Need-returns-2
-returns-2 c = next-more (c .before .before .before .before .before .before .before .before .before .before .before .before .before .before .before .before .before .before .before .before .before .before .before .pre .0) (c .before .before .before .before .before .before .before .before .before .before .before .settle-point .ensures) (omega (arith, c .before .before .before .before .before .before .before .before .if1 .left)) (c .before .before .before .before .push .ensures)
+returns-2 c = next-more (c .before .before .before .before .before .before .before .before .before .before .before .before .before .before .before .before .before .before .before .before .before .before .before .pre .0 .space) (c .before .before .before .before .before .before .before .before .before .before .before .settle-point .ensures) (omega (arith, c .before .before .before .before .before .before .before .before .if1 .left)) (c .before .before .before .before .push .ensures)
 
 pub settle-next-spec : {M : Type 1} → statement M
 settle-next-spec =

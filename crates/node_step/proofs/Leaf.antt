@@ -1,0 +1,99 @@
+-- A node without children: it is an atom, which settles one point in a call and has no pairs, and whose sets stand where they were made.
+use Prim.Native.Nat.{ℕ, suc, _+_, _-_, _*_, _≤_, _<_}
+use native.Mathlib.Omega.{arith}
+use mathlib.Core.Path.{_≡_, refl, sym, ap, _∙_}
+use mathlib.Core.List.{List, [], cons≢nil}
+use lib.ListN.{length, getD}
+use Rattle.meaning.specs.Log.{point}
+use Rattle.meaning.specs.Formula.{atom, termsOf}
+use Rattle.meaning.specs.Evaluator.{atomRows}
+use Rattle.meaning.specs.View.{viewOf, childrenIn}
+use Rattle.meaning.specs.RuleFile.{nodeCount, nodeAt, arity, childrenOf}
+use Rattle.meaning.specs.declared.Point.{Point}
+use Rattle.meaning.specs.declared.Stamp.{Stamp}
+use Rattle.meaning.specs.declared.Terms.{Terms}
+use Rattle.meaning.specs.declared.Node.{Node}
+use Rattle.meaning.specs.declared.Node.the-variants.{Atom}
+use Rattle.meaning.specs.declared.Times.the-variants.{Here}
+use Rattle.method.specs.Stored.{Stored}
+use Rattle.method.specs.Settle.{Inputs, settle}
+use Rattle.method.specs.Counts.{advance}
+use Rattle.method.specs.Step.{newPairs}
+use Rattle.method.proofs.Views.{Branches, none, single, double, viewed}
+use Rattle.method.proofs.Bounds.{before-step, after-step}
+use Rattle.rowset.specs.Sets.{Added}
+use Rattle.rowset.proofs.Growing.{added-as}
+use Rattle.kinds.specs.Kinds.{rowsWith}
+use Rattle.kinds.proofs.Atoms.{atom-reads}
+use Rattle.room.specs.Room.{setIn, setAt, SetsInOrder}
+use Rattle.room.specs.declared.Child.{Child}
+use Rattle.room.proofs.SetsInOrder.{mark-before}
+use Rattle.node_sets.specs.Shelved.{setEntries}
+use Rattle.node_sets.specs.Blocks.{MovedDown, RoomToKeep, EntriesPut}
+use Rattle.since.specs.Since.{heldIn}
+use Rattle.settling.specs.Inputs.{PointSettled}
+use Rattle.settling.proofs.Gives.{set-made}
+use Rattle.node_step.specs.declared.Own.{Own}
+use Rattle.node_step.specs.Figures.{CallReady}
+use Rattle.node_step.specs.Walks.{setWords}
+use Rattle.node_step.specs.Parts.{OwnFigures, BlockKept}
+use Rattle.node_step.proofs.Keeping.{noted, room-then, nothing-put, block-put}
+use Rattle.node_step.proofs.Numbers.{a, ok, before-is, after-is}
+
+-- what an atom gives at a point, whatever its children's sets would be
+pub atom-settled : {b w rows at times : List ℕ} {base : Point} {oldAges oldValues : List ℕ} {left right : Child} {start i : Point} {node : Node} {r : ℕ} {t : Terms} {old out : List ℕ} {k : ℕ}
+    → node ≡ Atom r t → arity b r ≡ t .count → Added old 0 out k (atomRows r (termsOf t) (rowsWith (t .count) w)) → PointSettled b w rows at times base oldAges oldValues left right start i node out k
+unfolding settle
+atom-settled {b} {w} {r = r} {t = t} e many h =
+    rw e (record { gives = λ v s. set-made (added-as h (atom-reads b w r (t .count) (termsOf t) many ∙ ap (atomRows r (termsOf t)) (sym (s .event)))) })
+
+module _ (node : Node) (e : childrenOf node ≡ []) where
+  here-alone : viewOf node .times ≡ Here
+  here-alone = go (viewed (λ y. atom 0 []) node .shape)
+    where
+      go : Branches (viewOf node) → viewOf node .times ≡ Here
+      go (none c t) = t
+      go (single x c) = absurd (cons≢nil (sym (ap childrenIn c) ∙ e))
+      go (double x y c t) = absurd (cons≢nil (sym (ap childrenIn c) ∙ e))
+
+  -- it settles every point that is there
+  advance-alone : (τ : Point → Stamp) (n : ℕ) (c : ℕ → ℕ) (from : ℕ) → advance τ n c from (viewOf node) ≡ n
+  advance-alone τ n c from = rw (e, here-alone)
+
+  -- and has no pairs at a new point
+  pairs-alone : (v : Inputs) (start : Point) (n : ℕ) (held : List (List ℕ)) → newPairs v node start (suc n) held ≡ []
+  pairs-alone v start n held = rw here-alone
+
+  -- its block is its rows
+  pub leaf-kept : {b w rows at times : List ℕ} {base : Point} {oldAges oldValues : List ℕ} {left right : Child} {first : ℕ} {o : Own} {on ov on₁ ov₁ : List ℕ} {x kept k₁ : ℕ} → o .before + 1 ≡ o .after → RoomToKeep on ov kept
+      → EntriesPut x 0 on ov on₁ ov₁ kept k₁ (setEntries x (setAt rows at first (o .low)) (o .want) (o .after - o .want .0)) → (bl : List ℕ) (l : setWords + x * 3 + 3 ≤ length bl)
+      → BlockKept b w rows at times base oldAges oldValues left right first o node on ov bl x kept on₁ ov₁ (noted bl x l kept k₁ k₁) k₁
+  leaf-kept {oldAges = oldAges} {oldValues = oldValues} {o = o} one r p bl l =
+      record {
+        gives = λ v s.
+            let m : o .after - o .before ≡ suc 0 = omega arith in
+            let none : newPairs v node (point (o .before)) (o .after - o .before) (heldIn oldAges oldValues) ≡ [] = rw m (pairs-alone v (point (o .before)) 0 (heldIn oldAges oldValues)) in
+            rw none (block-put r p (nothing-put (room-then r p)) bl l);
+      }
+
+-- so that a call settles one point of it
+pub one-new : {s : Stored} {w os ns vs stamps f : List ℕ} (g : CallReady s w os ns vs stamps f) (x : ℕ) (l : x < nodeCount (s .rule)) → childrenOf (nodeAt (s .rule) x) ≡ [] → {o : Own} → OwnFigures f x o → o .before + 1 ≡ o .after
+one-new {s} {w} g x l e h =
+    let few = g .formed .few-times in
+    let many = g .formed .times-many in
+    omega (
+      arith,
+      before-is g x l h,
+      after-is g x l h,
+      before-step s (a g) (ok g) few many x l ∙ advance-alone (nodeAt (s .rule) x) e _ _ _ _,
+      after-step s (a g) (ok g) few many w x l ∙ advance-alone (nodeAt (s .rule) x) e _ _ _ _,
+    )
+
+-- sets that are moved by none stay
+pub not-moved : {rows at : List ℕ} {n m : ℕ} → SetsInOrder rows at (n + m) → MovedDown rows at rows at n (n - n) m
+not-moved {rows} {at} {n} {m} laid =
+    let z : n + (n - n) ≡ n = omega arith in
+    record {
+      more = record { rowsLong = refl; atLong = refl; laid = laid; marks = λ q l. refl; earlier = λ q l. refl; sets = λ k l. ap (λ q. setIn rows at (q + k)) (sym z) };
+      end = omega (arith, mark-before laid n (omega arith), ap (λ q. getD at q 0) z, ap (λ q. getD at (q + m) 0) z);
+    }
