@@ -87,14 +87,18 @@ module _ (S : Point → List (List ℕ)) (low : Point) where
         let u = run-of k l (behind k (omega arith)) in
         eqb-true (getD ns (cursor + ahead k + j) 0) (low .0 + k) (streak-all (isWord ns (low .0 + k)) (cursor + ahead k) (count - (cursor + ahead k)) j (omega (arith, u .many)))
 
-    -- each entry's number says which set its row is in
-    pub row-of : (i k : ℕ) → cursor ≤ i → i < count → getD ns i 0 ≡ low .0 + k → (ahead k ≤ i - cursor) × (i - cursor < ahead (suc k))
-    row-of i k a b e =
+    -- the set that an entry's row is in, which its number says
+    entry-of : (i : ℕ) → cursor ≤ i → i < count → (q : ℕ) × (q < n) × (ahead q ≤ i - cursor) × (i - cursor < ahead (suc q)) × (getD ns i 0 ≡ low .0 + q)
+    entry-of i a b =
         let (q, l, c, d) = set-of-row n (i - cursor) (omega (arith, ahead-all)) in
         let f : cursor + ahead q + (i - cursor - ahead q) ≡ i = omega arith in
-        let g : q ≡ k = omega (arith, e, rw f at (set-numbers q (i - cursor - ahead q) l (omega arith))) in
-        let h : (ahead q ≤ i - cursor) × (i - cursor < ahead (suc q)) = (c, d) in
-        rw g at h
+        (q, l, c, d, rw f at (set-numbers q (i - cursor - ahead q) l (omega arith)))
+
+    pub row-of : (i k : ℕ) → cursor ≤ i → i < count → getD ns i 0 ≡ low .0 + k → i - cursor < ahead (suc k)
+    row-of i k a b e =
+        let (q, l, c, d, f) = entry-of i a b in
+        let g : q ≡ k = omega arith in
+        rw g at d
 
     -- the last row of k sets has an entry of one of their points
     pub last-of : (k : ℕ) → k ≤ n → 0 < ahead k → (q : ℕ) × (q < k) × (cursor + ahead k ≤ count) × (getD ns (cursor + ahead k - 1) 0 ≡ low .0 + q)
@@ -105,14 +109,7 @@ module _ (S : Point → List (List ℕ)) (low : Point) where
 
     -- the numbers of a node's entries are its points
     pub numbers-within : NumbersWithin ns cursor count (low .0) n
-    numbers-within =
-        record { least = λ i a b. omega (arith, point-of i a b .1); most = λ i a b. omega (arith, point-of i a b .0, point-of i a b .1) }
-      where
-        point-of : (i : ℕ) → (a : cursor ≤ i) → (b : i < count) → (set-of-row n (i - cursor) (omega (arith, ahead-all)) .0 < n) × (getD ns i 0 ≡ low .0 + set-of-row n (i - cursor) (omega (arith, ahead-all)) .0)
-        point-of i a b =
-            let (q, l, c, d) = set-of-row n (i - cursor) (omega (arith, ahead-all)) in
-            let f : cursor + ahead q + (i - cursor - ahead q) ≡ i = omega arith in
-            (l, rw f at (set-numbers q (i - cursor - ahead q) l (omega arith)))
+    numbers-within = record { least = λ i a b. let (q, l, c, d, f) = entry-of i a b in omega arith; most = λ i a b. let (q, l, c, d, f) = entry-of i a b in omega arith }
 
 -- ---- nothing to load
 
@@ -202,7 +199,7 @@ module _ {ns : List ℕ} (vs : List ℕ) {cursor count : ℕ} {low : Point} {n :
     mark-is k l = omega (arith, most, over (tested (ltb 0 (ahead S low k))))
       where
         most : getD at₃ (sets + k) 0 ≤ getD at sets 0 + ahead S low k
-        most = mark-most k (getD at sets 0 + ahead S low k) l (omega arith) (λ i j o a b e. omega (arith, row-of S low os ns vs cursor count x n ordered r i j a b e .1, ahead-before S low j k o))
+        most = mark-most k (getD at sets 0 + ahead S low k) l (omega arith) (λ i j o a b e. omega (arith, row-of S low os ns vs cursor count x n ordered r i j a b e, ahead-before S low j k o))
 
         over : Tested (ltb 0 (ahead S low k)) → getD at sets 0 + ahead S low k ≤ getD at₃ (sets + k) 0
         over (passed u) =

@@ -1,5 +1,6 @@
 -- Marks where each point's rows end, entry after entry, and marks raised one after the other: none yet, one more, and all.
 use Prim.Native.Nat.{ℕ, _+_, _-_, _≤_, _<_}
+use mathlib.Core.Logic.{_≢_}
 use mathlib.Core.Path.{_≡_, refl, sym, ap, _∙_}
 use mathlib.Core.List.{List}
 use native.Mathlib.Omega.{arith}
@@ -38,15 +39,8 @@ module _ {ns : List ℕ} {cursor count low : ℕ} {old new : List ℕ} {sets end
         rw d (omega (arith, here, t .begun))
     over-more j k a b f (failed u) =
         let d : k ≡ p → ⊥ = eqb-false k p u in
-        let o : j ≡ i → ⊥ = λ g. d (omega (arith, is, f, ap (λ m. getD ns m 0) g)) in
-        rw (elsewhere (sets + k + 1) (λ g. d (omega arith))) (t .done .over j k a (omega (arith, lt-of j i b o)) f)
-      where
-        lt-of : (j i : ℕ) → j < i + 1 → (j ≡ i → ⊥) → j < i
-        lt-of j i b o = go (tested (ltb j i))
-          where
-            go : Tested (ltb j i) → j < i
-            go (passed v) = ltb-true j i v
-            go (failed v) = absurd (o (omega (arith, ltb-false j i v)))
+        let o : j ≢ i = λ g. d (omega (arith, is, f, ap (λ m. getD ns m 0) g)) in
+        rw (elsewhere (sets + k + 1) (λ g. d (omega arith))) (t .done .over j k a (omega arith) f)
 
     most-more : (k b : ℕ) → getD old (sets + k + 1) 0 ≤ b → ((j : ℕ) → cursor ≤ j → j < i + 1 → getD ns j 0 ≡ low + k → end + (j + 1 - cursor) ≤ b) → Tested (eqb k p) → getD new' (sets + k + 1) 0 ≤ b
     most-more k b h f (passed u) =
