@@ -1,2 +1,3 @@
 -- What the program's contracts cite.
 pub mod Ends
+pub mod Turns

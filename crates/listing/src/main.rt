@@ -1,6 +1,7 @@
 // The listing program: a rule and its events on standard input, the monitor's answers on standard output.
 mod input;
 mod text;
+mod turn;
 
 use input::is_short;
 use input::read_more;
@@ -14,8 +15,9 @@ use meaning::MOST_ROWS;
 use meaning::RULE_BYTES;
 use monitor::State;
 use rulefile::Checked;
-use text::put_answer;
 use text::put_end;
+use turn::Figures;
+use turn::take_event;
 ghost use Prim.Native.Nat.{_+_, _≤_};
 ghost use lib.ListN.{length};
 
@@ -44,13 +46,15 @@ fn take_all(first: State) {
     let mut report = [0u32; 4326];
     let mut text = [0u8; 65536];
     let rule = first.rule;
-    let mut points = first.points;
     let mut times = first.times;
-    let mut retained = first.retained;
     let mut owners = first.owners;
     let mut numbers = first.numbers;
     let mut values = first.values;
-    let mut count = first.count;
+    let mut figures = Figures {
+        points: first.points,
+        retained: first.retained,
+        count: first.count,
+    };
     let mut ended = false;
     let mut from = 0;
     let mut to = 0;
@@ -72,37 +76,34 @@ fn take_all(first: State) {
             let state = State {
                 rule,
                 bytes: first.bytes,
-                points,
+                points: figures.points,
                 times,
-                retained,
+                retained: figures.retained,
                 owners,
                 numbers,
                 values,
-                count,
+                count: figures.count,
             };
             let end = put_end(&mut text, at, next, state);
             io::write_all(STDOUT_FILENO, &text[0..end]);
             return;
         };
-        let left = lent_state::take(
+        let turn = take_event(
             &rule,
             first.bytes,
-            points,
+            figures,
             &mut times,
-            retained,
             &mut owners,
             &mut numbers,
             &mut values,
-            count,
             &event[0..n],
             &mut report,
+            &mut text,
+            at,
         );
-        points = left.points;
-        retained = left.retained;
-        count = left.count;
-        let answer = left.answer;
-        let end = put_answer(&mut text, at, answer, &report);
-        at = make_room(&text, end);
+        let after = turn.figures;
+        figures = after;
+        at = make_room(&text, turn.end);
         from += 4 * n;
     }
 }

@@ -1,0 +1,63 @@
+// An event taken in place, and its answer put behind the text so far.
+use crate::text::put_answer;
+ghost use Prim.Native.Nat.{_+_, _≤_};
+ghost use lib.ListN.{length};
+ghost use Rattle.lent_state.specs.Lent.{lent};
+ghost use Rattle.listing.specs.Turns.{Turned};
+
+// A state's figures: the points accepted, the times retained and the entries kept.
+pub struct Figures {
+    pub points: u32,
+    pub retained: u32,
+    pub count: u32,
+}
+
+// What a turn leaves beside the slices: the state's figures, and where the text ends.
+pub struct Turn {
+    pub figures: Figures,
+    pub end: usize,
+}
+
+// Takes an event in the state that is lent, and puts what is printed for it from `at` on.
+pub fn take_event(
+    rule: &[u8],
+    bytes: u32,
+    figures: Figures,
+    times: &mut [u32],
+    owners: &mut [u32],
+    numbers: &mut [u32],
+    values: &mut [u32],
+    event: &[u32],
+    report: &mut [u32],
+    text: &mut [u8],
+    at: usize,
+) -> Turn
+    requires { ⌜ (at + 53504 ≤ length (now text)) × (length (now report) ≤ 4326) ⌝ }
+    ensures { λ r. ⌜ Turned (lent (now (rule .entry)) bytes (figures .points) (now (times .entry)) (figures .retained) (now (owners .entry)) (now (numbers .entry)) (now (values .entry)) (figures .count)) (now (event .entry)) (now (report .entry)) (now (text .entry)) at (lent (now (rule .entry)) bytes (r .figures .points) (now (times .exit)) (r .figures .retained) (now (owners .exit)) (now (numbers .exit)) (now (values .exit)) (r .figures .count)) (now (report .exit)) (now (text .exit)) (r .end) ⌝ }
+    ensures { λ r. ⌜ r .end ≤ at + 53504 ⌝ }
+{
+    let left = lent_state::take(
+        rule,
+        bytes,
+        figures.points,
+        times,
+        figures.retained,
+        owners,
+        numbers,
+        values,
+        figures.count,
+        event,
+        report,
+    );
+    let answer = left.answer;
+    let end = put_answer(text, at, answer, report);
+    let after = Figures {
+        points: left.points,
+        retained: left.retained,
+        count: left.count,
+    };
+    Turn {
+        figures: after,
+        end,
+    }
+}
