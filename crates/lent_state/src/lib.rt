@@ -10,10 +10,10 @@ use meaning::RULE_BYTES;
 use meaning::TIME_WORDS;
 ghost use mathlib.Core.Path.{_≡_};
 ghost use mathlib.Core.Bool.{_&&_};
-ghost use Prim.Native.Nat.{ℕ, _≤_, _<_};
+ghost use Prim.Native.Nat.{ℕ, _+_, _≤_, _<_};
 ghost use lib.ListN.{length, take};
 ghost use lib.Dec.{leb};
-ghost use Rattle.meaning.specs.Outcome.{Outcome};
+ghost use Rattle.meaning.specs.Outcome.{Outcome, mostNodes, mostPoints};
 ghost use Rattle.method.specs.WellFormed.{Formed};
 ghost use Rattle.kinds.specs.Kinds.{EventThere};
 ghost use Rattle.formed.specs.StateFigures.{storedIn, StateFigures, EntryPlaces};
@@ -90,8 +90,8 @@ fn take_admitted(
     requires { ⌜ SizedWords (now times) (now owners) (now numbers) (now values) retained count ⌝ }
     requires { ⌜ Formed (storedIn (now rule) points (take retained (now times)) (now owners) (now numbers) (now values) count) ⌝ }
     requires { ⌜ StateFigures (storedIn (now rule) points (take retained (now times)) (now owners) (now numbers) (now values) count) (now masks) (now counts) (now lows) × EntryPlaces (storedIn (now rule) points (take retained (now times)) (now owners) (now numbers) (now values) count) (now owners) (now numbers) (now values) count (now begins) (now pairs) ⌝ }
-    requires { ⌜ EventThere (now event) × (points < 10000000) ⌝ }
-    requires { ⌜ (32 ≤ length (now masks)) × (32 ≤ length (now counts)) × (32 ≤ length (now lows)) × (33 ≤ length (now begins)) × (32 ≤ length (now pairs)) ⌝ }
+    requires { ⌜ EventThere (now event) × (points < mostPoints) ⌝ }
+    requires { ⌜ (mostNodes ≤ length (now masks)) × (mostNodes ≤ length (now counts)) × (mostNodes ≤ length (now lows)) × (mostNodes + 1 ≤ length (now begins)) × (mostNodes ≤ length (now pairs)) ⌝ }
     ensures { λ r. ⌜ TakesIn (storedIn (now (rule .entry)) points (take retained (now (times .entry))) (now (owners .entry)) (now (numbers .entry)) (now (values .entry)) count) (now (event .entry)) (now (report .entry)) (now (report .exit)) (now (times .entry)) (now (owners .entry)) (now (numbers .entry)) (now (values .entry)) (now (times .exit)) (now (owners .exit)) (now (numbers .exit)) (now (values .exit)) (weighedNow (storedIn (now (rule .entry)) points (take retained (now (times .entry))) (now (owners .entry)) (now (numbers .entry)) (now (values .entry)) count) (now (event .entry)) (length (now (report .entry)))) r ⌝ }
 {
     let n = figures::node_total(rule);
