@@ -45,13 +45,6 @@ pub enum Admitted {
     LogFull,
 }
 
-// A byte as a word.
-fn wide(b: u8) -> u32
-    ensures { λ r. ⌜ r ≡ b ⌝ }
-{
-    b as u32
-}
-
 // The event's form by its length and its row count.
 pub fn form_of(event: &[u32]) -> Form
     ensures { λ r. ⌜ r ≡ formOf (now (event .entry)) ⌝ }
@@ -90,7 +83,7 @@ fn row_fits(rule: &[u8], event: &[u32], m: u32, k: u32) -> bool
     ensures { λ r. ⌜ r ≡ rowFits (now (rule .entry)) (now (event .entry)) k ⌝ }
 {
     let relation = event[2 + (k as usize)];
-    if wide(rule[1]) <= relation {
+    if rulenodes::wide(rule[1]) <= relation {
         return false;
     }
     let at = 2 + (m as usize) + 4 * (k as usize);

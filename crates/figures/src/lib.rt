@@ -8,6 +8,7 @@ use meaning::Point;
 use meaning::RULE_BYTES;
 use meaning::Stamp;
 use meaning::Times;
+use rulenodes::greater;
 ghost use mathlib.Core.Path.{_≡_};
 ghost use mathlib.Core.List.{[], _∷_, _++_, map, List·Memᴰ};
 ghost use Prim.Native.Nat.{ℕ, _+_, _-_, _*_, _≤_, _<_, max};
@@ -241,13 +242,6 @@ pub fn weights(rule: &[u8], out: &mut [u32])
     }
 }
 
-// A byte as a word.
-fn wide(b: u8) -> u32
-    ensures { λ r. ⌜ r ≡ b ⌝ }
-{
-    b as u32
-}
-
 // Puts a node's nine words into the table.
 fn put_node(
     table: &mut [u32],
@@ -297,7 +291,7 @@ pub fn fill_table(
         put_node(
             table,
             x * 9,
-            wide(masks[x]),
+            rulenodes::wide(masks[x]),
             Point(lows[x]),
             before[x],
             after[x],
@@ -309,13 +303,6 @@ pub fn fill_table(
         );
         x += 1;
     }
-}
-
-// The higher of two numbers.
-fn higher(a: u32, b: u32) -> u32
-    ensures { λ r. ⌜ r ≡ max a b ⌝ }
-{
-    if a < b { b } else { a }
 }
 
 // By the table, node x's rows at most: those that are kept, and 32 in each new set.
@@ -345,7 +332,7 @@ fn need_of_one(table: &[u32], needs: &[u32], x: u8, a: u8) -> u32
 {
     let own = rows_in(table, x);
     let held = rows_in(table, a);
-    higher(needs[a as usize], held + own)
+    greater(needs[a as usize], held + own)
 }
 
 // What the tree of node x needs whose children are walked in this order.
@@ -357,7 +344,7 @@ fn need_in_order(table: &[u32], needs: &[u32], x: u8, first: u8, second: u8) -> 
     let held = rows_in(table, first);
     let other = rows_in(table, second);
     let walking = held + needs[second as usize];
-    higher(needs[first as usize], higher(walking, held + other + own))
+    greater(needs[first as usize], greater(walking, held + other + own))
 }
 
 // The same with the heavier child first, the left where both are as heavy.
