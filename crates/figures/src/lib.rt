@@ -18,15 +18,15 @@ ghost use Rattle.meaning.specs.Outcome.{given, mostKept, mostNodes, mostBytes};
 ghost use Rattle.meaning.specs.RuleFile.{Accepted, checking, nodeCount, lastNode};
 ghost use Rattle.meaning.specs.Lists.{total};
 ghost use Rattle.meaning.specs.View.{childrenIn};
-ghost use Rattle.method.specs.Stored.{firstRetained};
 ghost use Rattle.method.specs.WellFormed.{mostTimes, timeWords};
+ghost use Rattle.method.specs.Stored.{firstRetained};
 ghost use Rattle.method.specs.Room.{isPrevious, othersIn, need, needOfTwo};
 ghost use Rattle.entries.specs.Entries.{EntriesWithin};
 ghost use Rattle.entries.specs.Appended.{atFront};
 ghost use Rattle.formed.specs.StateFigures.{storedIn};
 ghost use Rattle.figures.specs.Tables.{TableOf, rowsIn, Weighty, CallTable};
 ghost use Rattle.figures.specs.Counts.{bare, Counting, Figured};
-ghost use Rattle.figures.specs.Fronts.{storedFront, openOf, openAnswer};
+ghost use Rattle.figures.specs.Fronts.{storedFront, openOf, openAnswer, figuresFit};
 ghost use mathlib.Core.Bool.{cond};
 ghost use lib.Dec.{ltb};
 ghost use Rattle.node_step.specs.Figures.{weightIn, nodeWords};
@@ -153,6 +153,19 @@ fn open_stored(
     Open::Points(points - counts[last])
 }
 
+// Whether the figures of a state are within its arrays.
+pub fn figures_fit(bytes: u32, retained: u32, count: u32) -> bool
+    ensures { λ r. ⌜ r ≡ figuresFit bytes retained count ⌝ }
+{
+    if MOST_BYTES < bytes {
+        return false;
+    }
+    if RETAINED < retained {
+        return false;
+    }
+    count <= KEPT
+}
+
 // The figure `open` of any state whatever, which stands in the slices as for `take`.
 pub fn open_points<'a>(
     rule: &'a [u8],
@@ -168,13 +181,7 @@ pub fn open_points<'a>(
     requires { ⌜ (length (now rule) ≡ mostBytes) × (mostTimes ≤ length (now times)) × EntriesWithin (now owners) (now numbers) (now values) mostKept ⌝ }
     ensures { λ r. ⌜ openOf r ≡ openAnswer (storedFront (now (rule .entry)) bytes points (now (times .entry)) retained (now (owners .entry)) (now (numbers .entry)) (now (values .entry)) count) ⌝ }
 {
-    if MOST_BYTES < bytes {
-        return Open::NotWellFormed;
-    }
-    if RETAINED < retained {
-        return Open::NotWellFormed;
-    }
-    if KEPT < count {
+    if !figures_fit(bytes, retained, count) {
         return Open::NotWellFormed;
     }
     let n = bytes as usize;
