@@ -32,7 +32,7 @@ pub enum Order {
 
 // Whether the log takes another point.
 pub enum LogRoom {
-    Left,
+    Enough,
     Full,
 }
 
@@ -123,7 +123,7 @@ fn room_of(points: u32) -> LogRoom
     if MOST_POINTS <= points {
         LogRoom::Full
     } else {
-        LogRoom::Left
+        LogRoom::Enough
     }
 }
 
@@ -152,7 +152,7 @@ pub fn admit(rule: &[u8], event: &[u32], last: Stamp, points: u32) -> Admitted
     let Order::Kept = order_of(Stamp(event[0]), last) else {
         return Admitted::TimeFalls;
     };
-    let LogRoom::Left = room_of(points) else {
+    let LogRoom::Enough = room_of(points) else {
         return Admitted::LogFull;
     };
     Admitted::Fine
