@@ -6,12 +6,12 @@ use lib.ListN.{length, getD}
 use Rattle.meaning.specs.Lists.{gather}
 use Rattle.meaning.specs.Kept.{Entry}
 use Rattle.meaning.specs.Log.{point}
-use Rattle.meaning.specs.Outcome.{mostPoints}
+use Rattle.meaning.specs.Outcome.{mostPoints, mostNodes}
 use Rattle.meaning.specs.RuleFile.{nodeCount, lastNode}
 use Rattle.entries.specs.Appended.{WordsPut}
 use Rattle.writer.specs.declared.Points.{Points}
 use Rattle.writer.specs.Words.{words, Reportable}
-use Rattle.node_step.specs.Figures.{maskIn, lowIn, beforeIn, afterIn}
+use Rattle.node_step.specs.Figures.{maskIn, lowIn, beforeIn, afterIn, nodeWords}
 use Rattle.node_step.specs.Walks.{setWords, blockWord}
 use Rattle.call.specs.Stores.{ownerOf}
 
@@ -32,7 +32,7 @@ blockSize bl x = blockWord bl x 2 - blockWord bl x 0
 
 -- node x's block stands in the out words, and behind k entries there is room for it
 pub record BlockStorable (on ov bl : List ℕ) (x : ℕ) (os ns vs : List ℕ) (k : ℕ) : Type 0 where
-  pub node : x < 32
+  pub node : x < mostNodes
   pub table : setWords + x * 3 + 3 ≤ length bl
   pub rows-first : blockWord bl x 0 ≤ blockWord bl x 1
   pub pairs-last : blockWord bl x 1 ≤ blockWord bl x 2
@@ -52,8 +52,8 @@ lastPoints b f points stamps =
 pub record LastReady (b f : List ℕ) (points : ℕ) (stamps rows at : List ℕ) : Type 0 where
   pub byte : 2 < length b
   pub some : 0 < nodeCount b
-  pub nodes : nodeCount b ≤ 32
-  pub figures-there : nodeCount b * 9 ≤ length f
+  pub nodes : nodeCount b ≤ mostNodes
+  pub figures-there : nodeCount b * nodeWords ≤ length f
   pub grown : beforeIn f (lastNode b) ≤ afterIn f (lastNode b)
   pub settled : afterIn f (lastNode b) ≤ points + 1
   pub not-full : points < mostPoints

@@ -26,9 +26,9 @@ callIn b points stamps os ns vs count = called b points stamps (take count os) (
 pub record ReadyIn (b : List ℕ) (points : ℕ) (stamps os ns vs : List ℕ) (count : ℕ) (w f : List ℕ) : Type 0 where
   pub ready : CallReady (callIn b points stamps os ns vs count) w (take count os) (take count ns) (take (count * 4) vs) stamps f
   pub few-kept : count ≤ mostKept
-  pub owners-long : length os ≡ 512
-  pub numbers-long : length ns ≡ 512
-  pub values-long : length vs ≡ 2048
+  pub owners-long : length os ≡ mostKept
+  pub numbers-long : length ns ≡ mostKept
+  pub values-long : length vs ≡ mostKept * 4
 
 -- what is lent for the entries that are kept: words for them, and a table of blocks for every node
 abbrev pub RoomToKeep : List ℕ → List ℕ → List ℕ → List ℕ → Type 0

@@ -3,6 +3,7 @@ use Prim.Native.Nat.{ℕ, _+_, _*_, _≤_, _<_}
 use mathlib.Core.Path.{_≡_}
 use mathlib.Core.List.{List, map}
 use lib.ListN.{length}
+use Rattle.meaning.specs.Outcome.{mostNodes}
 use Rattle.meaning.specs.Lists.{range, gather}
 use Rattle.meaning.specs.Kept.{Entry}
 use Rattle.entries.specs.Appended.{atFront}
@@ -20,7 +21,7 @@ pub record EntriesStored (os ns vs os' ns' vs' : List ℕ) (es : List Entry) : T
 
 -- the blocks of n nodes stand in the out words, and there is room for them all in a state's
 pub record Storable (on ov bl : List ℕ) (n : ℕ) (os ns vs : List ℕ) : Type 0 where
-  pub nodes : n ≤ 32
+  pub nodes : n ≤ mostNodes
   pub table : setWords + n * 3 ≤ length bl
   pub rows-first : (x : ℕ) → x < n → blockWord bl x 0 ≤ blockWord bl x 1
   pub pairs-last : (x : ℕ) → x < n → blockWord bl x 1 ≤ blockWord bl x 2

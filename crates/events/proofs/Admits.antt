@@ -17,7 +17,7 @@ use Rattle.events.specs.declared.Rows.the-variants.{Fit, Out}
 use Rattle.events.specs.declared.Order.{Order}
 use Rattle.events.specs.declared.Order.the-variants.{Kept, Falls}
 use Rattle.events.specs.declared.LogRoom.{LogRoom}
-use Rattle.events.specs.declared.LogRoom.the-variants.{Left, Full}
+use Rattle.events.specs.declared.LogRoom.the-variants.{Enough, Full}
 use Rattle.events.specs.declared.Admitted.{Admitted}
 use Rattle.events.specs.declared.Admitted.the-variants.{Fine, NotAnEvent, RowOut, TimeFalls, LogFull}
 use Rattle.events.specs.Answers.{formOf, rowsOf, orderOf, roomOf, admittedRows, outcomeOf}
@@ -36,7 +36,7 @@ weighed-rows b w (k ∷ ks) rest = go (tested (rowFits b w k)) (weighed-rows b w
 abbrev late : Order → LogRoom → Admitted
 late Falls room = TimeFalls
 late Kept Full = LogFull
-late Kept Left = Fine
+late Kept Enough = Fine
 
 weighed-late : (time last : Stamp) (points : ℕ) (rest : Outcome ℕ) → when (ltb (time .0) (last .0)) timeFalls 0 (when (leb mostPoints points) logFull 0 rest) ≡ outcomeOf (late (orderOf time last) (roomOf points)) rest
 unfolding orderOf roomOf
@@ -73,5 +73,5 @@ module _ (b w : List ℕ) (last : Stamp) (points : ℕ) where
         pub log-full : Full ≡ roomOf points → (rest : Outcome ℕ) → admitted b w last points rest ≡ outcomeOf LogFull rest
         log-full e rest = by-rows rest ∙ rw (← fit, ← kept, ← e)
 
-        pub fine : Left ≡ roomOf points → (rest : Outcome ℕ) → admitted b w last points rest ≡ outcomeOf Fine rest
+        pub fine : Enough ≡ roomOf points → (rest : Outcome ℕ) → admitted b w last points rest ≡ outcomeOf Fine rest
         fine e rest = by-rows rest ∙ rw (← fit, ← kept, ← e)

@@ -16,7 +16,7 @@ use Rattle.events.specs.declared.Rows.the-variants.{Fit, Out}
 use Rattle.events.specs.declared.Order.{Order}
 use Rattle.events.specs.declared.Order.the-variants.{Kept, Falls}
 use Rattle.events.specs.declared.LogRoom.{LogRoom}
-use Rattle.events.specs.declared.LogRoom.the-variants.{Left, Full}
+use Rattle.events.specs.declared.LogRoom.the-variants.{Enough, Full}
 use Rattle.events.specs.declared.Admitted.{Admitted}
 use Rattle.events.specs.declared.Admitted.the-variants.{Fine, NotAnEvent, RowOut, TimeFalls, LogFull}
 
@@ -43,7 +43,7 @@ unfoldable pub orderOf : Stamp → Stamp → Order
 orderOf time last = cond (ltb (time .0) (last .0)) Falls Kept
 
 unfoldable pub roomOf : ℕ → LogRoom
-roomOf points = cond (leb mostPoints points) Full Left
+roomOf points = cond (leb mostPoints points) Full Enough
 
 -- what the rows alone say of the event
 abbrev pub admittedRows : Rows → Admitted

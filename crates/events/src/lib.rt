@@ -32,7 +32,7 @@ pub enum Order {
 
 // Whether the log takes another point.
 pub enum LogRoom {
-    Left,
+    Enough,
     Full,
 }
 
@@ -43,13 +43,6 @@ pub enum Admitted {
     RowOut(u32),
     TimeFalls,
     LogFull,
-}
-
-// A byte as a word.
-fn wide(b: u8) -> u32
-    ensures { λ r. ⌜ r ≡ b ⌝ }
-{
-    b as u32
 }
 
 // The event's form by its length and its row count.
@@ -90,7 +83,7 @@ fn row_fits(rule: &[u8], event: &[u32], m: u32, k: u32) -> bool
     ensures { λ r. ⌜ r ≡ rowFits (now (rule .entry)) (now (event .entry)) k ⌝ }
 {
     let relation = event[2 + (k as usize)];
-    if wide(rule[1]) <= relation {
+    if rulenodes::wide(rule[1]) <= relation {
         return false;
     }
     let at = 2 + (m as usize) + 4 * (k as usize);
@@ -130,7 +123,7 @@ fn room_of(points: u32) -> LogRoom
     if MOST_POINTS <= points {
         LogRoom::Full
     } else {
-        LogRoom::Left
+        LogRoom::Enough
     }
 }
 
@@ -159,7 +152,7 @@ pub fn admit(rule: &[u8], event: &[u32], last: Stamp, points: u32) -> Admitted
     let Order::Kept = order_of(Stamp(event[0]), last) else {
         return Admitted::TimeFalls;
     };
-    let LogRoom::Left = room_of(points) else {
+    let LogRoom::Enough = room_of(points) else {
         return Admitted::LogFull;
     };
     Admitted::Fine

@@ -5,12 +5,14 @@ use mathlib.Core.Path.{_≡_, sym, _∙_, ap, ap₂}
 use mathlib.Core.Bool.{true, false}
 use mathlib.Core.List.{List}
 use lib.ListN.{length, getD, take, length-map}
+use lib.Dec.{leb}
 use lib.Seq.{length-take-le, getD-take}
+use borrow.Author.Tests.{leb-true, leb-false}
 use Rattle.meaning.specs.Lists.{range}
-use Rattle.meaning.specs.Outcome.{mostKept}
+use Rattle.meaning.specs.Outcome.{mostNodes, mostBytes, mostKept}
 use Rattle.meaning.specs.RuleFile.{nodeCount, lastNode}
 use Rattle.meaning.proofs.Lists.{range-length}
-use Rattle.meaning.proofs.Points.{Tested, passed, failed, tested}
+use Rattle.meaning.proofs.Points.{first, second, Tested, passed, failed, tested}
 use Rattle.meaning.proofs.Accepted.{accepted, nodes-most, last-is-node}
 use Rattle.method.specs.Stored.{Stored}
 use Rattle.method.specs.Step.{countBefore, openStored}
@@ -20,7 +22,7 @@ use Rattle.method.proofs.Formed.{formed}
 use Rattle.method.proofs.Bounds.{before-most}
 use Rattle.entries.specs.Entries.{entryAt, entriesFrom}
 use Rattle.formed.specs.StateFigures.{storedIn, StateFigures}
-use Rattle.figures.specs.Fronts.{front, storedFront, openOf, openAnswer}
+use Rattle.figures.specs.Fronts.{front, storedFront, figuresFit, openOf, openAnswer}
 use Rattle.figures.specs.declared.Open.the-variants.{Points, NotWellFormed}
 
 -- ---- the front of the slices
@@ -48,7 +50,7 @@ front-parts rule bytes points times retained os ns vs count b t = ap₂ (λ r ts
     part n xs h = let z : n - 0 ≡ n = omega arith in rw z (sym (front-take n xs h))
 
 -- 12 bytes and 20 for each of at most 32 nodes
-pub node-sizes : {s : Stored} → Formed s → (2 < length (s .rule)) × (length (s .rule) ≤ 652) × (1 ≤ nodeCount (s .rule)) × (nodeCount (s .rule) ≤ 32)
+pub node-sizes : {s : Stored} → Formed s → (2 < length (s .rule)) × (length (s .rule) ≤ mostBytes) × (1 ≤ nodeCount (s .rule)) × (nodeCount (s .rule) ≤ mostNodes)
 node-sizes {s} f =
     let (a, ok) = f .accepted in
     omega (arith, accepted (s .rule) a ok .long, last-is-node (s .rule) a ok, nodes-most (s .rule) a ok)
@@ -62,14 +64,18 @@ unless s h = go (tested (wellFormed s))
     go (passed t) = absurd (h (formed s t))
     go (failed t) = t
 
-pub long-rule : (s : Stored) → 652 < length (s .rule) → wellFormed s ≡ false
-long-rule s h = unless s (λ f. omega (arith, node-sizes f))
+pub figures-out : (rule : List ℕ) (bytes points : ℕ) (times : List ℕ) (retained : ℕ) (os ns vs : List ℕ) (count : ℕ) → figuresFit bytes retained count ≡ false → wellFormed (storedFront rule bytes points times retained os ns vs count) ≡ false
+figures-out rule bytes points times retained os ns vs count e =
+    unless (storedFront rule bytes points times retained os ns vs count) (λ f. go f (tested (leb bytes mostBytes)) (tested (leb retained mostTimes)) (tested (leb count mostKept)))
+  where
+    go : Formed (storedFront rule bytes points times retained os ns vs count) → Tested (leb bytes mostBytes) → Tested (leb retained mostTimes) → Tested (leb count mostKept) → ⊥
+    go f (failed t) u v = omega (arith, node-sizes f, leb-false bytes mostBytes t, front-length bytes rule)
+    go f (passed t) (failed u) v = omega (arith, f .few-times, leb-false retained mostTimes u, front-length retained times)
+    go f (passed t) (passed u) (failed v) = omega (arith, f .few-kept, leb-false count mostKept v, entries-many os ns vs count)
+    go f (passed t) (passed u) (passed v) = let z : true ≡ false = rw (t, u, v) at e in let q : _≡_ {A = ℕ} 0 1 = cc in omega arith
 
-pub many-times : (s : Stored) → mostTimes < length (s .times) → wellFormed s ≡ false
-many-times s h = unless s (λ f. omega (arith, f .few-times))
-
-pub many-entries : (s : Stored) → mostKept < length (s .entries) → wellFormed s ≡ false
-many-entries s h = unless s (λ f. omega (arith, f .few-kept))
+pub figures-in : (bytes retained count : ℕ) → figuresFit bytes retained count ≡ true → (bytes ≤ mostBytes) × (retained ≤ mostTimes) × (count ≤ mostKept)
+figures-in bytes retained count e = (leb-true bytes mostBytes (search first), leb-true retained mostTimes (search (first, second)), leb-true count mostKept (search (first, second)))
 
 -- ---- the figure `open`
 

@@ -1,13 +1,14 @@
 -- A state that stands at the front of slices, and its figure `open`.
 use Prim.Native.Nat.{ℕ}
-use mathlib.Core.Bool.{cond}
+use mathlib.Core.Bool.{Bool, cond, _&&_}
 use mathlib.Core.List.{List, map}
 use lib.ListN.{getD}
+use lib.Dec.{leb}
 use Rattle.meaning.specs.Lists.{range}
-use Rattle.meaning.specs.Outcome.{Outcome, refused, given, notWellFormed}
+use Rattle.meaning.specs.Outcome.{Outcome, refused, given, notWellFormed, mostBytes, mostKept}
 use Rattle.method.specs.Stored.{Stored}
 use Rattle.method.specs.Step.{openStored}
-use Rattle.method.specs.WellFormed.{wellFormed}
+use Rattle.method.specs.WellFormed.{wellFormed, mostTimes}
 use Rattle.formed.specs.StateFigures.{storedIn}
 use Rattle.figures.specs.declared.Open.{Open}
 use Rattle.figures.specs.declared.Open.the-variants.{Points, NotWellFormed}
@@ -18,6 +19,10 @@ front n xs = map (λ k. getD xs k 0) (range 0 n)
 
 abbrev pub storedFront : List ℕ → ℕ → ℕ → List ℕ → ℕ → List ℕ → List ℕ → List ℕ → ℕ → Stored
 storedFront rule bytes points times retained os ns vs count = storedIn (front bytes rule) points (front retained times) os ns vs count
+
+-- whether the figures of a state are within its arrays
+abbrev pub figuresFit : ℕ → ℕ → ℕ → Bool
+figuresFit bytes retained count = leb bytes mostBytes && (leb retained mostTimes && leb count mostKept)
 
 -- "For an answer that is an enum, a definition gives this paper's number and values for each of its cases": the figure, or 8
 abbrev pub openOf : Open → Outcome ℕ

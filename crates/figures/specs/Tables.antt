@@ -8,7 +8,7 @@ use Rattle.meaning.specs.RuleFile.{nodeCount, lastNode}
 use Rattle.method.specs.Stored.{Stored}
 use Rattle.method.specs.Step.{wantedFrom, countsAfter, countAfter}
 use Rattle.method.specs.Room.{othersIn, need}
-use Rattle.node_step.specs.Figures.{maskIn, lowIn, beforeIn, afterIn, wantIn, beginIn, pairsIn, endIn, weightIn}
+use Rattle.node_step.specs.Figures.{maskIn, lowIn, beforeIn, afterIn, wantIn, beginIn, pairsIn, endIn, weightIn, nodeWords}
 
 -- the figures of n nodes stand in the table
 pub record TableOf (n : ℕ) (masks lows before after wants begins pairs weights f : List ℕ) : Type 0 where
@@ -28,7 +28,7 @@ rowsIn f x = (pairsIn f x - beginIn f x) + mostRows * (afterIn f x - beforeIn f 
 
 -- the table has the weights of the rule's nodes, and no node has many rows
 pub record Weighty (b f : List ℕ) : Type 0 where
-  pub there : nodeCount b * 9 ≤ length f
+  pub there : nodeCount b * nodeWords ≤ length f
   pub weight : (x : ℕ) → x < nodeCount b → weightIn f x ≡ othersIn b x
   pub few : (x : ℕ) → x < nodeCount b → rowsIn f x ≤ 4096
 

@@ -8,15 +8,17 @@ use meaning::Point;
 use meaning::RULE_BYTES;
 use meaning::Stamp;
 use meaning::Times;
+use rulenodes::greater;
 ghost use mathlib.Core.Path.{_≡_};
 ghost use mathlib.Core.List.{[], _∷_, _++_, map, List·Memᴰ};
 ghost use Prim.Native.Nat.{ℕ, _+_, _-_, _*_, _≤_, _<_, max};
 ghost use lib.ListN.{length, getD, take, drop};
 ghost use Rattle.meaning.specs.Log.{stamp};
-ghost use Rattle.meaning.specs.Outcome.{given, mostKept};
+ghost use Rattle.meaning.specs.Outcome.{given, mostKept, mostNodes, mostBytes};
 ghost use Rattle.meaning.specs.RuleFile.{Accepted, checking, nodeCount, lastNode};
 ghost use Rattle.meaning.specs.Lists.{total};
 ghost use Rattle.meaning.specs.View.{childrenIn};
+ghost use Rattle.method.specs.WellFormed.{mostTimes, timeWords};
 ghost use Rattle.method.specs.Stored.{firstRetained};
 ghost use Rattle.method.specs.Room.{isPrevious, othersIn, need, needOfTwo};
 ghost use Rattle.entries.specs.Entries.{EntriesWithin};
@@ -24,10 +26,10 @@ ghost use Rattle.entries.specs.Appended.{atFront};
 ghost use Rattle.formed.specs.StateFigures.{storedIn};
 ghost use Rattle.figures.specs.Tables.{TableOf, rowsIn, Weighty, CallTable};
 ghost use Rattle.figures.specs.Counts.{bare, Counting, Figured};
-ghost use Rattle.figures.specs.Fronts.{storedFront, openOf, openAnswer};
+ghost use Rattle.figures.specs.Fronts.{storedFront, openOf, openAnswer, figuresFit};
 ghost use mathlib.Core.Bool.{cond};
 ghost use lib.Dec.{ltb};
-ghost use Rattle.node_step.specs.Figures.{weightIn};
+ghost use Rattle.node_step.specs.Figures.{weightIn, nodeWords};
 ghost use Rattle.figures.specs.Words.{putFrom};
 ghost use Rattle.figures.specs.Sizes.{Sized};
 
@@ -78,7 +80,7 @@ pub fn figures(
     wants: &mut [u32],
 )
     requires { ⌜ Counting (bare (now rule) points (now times)) (now before) ⌝ }
-    requires { ⌜ (0 < length (now event)) × (65 ≤ length (now stamps)) × (32 ≤ length (now after)) × (32 ≤ length (now wants)) ⌝ }
+    requires { ⌜ (0 < length (now event)) × (timeWords ≤ length (now stamps)) × (mostNodes ≤ length (now after)) × (mostNodes ≤ length (now wants)) ⌝ }
     ensures { λ _. ⌜ Figured (bare (now (rule .entry)) points (now (times .entry))) (now (event .entry)) (now (stamps .exit)) (now (after .exit)) (now (wants .exit)) ⌝ }
 {
     let k = times.len();
@@ -151,6 +153,19 @@ fn open_stored(
     Open::Points(points - counts[last])
 }
 
+// Whether the figures of a state are within its arrays.
+pub fn figures_fit(bytes: u32, retained: u32, count: u32) -> bool
+    ensures { λ r. ⌜ r ≡ figuresFit bytes retained count ⌝ }
+{
+    if MOST_BYTES < bytes {
+        return false;
+    }
+    if RETAINED < retained {
+        return false;
+    }
+    count <= KEPT
+}
+
 // The figure `open` of any state whatever, which stands in the slices as for `take`.
 pub fn open_points<'a>(
     rule: &'a [u8],
@@ -163,16 +178,10 @@ pub fn open_points<'a>(
     values: &'a [u32],
     count: u32,
 ) -> Open
-    requires { ⌜ (length (now rule) ≡ 652) × (64 ≤ length (now times)) × EntriesWithin (now owners) (now numbers) (now values) mostKept ⌝ }
+    requires { ⌜ (length (now rule) ≡ mostBytes) × (mostTimes ≤ length (now times)) × EntriesWithin (now owners) (now numbers) (now values) mostKept ⌝ }
     ensures { λ r. ⌜ openOf r ≡ openAnswer (storedFront (now (rule .entry)) bytes points (now (times .entry)) retained (now (owners .entry)) (now (numbers .entry)) (now (values .entry)) count) ⌝ }
 {
-    if MOST_BYTES < bytes {
-        return Open::NotWellFormed;
-    }
-    if RETAINED < retained {
-        return Open::NotWellFormed;
-    }
-    if KEPT < count {
+    if !figures_fit(bytes, retained, count) {
         return Open::NotWellFormed;
     }
     let n = bytes as usize;
@@ -190,7 +199,7 @@ pub fn open_points<'a>(
 
 // The words of a node's children, added up.
 fn children_weight(children: Children, words: &[u32]) -> u32
-    requires { ⌜ ((c : ℕ) → List·Memᴰ c (childrenIn children) → c < length (now words)) × (total (map (λ y. getD (now words) y 0) (childrenIn children)) ≤ 32) ⌝ }
+    requires { ⌜ ((c : ℕ) → List·Memᴰ c (childrenIn children) → c < length (now words)) × (total (map (λ y. getD (now words) y 0) (childrenIn children)) ≤ mostNodes) ⌝ }
     ensures { λ r. ⌜ r ≡ total (map (λ y. getD (now (words .entry)) y 0) (childrenIn children)) ⌝ }
 {
     match children {
@@ -240,13 +249,6 @@ pub fn weights(rule: &[u8], out: &mut [u32])
     }
 }
 
-// A byte as a word.
-fn wide(b: u8) -> u32
-    ensures { λ r. ⌜ r ≡ b ⌝ }
-{
-    b as u32
-}
-
 // Puts a node's nine words into the table.
 fn put_node(
     table: &mut [u32],
@@ -261,7 +263,7 @@ fn put_node(
     end: u32,
     weight: u32,
 )
-    requires { ⌜ at + 9 ≤ length (now table) ⌝ }
+    requires { ⌜ at + nodeWords ≤ length (now table) ⌝ }
     ensures { λ _. ⌜ now (table .exit) ≡ putFrom (now (table .entry)) at 0 (mask ∷ low .0 ∷ before ∷ after ∷ want .0 ∷ begin ∷ pairs ∷ end ∷ weight ∷ []) ⌝ }
 {
     table[at] = mask;
@@ -288,7 +290,7 @@ pub fn fill_table(
     weights: &[u32],
     table: &mut [u32],
 )
-    requires { ⌜ (n ≤ length (now masks)) × (n ≤ length (now lows)) × (n ≤ length (now before)) × (n ≤ length (now after)) × (n ≤ length (now wants)) × (n < length (now begins)) × (n ≤ length (now pairs)) × (n ≤ length (now weights)) × (n * 9 ≤ length (now table)) ⌝ }
+    requires { ⌜ (n ≤ length (now masks)) × (n ≤ length (now lows)) × (n ≤ length (now before)) × (n ≤ length (now after)) × (n ≤ length (now wants)) × (n < length (now begins)) × (n ≤ length (now pairs)) × (n ≤ length (now weights)) × (n * nodeWords ≤ length (now table)) ⌝ }
     ensures { λ _. ⌜ TableOf n (now (masks .entry)) (now (lows .entry)) (now (before .entry)) (now (after .entry)) (now (wants .entry)) (now (begins .entry)) (now (pairs .entry)) (now (weights .entry)) (now (table .exit)) ⌝ }
 {
     let mut x: usize = 0;
@@ -296,7 +298,7 @@ pub fn fill_table(
         put_node(
             table,
             x * 9,
-            wide(masks[x]),
+            rulenodes::wide(masks[x]),
             Point(lows[x]),
             before[x],
             after[x],
@@ -308,13 +310,6 @@ pub fn fill_table(
         );
         x += 1;
     }
-}
-
-// The higher of two numbers.
-fn higher(a: u32, b: u32) -> u32
-    ensures { λ r. ⌜ r ≡ max a b ⌝ }
-{
-    if a < b { b } else { a }
 }
 
 // By the table, node x's rows at most: those that are kept, and 32 in each new set.
@@ -330,7 +325,7 @@ fn rows_in(table: &[u32], x: u8) -> u32
 
 // By the table, the nodes of node x's tree that aren't "previous".
 fn weight_in(table: &[u32], x: u8) -> u32
-    requires { ⌜ x * 9 + 9 ≤ length (now table) ⌝ }
+    requires { ⌜ x * nodeWords + nodeWords ≤ length (now table) ⌝ }
     ensures { λ r. ⌜ r ≡ weightIn (now (table .entry)) x ⌝ }
 {
     let at = (x as usize) * 9;
@@ -344,7 +339,7 @@ fn need_of_one(table: &[u32], needs: &[u32], x: u8, a: u8) -> u32
 {
     let own = rows_in(table, x);
     let held = rows_in(table, a);
-    higher(needs[a as usize], held + own)
+    greater(needs[a as usize], held + own)
 }
 
 // What the tree of node x needs whose children are walked in this order.
@@ -356,7 +351,7 @@ fn need_in_order(table: &[u32], needs: &[u32], x: u8, first: u8, second: u8) -> 
     let held = rows_in(table, first);
     let other = rows_in(table, second);
     let walking = held + needs[second as usize];
-    higher(needs[first as usize], higher(walking, held + other + own))
+    greater(needs[first as usize], greater(walking, held + other + own))
 }
 
 // The same with the heavier child first, the left where both are as heavy.
@@ -417,8 +412,8 @@ pub fn call_table(
     table: &mut [u32],
 ) -> u32
     requires { ⌜ Counting (bare (now rule) points (now times)) (now counts) ⌝ }
-    requires { ⌜ (0 < length (now event)) × (32 ≤ length (now masks)) × (32 ≤ length (now lows)) × (33 ≤ length (now begins)) × (32 ≤ length (now pairs)) × (65 ≤ length (now stamps)) × (32 ≤ length (now after)) × (288 ≤ length (now table)) ⌝ }
-    requires { ⌜ ((x : ℕ) → x < nodeCount (now rule) → getD (now pairs) x 0 - getD (now begins) x 0 ≤ 512) ⌝ }
+    requires { ⌜ (0 < length (now event)) × (mostNodes ≤ length (now masks)) × (mostNodes ≤ length (now lows)) × (mostNodes + 1 ≤ length (now begins)) × (mostNodes ≤ length (now pairs)) × (timeWords ≤ length (now stamps)) × (mostNodes ≤ length (now after)) × (mostNodes * nodeWords ≤ length (now table)) ⌝ }
+    requires { ⌜ ((x : ℕ) → x < nodeCount (now rule) → getD (now pairs) x 0 - getD (now begins) x 0 ≤ mostKept) ⌝ }
     ensures { λ r. ⌜ CallTable (bare (now (rule .entry)) points (now (times .entry))) (now (event .entry)) (now (masks .entry)) (now (counts .entry)) (now (lows .entry)) (now (begins .entry)) (now (pairs .entry)) (now (stamps .exit)) (now (after .exit)) (now (table .exit)) r ⌝ }
 {
     let mut wants = [0u32; MOST_NODES];

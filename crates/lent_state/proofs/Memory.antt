@@ -1,24 +1,23 @@
 -- From what a taking over slices leaves to what is lent then.
-use Prim.Native.Nat.{ℕ, _+_, _≤_, _<_}
+use Prim.Native.Nat.{ℕ, _+_, _*_, _≤_, _<_}
 use native.Mathlib.Omega.{arith}
 use mathlib.Core.Path.{_≡_, refl, sym, _∙_, ap, ap₂, subst}
 use mathlib.Core.Bool.{true, false, _&&_}
 use mathlib.Core.List.{List}
 use lib.ListN.{length, take}
-use lib.Dec.{leb}
-use borrow.Author.Tests.{eqb-true, leb-true, leb-false}
-use Rattle.meaning.specs.Outcome.{refused, given, notWellFormed, mostPoints}
+use borrow.Author.Tests.{eqb-true}
+use Rattle.meaning.specs.Outcome.{refused, given, notWellFormed, mostPoints, mostBytes, mostKept}
 use Rattle.meaning.specs.Keeper.{bufferAfter}
 use Rattle.meaning.proofs.Points.{first, second, Tested, passed, failed, tested}
 use Rattle.meaning.proofs.Takings.{admitted-given}
 use Rattle.method.specs.Stored.{Stored}
 use Rattle.method.specs.Step.{latestStored, storedNow, reportNow, answerNow}
-use Rattle.method.specs.WellFormed.{wellFormed}
+use Rattle.method.specs.WellFormed.{wellFormed, mostTimes, timeWords}
 use Rattle.formed.specs.StateFigures.{storedIn}
 use Rattle.limits.specs.Weighs.{refusalOf}
 use Rattle.limits.specs.declared.Refusal.{Refusal}
 use Rattle.limits.specs.declared.Refusal.the-variants.{NotWellFormed, NotAnEvent, RowOut, TimeFalls, LogFull, Crowded, Backlog, KeptOver, BufferShort}
-use Rattle.figures.proofs.Slices.{front-length, front-take, entries-many, long-rule, many-times, many-entries}
+use Rattle.figures.proofs.Slices.{front-take}
 use Rattle.lent_state.specs.Answers.{takenOf, takeAnswer, TakesIn}
 use Rattle.lent_state.specs.Lent.{Lent, lent, lengthsFit, fitting, SizedWords, stored, lentWith, answerOf, answerIn, lentAfter, TakesLent}
 use Rattle.lent_state.specs.declared.Answer.{Answer}
@@ -28,21 +27,21 @@ use Rattle.lent_state.specs.declared.Taken.the-variants as taken
 
 -- the lengths of a state's arrays
 pub record Sized (rule times owners numbers values : List ℕ) : Type 0 where
-  pub rule-long : length rule ≡ 652
-  pub times-long : length times ≡ 65
-  pub owners-long : length owners ≡ 512
-  pub numbers-long : length numbers ≡ 512
-  pub values-long : length values ≡ 2048
+  pub rule-long : length rule ≡ mostBytes
+  pub times-long : length times ≡ timeWords
+  pub owners-long : length owners ≡ mostKept
+  pub numbers-long : length numbers ≡ mostKept
+  pub values-long : length values ≡ mostKept * 4
 
 pub fits-sized : (rule times os ns vs : List ℕ) → lengthsFit rule times os ns vs ≡ true → Sized rule times os ns vs
 unfolding lengthsFit
 fits-sized rule times os ns vs f =
     record {
-      rule-long = eqb-true (length rule) 652 (search first);
-      times-long = eqb-true (length times) 65 (search (first, second));
-      owners-long = eqb-true (length os) 512 (search (first, second));
-      numbers-long = eqb-true (length ns) 512 (search (first, second));
-      values-long = eqb-true (length vs) 2048 (search (first, second));
+      rule-long = eqb-true (length rule) mostBytes (search first);
+      times-long = eqb-true (length times) timeWords (search (first, second));
+      owners-long = eqb-true (length os) mostKept (search (first, second));
+      numbers-long = eqb-true (length ns) mostKept (search (first, second));
+      values-long = eqb-true (length vs) (mostKept * 4) (search (first, second));
     }
 
 pub sized-fits : {rule times os ns vs : List ℕ} → Sized rule times os ns vs → lengthsFit rule times os ns vs ≡ true
@@ -50,7 +49,7 @@ unfolding lengthsFit
 sized-fits h = rw (h .rule-long, h .times-long, h .owners-long, h .numbers-long, h .values-long)
 
 -- slices of a state's lengths, of which so many words are its
-pub sized-words : {rule times os ns vs : List ℕ} {retained count : ℕ} → Sized rule times os ns vs → retained ≤ 64 → count ≤ 512 → SizedWords times os ns vs retained count
+pub sized-words : {rule times os ns vs : List ℕ} {retained count : ℕ} → Sized rule times os ns vs → retained ≤ mostTimes → count ≤ mostKept → SizedWords times os ns vs retained count
 sized-words z r c = record { times-long = z .times-long; owners-long = z .owners-long; numbers-long = z .numbers-long; values-long = z .values-long; few-times = r; few-kept = c }
 
 stays : (m : Lent) (w : List ℕ) (r : Refusal) → m ≡ lentAfter (refusalOf r) m w
@@ -123,20 +122,6 @@ module _ (m : Lent) (w buffer : List ℕ) where
         -- and there was room for its point
         pub taken-room : m .points < mostPoints
         taken-room = given-room (stored m) w (length buffer) words (sym (takes .outcome) ∙ ap takenOf e)
-
--- ---- the figures
-
-pub figures-out : (m : Lent) → (leb (m .bytes) 652 && (leb (m .retained) 64 && leb (m .count) 512)) ≡ false → wellFormed (stored m) ≡ false
-figures-out m e = go (tested (leb (m .bytes) 652)) (tested (leb (m .retained) 64)) (tested (leb (m .count) 512))
-  where
-    go : Tested (leb (m .bytes) 652) → Tested (leb (m .retained) 64) → Tested (leb (m .count) 512) → wellFormed (stored m) ≡ false
-    go (failed t) u v = long-rule (stored m) (omega (arith, leb-false (m .bytes) 652 t, front-length (m .bytes) (m .rule)))
-    go (passed t) (failed u) v = many-times (stored m) (omega (arith, leb-false (m .retained) 64 u, front-length (m .retained) (m .times)))
-    go (passed t) (passed u) (failed v) = many-entries (stored m) (omega (arith, leb-false (m .count) 512 v, entries-many (m .owners) (m .numbers) (m .values) (m .count)))
-    go (passed t) (passed u) (passed v) = let z : true ≡ false = rw (t, u, v) at e in let q : _≡_ {A = ℕ} 0 1 = cc in absurd (omega arith)
-
-pub figures-in : (bytes retained count : ℕ) → (leb bytes 652 && (leb retained 64 && leb count 512)) ≡ true → (bytes ≤ 652) × (retained ≤ 64) × (count ≤ 512)
-figures-in bytes retained count e = (leb-true bytes 652 (search first), leb-true retained 64 (search (first, second)), leb-true count 512 (search (first, second)))
 
 -- what is stored in the parts is what is stored at their front
 pub stored-parts : (m : Lent) (n : ℕ) → n ≡ m .bytes → m .bytes ≤ length (m .rule) → m .retained ≤ length (m .times) → storedIn (take n (m .rule)) (m .points) (take (m .retained) (m .times)) (m .owners) (m .numbers) (m .values) (m .count) ≡ stored m

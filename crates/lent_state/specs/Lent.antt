@@ -1,13 +1,14 @@
 -- What a taking leaves in the memory that it was lent: every word of it is what a definition gives.
-use Prim.Native.Nat.{ℕ, _≤_}
+use Prim.Native.Nat.{ℕ, _*_, _≤_}
 use mathlib.Core.Path.{_≡_}
 use mathlib.Core.Bool.{Bool, cond, _&&_}
 use mathlib.Core.List.{List, map}
 use lib.ListN.{length}
 use lib.Dec.{eqb}
 use Rattle.meaning.specs.Lists.{gather}
-use Rattle.meaning.specs.Outcome.{Outcome, refused, given, notWellFormed}
+use Rattle.meaning.specs.Outcome.{Outcome, refused, given, notWellFormed, mostBytes, mostKept}
 use Rattle.meaning.specs.Keeper.{bufferAfter}
+use Rattle.method.specs.WellFormed.{mostTimes, timeWords}
 use Rattle.method.specs.Stored.{Stored}
 use Rattle.method.specs.Step.{storedNow, reportNow}
 use Rattle.limits.specs.Weighs.{refusalOf}
@@ -35,19 +36,19 @@ lent rule bytes points times retained owners numbers values count = record { rul
 
 -- whether slices have the lengths of a state's arrays
 unfoldable pub lengthsFit : List ℕ → List ℕ → List ℕ → List ℕ → List ℕ → Bool
-lengthsFit rule times owners numbers values = eqb (length rule) 652 && (eqb (length times) 65 && (eqb (length owners) 512 && (eqb (length numbers) 512 && eqb (length values) 2048)))
+lengthsFit rule times owners numbers values = eqb (length rule) mostBytes && (eqb (length times) timeWords && (eqb (length owners) mostKept && (eqb (length numbers) mostKept && eqb (length values) (mostKept * 4))))
 
 abbrev pub fitting : Lent → Bool
 fitting m = lengthsFit (m .rule) (m .times) (m .owners) (m .numbers) (m .values)
 
 -- slices of those lengths but for the rule, of which so many times and entries are a state's
 pub record SizedWords (times os ns vs : List ℕ) (retained count : ℕ) : Type 0 where
-  pub times-long : length times ≡ 65
-  pub owners-long : length os ≡ 512
-  pub numbers-long : length ns ≡ 512
-  pub values-long : length vs ≡ 2048
-  pub few-times : retained ≤ 64
-  pub few-kept : count ≤ 512
+  pub times-long : length times ≡ timeWords
+  pub owners-long : length os ≡ mostKept
+  pub numbers-long : length ns ≡ mostKept
+  pub values-long : length vs ≡ mostKept * 4
+  pub few-times : retained ≤ mostTimes
+  pub few-kept : count ≤ mostKept
 
 -- what is stored in it: the first bytes of the rule, the first times and the first entries, as many as its figures say
 abbrev pub stored : Lent → Stored

@@ -4,16 +4,13 @@ use limits::Refusal;
 use limits::Weighed;
 use meaning::MOST_KEPT;
 use meaning::MOST_NODES;
-use meaning::MOST_TIMES;
 use meaning::Point;
 use meaning::RULE_BYTES;
 use meaning::TIME_WORDS;
 ghost use mathlib.Core.Path.{_≡_};
-ghost use mathlib.Core.Bool.{_&&_};
-ghost use Prim.Native.Nat.{ℕ, _≤_, _<_};
+ghost use Prim.Native.Nat.{ℕ, _+_, _≤_, _<_};
 ghost use lib.ListN.{length, take};
-ghost use lib.Dec.{leb};
-ghost use Rattle.meaning.specs.Outcome.{Outcome};
+ghost use Rattle.meaning.specs.Outcome.{Outcome, mostNodes, mostPoints};
 ghost use Rattle.method.specs.WellFormed.{Formed};
 ghost use Rattle.kinds.specs.Kinds.{EventThere};
 ghost use Rattle.formed.specs.StateFigures.{storedIn, StateFigures, EntryPlaces};
@@ -24,13 +21,6 @@ ghost use Rattle.call.specs.Settles.{weighedNow};
 ghost use Rattle.lent_state.specs.declared.Answer.the-variants.{Refused};
 ghost use Rattle.lent_state.specs.Answers.{takeAnswer, Finishes, TakesIn};
 ghost use Rattle.lent_state.specs.Lent.{lent, lengthsFit, SizedWords, TakesLent};
-
-// The limits of a state's figures, as words.
-const MOST_BYTES: u32 = RULE_BYTES as u32;
-
-const RETAINED: u32 = MOST_TIMES as u32;
-
-const KEPT: u32 = MOST_KEPT as u32;
 
 // The words for the values of the entries.
 const VALUES: usize = MOST_KEPT * 4;
@@ -90,8 +80,8 @@ fn take_admitted(
     requires { ⌜ SizedWords (now times) (now owners) (now numbers) (now values) retained count ⌝ }
     requires { ⌜ Formed (storedIn (now rule) points (take retained (now times)) (now owners) (now numbers) (now values) count) ⌝ }
     requires { ⌜ StateFigures (storedIn (now rule) points (take retained (now times)) (now owners) (now numbers) (now values) count) (now masks) (now counts) (now lows) × EntryPlaces (storedIn (now rule) points (take retained (now times)) (now owners) (now numbers) (now values) count) (now owners) (now numbers) (now values) count (now begins) (now pairs) ⌝ }
-    requires { ⌜ EventThere (now event) × (points < 10000000) ⌝ }
-    requires { ⌜ (32 ≤ length (now masks)) × (32 ≤ length (now counts)) × (32 ≤ length (now lows)) × (33 ≤ length (now begins)) × (32 ≤ length (now pairs)) ⌝ }
+    requires { ⌜ EventThere (now event) × (points < mostPoints) ⌝ }
+    requires { ⌜ (mostNodes ≤ length (now masks)) × (mostNodes ≤ length (now counts)) × (mostNodes ≤ length (now lows)) × (mostNodes + 1 ≤ length (now begins)) × (mostNodes ≤ length (now pairs)) ⌝ }
     ensures { λ r. ⌜ TakesIn (storedIn (now (rule .entry)) points (take retained (now (times .entry))) (now (owners .entry)) (now (numbers .entry)) (now (values .entry)) count) (now (event .entry)) (now (report .entry)) (now (report .exit)) (now (times .entry)) (now (owners .entry)) (now (numbers .entry)) (now (values .entry)) (now (times .exit)) (now (owners .exit)) (now (numbers .exit)) (now (values .exit)) (weighedNow (storedIn (now (rule .entry)) points (take retained (now (times .entry))) (now (owners .entry)) (now (numbers .entry)) (now (values .entry)) count) (now (event .entry)) (length (now (report .entry)))) r ⌝ }
 {
     let n = figures::node_total(rule);
@@ -241,19 +231,6 @@ fn as_it_was(points: u32, times: u32, entries: u32, refusal: Refusal) -> Returne
     }
 }
 
-// Whether the figures of a state are within its arrays.
-fn figures_fit(bytes: u32, retained: u32, count: u32) -> bool
-    ensures { λ r. ⌜ r ≡ (leb bytes 652 && (leb retained 64 && leb count 512)) ⌝ }
-{
-    if MOST_BYTES < bytes {
-        return false;
-    }
-    if RETAINED < retained {
-        return false;
-    }
-    count <= KEPT
-}
-
 // Takes an event: slices of any length and content: the rule, the times and the entries are at the front of their slices, as many as `bytes`, `retained` and `count` say; any event words, any report buffer. Where a length isn't a state's the answer is 8.
 pub fn take(
     rule: &[u8],
@@ -273,7 +250,7 @@ pub fn take(
     if !lengths_fit(rule, times, owners, numbers, values) {
         return as_it_was(points, retained, count, Refusal::NotWellFormed);
     }
-    if !figures_fit(bytes, retained, count) {
+    if !figures::figures_fit(bytes, retained, count) {
         return as_it_was(points, retained, count, Refusal::NotWellFormed);
     }
     let n = bytes as usize;

@@ -1,5 +1,5 @@
 -- What an operation answers: a refusal with its number and place, or what was asked for. The numbers and the limits of 01, each once.
-use Prim.Native.Nat.{ℕ}
+use Prim.Native.Nat.{ℕ, _+_, _*_}
 use mathlib.Core.Bool.{Bool, true, false}
 
 pub data Outcome (A : Type 0) : Type 0 where
@@ -66,17 +66,32 @@ abbrev pub notAReport : ℕ
 notAReport = 17
 
 -- the limits
+-- "node count N (1 to 32)", and the 12 + 20N bytes of a rule with so many nodes
+abbrev pub mostNodes : ℕ
+mostNodes = 32
+
+abbrev pub mostBytes : ℕ
+mostBytes = 12 + 20 * mostNodes
+
+-- "m above 32", "over 32 valuations at a point"
 abbrev pub mostRows : ℕ
 mostRows = 32
 
+-- "over 32 points unsettled for the last node"
 abbrev pub mostOpen : ℕ
 mostOpen = 32
 
+-- "kept over 512"
 abbrev pub mostKept : ℕ
 mostKept = 512
 
+-- "10,000,000 points already"
 abbrev pub mostPoints : ℕ
 mostPoints = 10000000
+
+-- "P points (0 to 33)"
+abbrev pub mostReported : ℕ
+mostReported = 33
 
 abbrev pub longestWindow : ℕ
 longestWindow = 604800

@@ -5,7 +5,7 @@ use mathlib.Core.List.{List, [], _∷_, _++_, map}
 use lib.ListN.{length, getD, take, drop}
 use lib.Dec.{ltb, leb, eqb}
 use Rattle.meaning.specs.Lists.{all, range, gather, total}
-use Rattle.meaning.specs.Outcome.{Outcome, given, when, notAReport}
+use Rattle.meaning.specs.Outcome.{Outcome, given, when, notAReport, mostReported}
 use Rattle.meaning.specs.Order.{ascending}
 use Rattle.meaning.specs.declared.Point.{Point}
 use Rattle.meaning.specs.declared.Stamp.{Stamp}
@@ -57,7 +57,7 @@ rowsIn r k = map (rowIn r) (range (rowsBefore r k) (countIn r k))
 -- "For 17 a report's form is sizes in range, words enough, the total and these two ascents, and no more"
 unfoldable pub inForm : List ℕ → Bool
 inForm r =
-    leb 3 (length r) && leb (pointsIn r) 33 && leb (freeIn r) 4
+    leb 3 (length r) && leb (pointsIn r) mostReported && leb (freeIn r) 4
     && leb (3 + 3 * pointsIn r + freeIn r * totalIn r) (length r)
     && eqb (rowsBefore r (pointsIn r)) (totalIn r)
     && ascending (map (λ k. pointIn r k ∷ []) (range 0 (pointsIn r)))

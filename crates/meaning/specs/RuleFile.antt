@@ -5,7 +5,7 @@ use mathlib.Core.List.{List, [], _∷_}
 use lib.ListN.{length, getD, drop}
 use lib.Dec.{ltb, leb, eqb}
 use Rattle.meaning.specs.Lists.{all, any, range, gather, occurrences}
-use Rattle.meaning.specs.Outcome.{Outcome, refused, given, when, cut, otherVersion, sizeOut, misshapen, windowOut, freeBroken, notOneParent, longestWindow}
+use Rattle.meaning.specs.Outcome.{Outcome, refused, given, when, cut, otherVersion, sizeOut, misshapen, windowOut, freeBroken, notOneParent, mostNodes, longestWindow}
 use Rattle.meaning.specs.Formula.{Formula, atom, and, andNot, keep, or, exists, previous, next, since, notSince, until, notUntil, once, eventually, termsOf, free, reach, freeFits}
 use Rattle.meaning.specs.View.{viewOf, childrenIn}
 use Rattle.meaning.specs.declared.Term.{Term}
@@ -38,7 +38,7 @@ abbrev pub arityFits : List ℕ → ℕ → Bool
 arityFits b r = leb (arity b r) 4 && (ltb r (relationCount b) || eqb (arity b r) 0)
 
 unfoldable pub sizesFit : List ℕ → Bool
-sizesFit b = leb 1 (relationCount b) && leb (relationCount b) 8 && leb 1 (nodeCount b) && leb (nodeCount b) 32 && eqb (getD b 3 0) 0 && all (arityFits b) (range 0 8)
+sizesFit b = leb 1 (relationCount b) && leb (relationCount b) 8 && leb 1 (nodeCount b) && leb (nodeCount b) mostNodes && eqb (getD b 3 0) 0 && all (arityFits b) (range 0 8)
 
 -- "Then two parallel arrays: N heads of 4 bytes (kind, left, right, mask), and N bodies of 4 words"
 unfoldable pub headAt : List ℕ → ℕ → Head

@@ -1,5 +1,5 @@
 -- When what is stored is well formed: the conditions of refusal 8, as docs/STATE.md lists them. What a log stores is so (proofs/Reached.antt).
-use Prim.Native.Nat.{ℕ, _-_, _≤_, _<_}
+use Prim.Native.Nat.{ℕ, _+_, _-_, _≤_, _<_}
 use mathlib.Core.Path.{_≡_}
 use mathlib.Core.Bool.{Bool, true, false, cond, _&&_}
 use mathlib.Core.List.{List, [], _∷_, _++_, map}
@@ -24,6 +24,10 @@ use Rattle.method.specs.Step.{wantedFrom, countsStored, countBefore, ope
 -- times at most: 32 open points, one more for each step down the tree, and the last that all nodes have settled
 abbrev pub mostTimes : ℕ
 mostTimes = 64
+
+-- the words for them: one more is at hand in a call
+abbrev pub timeWords : ℕ
+timeWords = mostTimes + 1
 
 -- each number is at most the next
 abbrev pub notFalling : List ℕ → Bool

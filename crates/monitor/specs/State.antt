@@ -1,7 +1,9 @@
 -- A state's parts, what they store, and the state that a start gives.
-use Prim.Native.Nat.{ℕ, _-_}
+use Prim.Native.Nat.{ℕ, _-_, _*_}
 use mathlib.Core.List.{List, [], _++_}
 use lib.ListN.{length, replicate}
+use Rattle.meaning.specs.Outcome.{mostBytes, mostKept}
+use Rattle.method.specs.WellFormed.{timeWords}
 use Rattle.method.specs.Stored.{Stored}
 use Rattle.lent_state.specs.Lent.{Lent, lent, stored as storedIn}
 use Rattle.monitor.specs.declared.State.{State}
@@ -16,7 +18,7 @@ stored s = storedIn (lentOf s)
 
 -- "a state with no points", every word of it: the rule's bytes and their number, and 0 everywhere else
 unfoldable pub startState : List ℕ → State
-startState b = record { rule = b ++ replicate (652 - length b) 0; bytes = length b; points = 0; times = replicate 65 0; retained = 0; owners = replicate 512 0; numbers = replicate 512 0; values = replicate 2048 0; count = 0 }
+startState b = record { rule = b ++ replicate (mostBytes - length b) 0; bytes = length b; points = 0; times = replicate timeWords 0; retained = 0; owners = replicate mostKept 0; numbers = replicate mostKept 0; values = replicate (mostKept * 4) 0; count = 0 }
 
 -- the state of zeros
 abbrev pub blank : State

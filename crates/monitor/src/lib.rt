@@ -8,6 +8,7 @@ use rulefile::Checked;
 ghost use mathlib.Core.Path.{_≡_};
 ghost use Prim.Native.Nat.{_≤_};
 ghost use lib.ListN.{length};
+ghost use Rattle.meaning.specs.Outcome.{mostBytes};
 ghost use Rattle.method.specs.Step.{keptStored};
 ghost use Rattle.figures.specs.Fronts.{openOf, openAnswer};
 ghost use Rattle.entries.specs.Appended.{atFront};
@@ -72,7 +73,7 @@ fn zeros() -> State
 
 // A state with no points, under a rule.
 fn empty(rule: &[u8]) -> State
-    requires { ⌜ length (now rule) ≤ 652 ⌝ }
+    requires { ⌜ length (now rule) ≤ mostBytes ⌝ }
     ensures { λ r. ⌜ r ≡ startState (now (rule .entry)) ⌝ }
 {
     let mut bytes = [0u8; RULE_BYTES];

@@ -14,8 +14,12 @@ use Rattle.kinds.specs.Kinds.{inMask, EventThere}
 use Rattle.entries.specs.Entries.{entriesFrom}
 use Rattle.node_sets.specs.Shelved.{setEntries, agedEntries}
 
+-- the words of a node's figures
+abbrev pub nodeWords : ℕ
+nodeWords = 9
+
 abbrev pub figure : List ℕ → ℕ → ℕ → ℕ
-figure f x k = getD f (x * 9 + k) 0
+figure f x k = getD f (x * nodeWords + k) 0
 
 -- the mask of its free variables
 abbrev pub maskIn : List ℕ → ℕ → ℕ
@@ -80,5 +84,5 @@ pub record CallReady (s : Stored) (w os ns vs stamps f : List ℕ) : Type 0 wher
   pub entries-are : s .entries ≡ entriesFrom os ns vs 0 (length os)
   pub numbers-there : length os ≤ length ns
   pub values-there : length os * 4 ≤ length vs
-  pub figures-there : nodeCount (s .rule) * 9 ≤ length f
+  pub figures-there : nodeCount (s .rule) * nodeWords ≤ length f
   pub each : (x : ℕ) → x < nodeCount (s .rule) → NodeFigures s w os ns vs f x

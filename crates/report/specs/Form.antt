@@ -5,6 +5,7 @@ use mathlib.Core.List.{List, [], _∷_}
 use mathlib.Core.Path.{_≡_}
 use lib.Dec.{leb}
 use lib.ListN.{length, getD, take, drop}
+use Rattle.meaning.specs.Outcome.{mostReported}
 use Rattle.meaning.specs.Report.{pointsIn, freeIn, totalIn, rowsBefore}
 
 -- the rows of `width` words that begin at word `at` and at each `stride` words after it, so many as the last argument says
@@ -24,13 +25,13 @@ pub record WordAt (r : List ℕ) (i word : ℕ) : Type 0 where
 -- sizes in range and words enough, as a test
 unfoldable pub sizesFit : List ℕ → Bool
 sizesFit r =
-    leb 3 (length r) && leb (pointsIn r) 33 && leb (freeIn r) 4
+    leb 3 (length r) && leb (pointsIn r) mostReported && leb (freeIn r) 4
     && leb (3 + 3 * pointsIn r + freeIn r * totalIn r) (length r)
 
 -- the same as facts
 pub record Sized (r : List ℕ) : Type 0 where
   pub head : 3 ≤ length r
-  pub points : pointsIn r ≤ 33
+  pub points : pointsIn r ≤ mostReported
   pub free : freeIn r ≤ 4
   pub words : 3 + 3 * pointsIn r + freeIn r * totalIn r ≤ length r
 

@@ -5,7 +5,7 @@ use mathlib.Core.Bool.{true, false}
 use mathlib.Core.List.{List, [], _++_}
 use lib.ListN.{length, getD}
 use Rattle.meaning.specs.Lists.{gather}
-use Rattle.meaning.specs.Outcome.{refused, given, bufferShort}
+use Rattle.meaning.specs.Outcome.{refused, given, bufferShort, mostReported}
 use Rattle.meaning.specs.Log.{point, stamp}
 use Rattle.meaning.specs.RuleFile.{lastNode}
 use Rattle.meaning.specs.Report.{Reported, pointsIn, pointIn, countIn, rowsIn, inForm, readCount, readRows}
@@ -32,7 +32,7 @@ nothing = record { at = point 0; time = stamp 0; rows = [] }
 -- The report of a call with event words w, for any w.
 pub record Reports (s : Stored) (w : List ℕ) : Type 0 where
   -- "P points (0 to 33)"
-  pub few-points : pointsIn (reportNow s w) ≤ 33
+  pub few-points : pointsIn (reportNow s w) ≤ mostReported
   -- "trailing words are ignored": in form, and read back, whatever words follow
   pub in-form : (rest : List ℕ) → inForm (reportNow s w ++ rest) ≡ true
   pub reads-back : (rest : List ℕ) (k : ℕ) → k < length (reportedNow s w) → ReadsBack (reportNow s w ++ rest) k (getD (reportedNow s w) k nothing)

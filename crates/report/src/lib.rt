@@ -1,4 +1,5 @@
 // "Read rows": the row count and the rows of one entry of a report, from words of which nothing is assumed.
+use meaning::MOST_OPEN;
 use rowset::Row;
 ghost use mathlib.Core.Path.{_≡_};
 ghost use mathlib.Core.Bool.{_&&_};
@@ -6,12 +7,16 @@ ghost use mathlib.Core.List.{[], _∷_, map};
 ghost use Prim.Native.Nat.{_+_, _*_, _≤_, _<_};
 ghost use lib.ListN.{length, getD, take, drop};
 ghost use lib.Dec.{ltb, eqb};
+ghost use Rattle.meaning.specs.Outcome.{mostReported};
 ghost use Rattle.meaning.specs.Lists.{all, range};
 ghost use Rattle.meaning.specs.Order.{before, ascending};
 ghost use Rattle.meaning.specs.Report.{pointsIn, freeIn, totalIn, pointIn, countIn, rowsBefore, rowsIn, inForm, readCount, readRows};
 ghost use Rattle.report.specs.Answer.{answerOf, partOf};
 ghost use Rattle.rowset.specs.Rows.{wordsOf};
 ghost use Rattle.report.specs.Form.{four, rowsFrom, WordAt, sizesFit, Sized, Summed, Sum};
+
+// Points at most that a report has: those that were open, and the one taken.
+const MOST_REPORTED: usize = MOST_OPEN as usize + 1;
 
 // What reading the row count of an entry answers. Refused is 01's number 17, place 0.
 pub enum RowCount {
@@ -83,7 +88,7 @@ fn word(report: &[u32], i: usize) -> usize
 
 // The rows of the first `k` entries. 33 counts of 32 bits each add up exactly in 64 bits.
 fn rows_before(report: &[u32], k: usize) -> u64
-    requires { ⌜ (k ≤ 33) × (3 + 3 * k ≤ length (now report)) ⌝ }
+    requires { ⌜ (k ≤ mostReported) × (3 + 3 * k ≤ length (now report)) ⌝ }
     ensures { λ r. ⌜ Sum (now (report .entry)) k r ⌝ }
 {
     let mut sum: u64 = 0;
@@ -106,7 +111,7 @@ fn sizes_fit(report: &[u32]) -> bool
     let points = word(report, 0);
     let free = word(report, 1);
     let total = word(report, 2);
-    if 33 < points {
+    if MOST_REPORTED < points {
         return false;
     }
     if 4 < free {

@@ -4,6 +4,7 @@ use mathlib.Core.Bool.{cond}
 use mathlib.Core.List.{List, [], _∷_, map}
 use lib.ListN.{length, getD, set}
 use lib.Dec.{ltb}
+use Rattle.meaning.specs.Outcome.{mostRows}
 use Rattle.meaning.specs.Lists.{range}
 use Rattle.meaning.specs.Order.{before}
 use Rattle.meaning.specs.Evaluator.{insert}
@@ -29,9 +30,9 @@ abbrev pub placeOf : List ℕ → List (List ℕ) → ℕ
 placeOf r [] = 0
 placeOf r (s ∷ rows) = cond (before s r) (suc (placeOf r rows)) 0
 
--- a set takes rows up to 33: one more than a node may have, so that too many shows
+-- rows at most that a set takes: one more than a node may have, so that too many shows
 abbrev pub mostHeld : ℕ
-mostHeld = 33
+mostHeld = mostRows + 1
 
 abbrev pub addCapped : List (List ℕ) → List ℕ → List (List ℕ)
 addCapped set r = cond (ltb (length set) mostHeld) (insert r set) set

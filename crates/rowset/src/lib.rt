@@ -1,4 +1,5 @@
 // Sets of valuations as rows of four words in lent slices.
+use meaning::MOST_ROWS;
 ghost use mathlib.Core.Path.{_≡_};
 ghost use mathlib.Core.Bool.{true, _&&_, not, cond};
 ghost use mathlib.Core.List.{[], _∷_, _++_};
@@ -10,6 +11,9 @@ ghost use Rattle.meaning.specs.Order.{before, ascending};
 ghost use Rattle.meaning.specs.Evaluator.{lookUp};
 ghost use Rattle.rowset.specs.Rows.{wordsOf, rowAt, setRow, rowsFrom, placeOf};
 ghost use Rattle.rowset.specs.Sets.{Run, SetRoom, Found, Added};
+
+// Rows at most that a set takes: one more than a node may have, so that too many shows.
+const MOST_HELD: usize = MOST_ROWS as usize + 1;
 
 // A valuation: the values of variables 0 to 3, 0 where one isn't free.
 pub struct Row {
@@ -148,7 +152,7 @@ pub fn add(out: &mut [u32], n: usize, r: Row) -> usize
     requires { ⌜ SetRoom (now out) n ⌝ }
     ensures { λ k. ⌜ Added (now (out .entry)) n (now (out .exit)) k (wordsOf r ∷ []) ⌝ }
 {
-    if n < 33 {
+    if n < MOST_HELD {
         let p = place(out, 0, n, r);
         if stands(out, n, p, r) {
             return n;

@@ -10,6 +10,7 @@ use rulefree::node_mask;
 use rulenodes::arity_at;
 use rulenodes::body_of;
 use rulenodes::children_of;
+use rulenodes::greater;
 use rulenodes::head_at;
 use rulenodes::node_of;
 use rulenodes::view_of;
@@ -18,7 +19,7 @@ use ruleshape::shape_fits;
 ghost use mathlib.Core.Path.{_≡_};
 ghost use mathlib.Core.Bool.{true};
 ghost use mathlib.Core.List.{[], _∷_, List·Memᴰ};
-ghost use Prim.Native.Nat.{ℕ, _+_, _≤_, _<_, max};
+ghost use Prim.Native.Nat.{ℕ, _+_, _≤_, _<_};
 ghost use lib.ListN.{length, getD};
 ghost use Rattle.meaning.specs.Lists.{occurrences};
 ghost use Rattle.meaning.specs.Formula.{reach};
@@ -214,12 +215,6 @@ pub fn accepts(rule: &[u8], masks: &mut [u8]) -> bool
         Tested::Free(_) => true,
         Tested::Refused(_) => false,
     }
-}
-
-fn greater(a: u32, b: u32) -> u32
-    ensures { λ r. ⌜ r ≡ max a b ⌝ }
-{
-    if a < b { b } else { a }
 }
 
 // What a node adds to the greatest reach of its children.

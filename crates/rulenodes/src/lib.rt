@@ -13,7 +13,7 @@ use meaning::View;
 use meaning::Window;
 ghost use mathlib.Core.Path.{_≡_};
 ghost use mathlib.Core.List.{[]};
-ghost use Prim.Native.Nat.{ℕ, _+_, _*_, _≤_, _<_};
+ghost use Prim.Native.Nat.{ℕ, _+_, _*_, _≤_, _<_, max};
 ghost use lib.ListN.{length};
 ghost use Rattle.meaning.specs.View.{here, viewOf, childrenIn};
 ghost use Rattle.meaning.specs.RuleFile.{wordAt, nodeCount, arity, headAt, bodyAt, bodies, bit, termOf, comparisonOf, termsOfBody, nodeOf, nodeAt, childrenOf};
@@ -21,10 +21,17 @@ ghost use Rattle.meaning.specs.declared.Body.{Body};
 ghost use Rattle.meaning.specs.declared.Node.the-variants.{Atom};
 
 // A byte as a word.
-fn wide(b: u8) -> u32
+pub fn wide(b: u8) -> u32
     ensures { λ r. ⌜ (r ≡ b) × (r < 256) ⌝ }
 {
     b as u32
+}
+
+// The greater of two numbers.
+pub fn greater(a: u32, b: u32) -> u32
+    ensures { λ r. ⌜ r ≡ max a b ⌝ }
+{
+    if a < b { b } else { a }
 }
 
 // The word at byte k.

@@ -11,7 +11,7 @@ use Rattle.method.specs.Stored.{Stored}
 use Rattle.method.specs.Step.{entriesNow}
 use Rattle.method.specs.Room.{weight, othersIn, heavier, need, setsMost, rowsMost}
 use Rattle.node_step.specs.declared.Place.{Place}
-use Rattle.node_step.specs.Figures.{weightIn}
+use Rattle.node_step.specs.Figures.{weightIn, nodeWords}
 use Rattle.node_step.specs.Walks.{RoomFor, OutThere, Walks}
 use Rattle.tree_walk.specs.declared.Sides.{Sides}
 
@@ -32,7 +32,7 @@ firstOf b x = firstAmong b x (childrenOf (nodeAt b x))
 -- an accepted rule, and its trees' weights among the figures
 pub record WeightsThere (b f : List ℕ) : Type 0 where
   pub accepted : (a : Accepted) × (checking b ≡ given a)
-  pub there : nodeCount b * 9 ≤ length f
+  pub there : nodeCount b * nodeWords ≤ length f
   pub weights : (x : ℕ) → x < nodeCount b → weightIn f x ≡ othersIn b x
 
 -- two children in the order of the walk, by the figures

@@ -11,9 +11,10 @@ ghost use mathlib.Core.Bool.{cond};
 ghost use Prim.Native.Nat.{_+_, _-_, _*_, _≤_, _<_};
 ghost use lib.ListN.{length};
 ghost use lib.Dec.{eqb};
+ghost use Rattle.meaning.specs.Outcome.{mostNodes};
 ghost use Rattle.meaning.specs.RuleFile.{nodeCount};
 ghost use Rattle.method.specs.Room.{rowsNeeded, marksNeeded};
-ghost use Rattle.node_step.specs.Figures.{lowIn, afterIn, called, CallReady};
+ghost use Rattle.node_step.specs.Figures.{lowIn, afterIn, called, CallReady, nodeWords};
 ghost use Rattle.node_step.specs.Walks.{OutThere, Walked};
 ghost use Rattle.tree_walk.specs.Tree.{WeightsThere, Ordered, firstOf, HeavyPath, TreeReady, TreeWalks, FirstWalked, Climbs};
 
@@ -26,7 +27,7 @@ struct Sides {
 
 // Of two children the heavier first, the left where they weigh the same.
 fn ordered(figures: &[u32], left: u8, right: u8) -> Sides
-    requires { ⌜ (left * 9 + 9 ≤ length (now figures)) × (right * 9 + 9 ≤ length (now figures)) ⌝ }
+    requires { ⌜ (left * nodeWords + nodeWords ≤ length (now figures)) × (right * nodeWords + nodeWords ≤ length (now figures)) ⌝ }
     ensures { λ r. ⌜ Ordered (now (figures .entry)) left right r ⌝ }
 {
     let i = (left as usize) * 9 + 8;
@@ -60,7 +61,7 @@ fn first_child(rule: &[u8], figures: &[u32], x: u8) -> u8
 
 // Notes the nodes from x down to a node without children, each the one that is walked first of those below the one before; returns how many steps down it is.
 fn descend(rule: &[u8], figures: &[u32], path: &mut [u8], x: u8) -> usize
-    requires { ⌜ WeightsThere (now rule) (now figures) × (x < nodeCount (now rule)) × (32 ≤ length (now path)) ⌝ }
+    requires { ⌜ WeightsThere (now rule) (now figures) × (x < nodeCount (now rule)) × (mostNodes ≤ length (now path)) ⌝ }
     ensures { λ r. ⌜ HeavyPath (now (rule .entry)) (now (path .exit)) r x ⌝ }
 {
     path[0] = x;
@@ -76,7 +77,7 @@ fn descend(rule: &[u8], figures: &[u32], path: &mut [u8], x: u8) -> usize
 
 // How many sets node x has in this call.
 fn sets_of(figures: &[u32], x: u8) -> usize
-    requires { ⌜ (x * 9 + 9 ≤ length (now figures)) × (lowIn (now figures) x ≤ afterIn (now figures) x) ⌝ }
+    requires { ⌜ (x * nodeWords + nodeWords ≤ length (now figures)) × (lowIn (now figures) x ≤ afterIn (now figures) x) ⌝ }
     ensures { λ r. ⌜ r ≡ afterIn (now (figures .entry)) x - lowIn (now (figures .entry)) x ⌝ }
 {
     let i = (x as usize) * 9;
@@ -85,8 +86,8 @@ fn sets_of(figures: &[u32], x: u8) -> usize
 
 // How many of them stand after the walk of its tree: none where a node of it is crowded.
 fn stood(figures: &[u32], x: u8, low: u8) -> usize
-    requires { ⌜ (x * 9 + 9 ≤ length (now figures)) × (lowIn (now figures) x ≤ afterIn (now figures) x) ⌝ }
-    ensures { λ r. ⌜ r ≡ cond (eqb low 32) (afterIn (now (figures .entry)) x - lowIn (now (figures .entry)) x) 0 ⌝ }
+    requires { ⌜ (x * nodeWords + nodeWords ≤ length (now figures)) × (lowIn (now figures) x ≤ afterIn (now figures) x) ⌝ }
+    ensures { λ r. ⌜ r ≡ cond (eqb low mostNodes) (afterIn (now (figures .entry)) x - lowIn (now (figures .entry)) x) 0 ⌝ }
 {
     if low == NO_NODE {
         return sets_of(figures, x);

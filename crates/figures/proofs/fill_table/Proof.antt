@@ -32,7 +32,7 @@ loop-again c =
     let a = s .args in
     let loop = c .before .before .before .before .before .before .before .before .before .before .before .before .before .before .before .loop in
     let room : loop .x * 9 + 9 ≤ length (loop .table) = omega (arith, s .pre .8, loop .inv .1, c .before .before .before .before .before .before .before .before .before .before .before .before .before .before .loop-test .taken) in
-    (omega (arith, c .before .before .before .before .before .before .before .before .before .before .before .before .before .before .loop-test .taken), search needs, table-next (a .masks .now) (a .lows .now) (a .before .now) (a .after .now) (a .wants .now) (a .begins .now) (a .pairs .now) (a .weights .now) (loop .table) (loop .x) room (loop .inv .2) (c .before .before .before .before .before .before .before .before .before .before .before .wide .ensures) (c .before .before .put-node .ensures))
+    (omega (arith, c .before .before .before .before .before .before .before .before .before .before .before .before .before .before .loop-test .taken), search needs, table-next (a .masks .now) (a .lows .now) (a .before .now) (a .after .now) (a .wants .now) (a .begins .now) (a .pairs .now) (a .weights .now) (loop .table) (loop .x) room (loop .inv .2) (c .before .before .before .before .before .before .before .before .before .before .before .wide .ensures .0) (c .before .before .put-node .ensures))
 
 returns : tie.Need-returns Inv-loop μ-loop
 returns c =

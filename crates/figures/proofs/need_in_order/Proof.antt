@@ -9,7 +9,7 @@ use Rattle.figures.proofs.need_in_order.Tie as tie
 returns : tie.Need-returns
 returns c =
     let a = c .before .before .before .before .before .before .before .before .before .args in
-    most-of (getD (a .needs .now) (a .first) 0) (getD (a .needs .now) (a .second) 0) (c .higher2 .ensures) (c .before .higher .ensures) refl (c .before .before .before .before .before .rows-in2 .ensures) (c .before .before .before .before .rows-in3 .ensures) (c .before .before .before .before .before .before .rows-in .ensures)
+    most-of (getD (a .needs .now) (a .first) 0) (getD (a .needs .now) (a .second) 0) (c .greater2 .ensures) (c .before .greater .ensures) refl (c .before .before .before .before .before .rows-in2 .ensures) (c .before .before .before .before .rows-in3 .ensures) (c .before .before .before .before .before .before .rows-in .ensures)
 
 pub need-in-order-spec : {M : Type 1} → statement M
 need-in-order-spec =

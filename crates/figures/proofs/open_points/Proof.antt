@@ -1,19 +1,27 @@
 -- Figures that are out of bounds aren't of a well-formed state; else what is stored at the front is what is stored in the parts.
+use Prim.Native.Nat.{_≤_}
 use native.Mathlib.Omega.{arith}
+use mathlib.Core.Path.{sym, _∙_}
+use borrow.Author.Tests.{not-true, not-false}
 use denote.Ref.{now}
-use Rattle.figures.proofs.Slices.{front-length, entries-many, front-parts, long-rule, many-times, many-entries, not-open}
+use Rattle.meaning.specs.Outcome.{mostBytes, mostKept}
+use Rattle.method.specs.WellFormed.{mostTimes}
+use Rattle.figures.proofs.Slices.{front-parts, figures-out, figures-in, not-open}
 use borrow.Author.Needs.{needs}
 use Rattle.figures.proofs.open_points.Statement.{statement}
 use Rattle.figures.proofs.open_points.Tie as tie
 
+-- past the test the figures are within the arrays
+few : (c : tie.Else1) → let a = c .before .before .before .before .before .before .before .args in (a .bytes ≤ mostBytes) × (a .retained ≤ mostTimes) × (a .count ≤ mostKept)
+few c = figures-in _ _ _ (sym (c .before .figures-fit .ensures) ∙ not-false _ (c .if1 .left))
+
+figures-fit-requires : tie.Need-figures-fit-requires
+figures-fit-requires c κs = search needs
+
 returns : tie.Need-returns
-returns c = let a = c .before .before .before .before .before .before .args in not-open _ (long-rule _ (omega (arith, front-length (a .bytes) (now (a .rule)))))
-
-returns-2 : tie.Need-returns-2
-returns-2 c = let a = c .before .before .before .before .before .before .before .args in not-open _ (many-times _ (omega (arith, front-length (a .retained) (now (a .times)))))
-
-returns-3 : tie.Need-returns-3
-returns-3 c = let a = c .before .before .before .before .before .before .before .before .args in not-open _ (many-entries _ (omega (arith, entries-many (now (a .owners)) (now (a .numbers)) (now (a .values)) (a .count))))
+returns c =
+    let a = c .before .before .before .before .before .before .before .args in
+    not-open _ (figures-out (now (a .rule)) (a .bytes) (a .points) (now (a .times)) (a .retained) (now (a .owners)) (now (a .numbers)) (now (a .values)) (a .count) (sym (c .before .figures-fit .ensures) ∙ not-true _ (c .if1 .taken)))
 
 sub-open-stored : tie.Need-sub-open-stored
 sub-open-stored c = search needs
@@ -22,7 +30,7 @@ part-open-stored-start : tie.Need-part-open-stored-start
 part-open-stored-start c = search needs
 
 part-open-stored-end : tie.Need-part-open-stored-end
-part-open-stored-end c = search needs
+part-open-stored-end c = omega (arith, few c)
 
 sub-open-stored-2 : tie.Need-sub-open-stored-2
 sub-open-stored-2 c = search needs
@@ -31,26 +39,28 @@ part-open-stored-start-2 : tie.Need-part-open-stored-start-2
 part-open-stored-start-2 c = search needs
 
 part-open-stored-end-2 : tie.Need-part-open-stored-end-2
-part-open-stored-end-2 c = search needs
+part-open-stored-end-2 c = omega (arith, few (c .before))
 
 open-stored-requires : tie.Need-open-stored-requires
-open-stored-requires c κs = search needs
+open-stored-requires c κs =
+    let l = c .before .before in
+    let w = l .before .before .before .before .before .before .before .pre .2 in
+    record { ownersThere = omega (arith, few l, w .ownersThere); numbersThere = omega (arith, few l, w .numbersThere); valuesThere = omega (arith, few l, w .valuesThere) }
 
-returns-4 : tie.Need-returns-4
-returns-4 c =
+returns-2 : tie.Need-returns-2
+returns-2 c =
     let l = c .before .before .before in
-    let s = l .before .before .before .before .before .before .before .before in
+    let s = l .before .before .before .before .before .before .before in
     let a = s .args in
-    rw (front-parts (now (a .rule)) (a .bytes) (a .points) (now (a .times)) (a .retained) (now (a .owners)) (now (a .numbers)) (now (a .values)) (a .count) (omega (arith, s .pre, l .before .before .if1 .left)) (omega (arith, s .pre, l .before .if2 .left)))
+    rw (front-parts (now (a .rule)) (a .bytes) (a .points) (now (a .times)) (a .retained) (now (a .owners)) (now (a .numbers)) (now (a .values)) (a .count) (omega (arith, s .pre, few l)) (omega (arith, s .pre, few l)))
     at (c .open-stored .ensures)
 
 pub open-points-spec : {M : Type 1} → statement M
 open-points-spec =
     tie.close
     (tie.spec
+    figures-fit-requires
     returns
-    returns-2
-    returns-3
     sub-open-stored
     part-open-stored-start
     part-open-stored-end
@@ -58,4 +68,4 @@ open-points-spec =
     part-open-stored-start-2
     part-open-stored-end-2
     open-stored-requires
-    returns-4)
+    returns-2)

@@ -7,9 +7,12 @@ use lib.ListN.{take}
 use borrow.Author.Needs.{needs}
 use borrow.Author.Tests.{not-true, not-false}
 use denote.Ref.{now}
+use Rattle.meaning.specs.Outcome.{mostBytes, mostKept}
+use Rattle.method.specs.WellFormed.{mostTimes}
 use Rattle.formed.specs.StateFigures.{storedIn}
+use Rattle.figures.proofs.Slices.{figures-out, figures-in}
 use Rattle.lent_state.specs.Lent.{lent, lengthsFit, stored}
-use Rattle.lent_state.proofs.Memory.{fits-sized, sized-words, figures-out, figures-in, stored-parts, taken-unfit, taken-bad, taken-refused, taken-done, taken-room}
+use Rattle.lent_state.proofs.Memory.{fits-sized, sized-words, stored-parts, taken-unfit, taken-bad, taken-refused, taken-done, taken-room}
 use Rattle.lent_state.proofs.take.Statement.{statement}
 use Rattle.lent_state.proofs.take.Tie as tie
 
@@ -18,7 +21,7 @@ fit : (c : tie.Else1) → let a = c .before .before .before .before .before .bef
 fit c = sym (c .before .lengths-fit .ensures) ∙ not-false _ (c .if1 .left)
 
 -- past the second the figures are
-few : (c : tie.Else2) → let a = c .before .before .before .before .before .before .before .before .before .before .before .before .before .before .before .args in (a .bytes ≤ 652) × (a .retained ≤ 64) × (a .count ≤ 512)
+few : (c : tie.Else2) → let a = c .before .before .before .before .before .before .before .before .before .before .before .before .before .before .before .args in (a .bytes ≤ mostBytes) × (a .retained ≤ mostTimes) × (a .count ≤ mostKept)
 few c = figures-in _ _ _ (sym (c .before .figures-fit .ensures) ∙ not-false _ (c .if2 .left))
 
 -- what is taken is what is stored
@@ -39,7 +42,7 @@ returns-2 c =
     let a = c .before .before .before .before .before .before .before .before .before .before .before .before .before .before .before .before .args in
     rw (c .as-it-was2 .ensures)
     (taken-bad _ _ _ (fit (c .before .before .before))
-    (figures-out (lent (now (a .rule)) (a .bytes) (a .points) (now (a .times)) (a .retained) (now (a .owners)) (now (a .numbers)) (now (a .values)) (a .count))
+    (figures-out (now (a .rule)) (a .bytes) (a .points) (now (a .times)) (a .retained) (now (a .owners)) (now (a .numbers)) (now (a .values)) (a .count)
     (sym (c .before .before .figures-fit .ensures) ∙ not-true _ (c .before .if2 .taken))))
 
 part-take-stored-end : tie.Need-part-take-stored-end

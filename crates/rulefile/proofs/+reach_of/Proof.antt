@@ -13,7 +13,7 @@ use Rattle.rulefile.proofs.Reach.{Opened, opened-lower, opened-none, op
 use Rattle.rulefile.proofs.reach_of.Reads as reach-of
 use Rattle.rulefile.proofs.reach_of.Kinds as reach-of-kinds
 use Rattle.rulefile.proofs.+reach_of.Lts-reach_of as reach-of-lts
-use Rattle.rulefile.proofs.greater.Reads as greater-reads
+use Rattle.rulenodes.proofs.greater.Reads as greater-reads
 use Rattle.rulefile.proofs.window_reach.Reads as window-reach-reads
 use Rattle.rulenodes.proofs.children_of.Reads as children-of-reads
 use Rattle.rulenodes.proofs.arity_at.Reads as arity-at-reads

@@ -1,7 +1,7 @@
 -- `figures_fit` meets its contract: a figure out of bounds makes the whole test false.
 use borrow.Author.Tests.{le-leb, lt-leb}
-use Rattle.lent_state.proofs.figures_fit.Statement.{statement}
-use Rattle.lent_state.proofs.figures_fit.Tie as tie
+use Rattle.figures.proofs.figures_fit.Statement.{statement}
+use Rattle.figures.proofs.figures_fit.Tie as tie
 
 returns : tie.Need-returns
 returns c = rw (lt-leb _ _ (c .if1 .taken))
