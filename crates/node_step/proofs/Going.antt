@@ -22,37 +22,34 @@ use Rattle.entries.specs.Appended.{Space, Extended, Pushed}
 use Rattle.entries.proofs.Growth.{pushed-set, extended-none, extended-as, extended-then, extended-next}
 use Rattle.since.specs.Since.{heldIn}
 use Rattle.settling.specs.Inputs.{PointSettled}
-use Rattle.node_step.specs.Parts.{NextReady, NextSettled, SeesFirst, PointsReady, PointsSettled}
+use Rattle.node_step.specs.Parts.{SetPushed, NextReady, NextSettled, SeesFirst, PointsReady, PointsSettled}
 use Rattle.node_step.proofs.Laying.{run-few, sets-more, extended-front}
 
 -- ---- one point
 
-pub next-space : {rows at : List ℕ} {n k : ℕ} → Space rows at n mostRows → k ≤ mostRows → Space rows at n (k - 0)
-next-space s u = record { laid = s .laid; mark = s .mark; words = omega (arith, s .words); small = omega (arith, s .small) }
-
-module _ {b w rows at times : List ℕ} {base : Point} {oldAges oldValues : List ℕ} {left right : Child} {n : ℕ} {start i : Point} {node : Node}
-    (space : Space rows at n mostRows) {out : List ℕ} {k : ℕ} (p : PointSettled b w rows at times base oldAges oldValues left right start i node out k) where
-  pub next-crowded : mostRows < k → NextSettled b w rows at times base oldAges oldValues left right n start i node rows at false
-  next-crowded u =
-      record {
-        stay = extended-none (space .laid);
-        more = λ d. absurd (false≢true d);
-        few = λ d. absurd (false≢true d);
-        there = λ d. absurd (false≢true d);
-        crowded = λ d v s. p .gives v s .many u;
-      }
+module _ {rows at : List ℕ} {n k : ℕ} (space : Space rows at n mostRows) where
+  pub push-crowded : {out : List ℕ} → mostRows < k → SetPushed out k rows at n rows at false
+  push-crowded u = record { stay = extended-none (space .laid); few = λ d. absurd (false≢true d); many = λ d. u }
 
   module _ (u : k ≤ mostRows) where
-    pub next-more : {rows' at' : List ℕ} → Pushed rows at rows' at' n (k - 0) (rowsFrom out 0 (k - 0)) → NextSettled b w rows at times base oldAges oldValues left right n start i node rows' at' true
-    next-more h =
-        let f : k - 0 ≡ k = omega arith in
-        record {
-          stay = extended-front (h .more) n (omega arith);
-          more = λ d. extended-as (h .more) (λ q l. sym (pushed-set h));
-          few = λ d. omega (arith, ap length (pushed-set h), rows-length out 0 (k - 0));
-          there = λ d v s. pushed-set h ∙ ap (rowsFrom out 0) f ∙ p .gives v s .few u;
-          crowded = λ d. absurd (false≢true (sym d));
-        }
+    pub push-space : Space rows at n (k - 0)
+    push-space = record { laid = space .laid; mark = space .mark; words = omega (arith, space .words); small = omega (arith, space .small) }
+
+    pub push-more : {out rows' at' : List ℕ} → Pushed rows at rows' at' n (k - 0) (rowsFrom out 0 (k - 0)) → SetPushed out k rows at n rows' at' true
+    push-more h = record { stay = extended-front (h .more) n (omega arith); few = λ d. (u, h); many = λ d. absurd (false≢true (sym d)) }
+
+-- the point's set, pushed
+pub next-settled : {b w rows at times : List ℕ} {base : Point} {oldAges oldValues : List ℕ} {left right : Child} {n : ℕ} {start i : Point} {node : Node} {out : List ℕ} {k : ℕ} {rows' at' : List ℕ} {done : Bool}
+    → PointSettled b w rows at times base oldAges oldValues left right start i node out k → SetPushed out k rows at n rows' at' done → NextSettled b w rows at times base oldAges oldValues left right n start i node rows' at' done
+next-settled {out = out} {k = k} p h =
+    let f : k - 0 ≡ k = omega arith in
+    record {
+      stay = h .stay;
+      more = λ d. extended-as (h .few d .1 .more) (λ q l. sym (pushed-set (h .few d .1)));
+      few = λ d. omega (arith, h .few d .0, ap length (pushed-set (h .few d .1)), rows-length out 0 (k - 0));
+      there = λ d v s. pushed-set (h .few d .1) ∙ ap (rowsFrom out 0) f ∙ p .gives v s .few (h .few d .0);
+      crowded = λ d v s. p .gives v s .many (h .many d);
+    }
 
 -- ---- one point after the other
 

@@ -121,19 +121,19 @@ module _ {s : Stored} {w os ns vs stamps f : List ℕ} (g : CallReady s w os ns 
     pub rows-most : rowsMost s w x ≡ o .pairs - o .begin + 32 * (o .after - o .before)
     rows-most = rw (rows-kept, after-is, low-is, before-is)
 
-    pub load-rows : Run vs (o .begin) (o .pairs)
+    load-rows : Run vs (o .begin) (o .pairs)
     load-rows =
         let m = numbers in
         record { ordered = omega arith; there = omega arith }
 
-    pub load-numbers : NumbersWithin ns (o .begin) (o .pairs) (o .low .0) (o .before - o .low .0)
+    load-numbers : NumbersWithin ns (o .begin) (o .pairs) (o .low .0) (o .before - o .low .0)
     load-numbers = numbers-within (held (s .entries) x) (o .low) os ns vs (o .begin) (o .pairs) x (o .before - o .low .0) (numbers .begin-pairs) entries-here
 
     module _ {rows at : List ℕ} {n : ℕ} (r : RoomFor rows at n (setsMost s w x) (rowsMost s w x)) where
       pub room-here : RoomFor rows at n (o .after - o .low .0) (o .pairs - o .begin + 32 * (o .after - o .before))
       room-here = rw (sets-most, rows-most) at r
 
-      pub load-spaces : Spaces rows at n (o .before - o .low .0) (o .pairs - o .begin)
+      load-spaces : Spaces rows at n (o .before - o .low .0) (o .pairs - o .begin)
       load-spaces =
           let q = room-here in
           record {
@@ -142,3 +142,7 @@ module _ {s : Stored} {w os ns vs stamps f : List ℕ} (g : CallReady s w os ns 
             words = fewer-words (getD at n 0) (o .pairs - o .begin) (32 * (o .after - o .before)) (length rows) (q .words);
             small = fewer-marks (getD at n 0) (o .pairs - o .begin) (32 * (o .after - o .before)) (q .small);
           }
+
+      -- what loading its kept sets asks
+      pub load-ready : (o .pairs ≤ length ns) × Run vs (o .begin) (o .pairs) × Spaces rows at n (o .before - o .low .0) (o .pairs - o .begin) × NumbersWithin ns (o .begin) (o .pairs) (o .low .0) (o .before - o .low .0)
+      load-ready = (omega (arith, numbers .pairs-end, numbers .end-there, numbers .numbers-there), load-rows, load-spaces, load-numbers)

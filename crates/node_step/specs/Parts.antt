@@ -12,10 +12,11 @@ use Rattle.meaning.specs.declared.Point.{Point}
 use Rattle.meaning.specs.declared.Node.{Node}
 use Rattle.method.specs.Settle.{Inputs, settle}
 use Rattle.method.specs.Step.{newPairs}
+use Rattle.rowset.specs.Rows.{rowsFrom}
 use Rattle.kinds.specs.Kinds.{EventThere}
 use Rattle.room.specs.Room.{setIn, setAt, SetsInOrder, Sets}
 use Rattle.room.specs.declared.Child.{Child}
-use Rattle.entries.specs.Appended.{Space, Extended}
+use Rattle.entries.specs.Appended.{Space, Extended, Pushed}
 use Rattle.node_sets.specs.Shelved.{setEntries, agedEntries, Spaces}
 use Rattle.node_sets.specs.Blocks.{RoomToKeep, EntriesPut}
 use Rattle.node_sets.specs.Parts.{Numbered}
@@ -57,6 +58,12 @@ abbrev pub agesOf : List ℕ → Own → List ℕ
 agesOf ns o = take (o .end - o .pairs) (drop (o .pairs) ns)
 
 -- ---- the newly settled points
+
+-- the set of k rows in the words of out stands behind n others, or it has too many rows
+pub record SetPushed (out : List ℕ) (k : ℕ) (rows at : List ℕ) (n : ℕ) (rows' at' : List ℕ) (done : Bool) : Type 0 where
+  pub stay : Extended rows at rows' at' n 0 (λ q. [])
+  pub few : done ≡ true → (k ≤ mostRows) × Pushed rows at rows' at' n (k - 0) (rowsFrom out 0 (k - 0))
+  pub many : done ≡ false → mostRows < k
 
 module _ (b w rows at times : List ℕ) (base : Point) (oldAges oldValues : List ℕ) (left right : Child) (n : ℕ) (start i : Point) (node : Node) where
   -- what must stand for point i: n sets, in which it finds what its kind asks for, and room for its set

@@ -9,13 +9,15 @@ ghost use mathlib.Core.Path.{_≡_};
 ghost use mathlib.Core.List.{[], List·Memᴰ};
 ghost use Prim.Native.Nat.{ℕ, _+_, _*_, _≤_, _<_};
 ghost use lib.ListN.{length, set};
+ghost use Rattle.meaning.specs.Outcome.{mostRows};
 ghost use Rattle.meaning.specs.RuleFile.{nodeCount, nodeAt, childrenOf};
 ghost use Rattle.method.specs.Step.{entriesNow};
 ghost use Rattle.method.specs.Room.{rowsMost, setsMost};
 ghost use Rattle.rowset.specs.Sets.{SetRoom};
+ghost use Rattle.entries.specs.Appended.{Space};
 ghost use Rattle.node_step.specs.Figures.{called, CallReady};
 ghost use Rattle.node_step.specs.Walks.{setWords, RoomFor, ChildrenStand, OutThere, Walks};
-ghost use Rattle.node_step.specs.Parts.{childIn, ChildFigures, ChildSetsAre, OwnFigures, agesOf, NextReady, NextSettled, LeafReady, LeafSettled, PointsReady, PointsSettled, PairsReady, PairsKept, BlockReady, BlockKept};
+ghost use Rattle.node_step.specs.Parts.{childIn, ChildFigures, ChildSetsAre, OwnFigures, agesOf, SetPushed, NextReady, NextSettled, LeafReady, LeafSettled, PointsReady, PointsSettled, PairsReady, PairsKept, BlockReady, BlockKept};
 
 // Where a node's step begins: so many sets are below its children's, so many stand in all, left's and right's begin at these sets, and so many entries are kept.
 pub struct Spot {
@@ -120,6 +122,19 @@ fn children_at(figures: &[u32], node: Node, first: usize, second: usize) -> Chil
     }
 }
 
+// Puts the set of k rows that was made in `out` behind n others; false where it has more than 32.
+fn push_set(out: &[u32], k: usize, rows: &mut [u32], at: &mut [u32], n: usize) -> bool
+    requires { ⌜ SetRoom (now out) 0 ⌝ }
+    requires { ⌜ Space (now rows) (now at) n mostRows ⌝ }
+    ensures { λ r. ⌜ SetPushed (now (out .entry)) k (now (rows .entry)) (now (at .entry)) n (now (rows .exit)) (now (at .exit)) r ⌝ }
+{
+    if MOST < k {
+        return false;
+    }
+    entries::push(out, 0, k, rows, at, n);
+    true
+}
+
 // Settles the node's point i, and puts its set behind n others; false where it has more than 32 rows. The node's pairs before point start are held in the old slices. The set is made in `out`.
 fn settle_next(
     node: Node,
@@ -158,11 +173,7 @@ fn settle_next(
         i,
         out,
     );
-    if MOST < k {
-        return false;
-    }
-    entries::push(out, 0, k, rows, at, n);
-    true
+    push_set(out, k, rows, at, n)
 }
 
 // Settles the node's points from start on before end, and puts their sets behind `sets` others; false where a point has more than 32 rows. The node's pairs before these points are held in the old slices. Each set is made in `out`. The last point is settled behind the loop: mostly it is the only one.
@@ -440,11 +451,7 @@ fn settle_leaf(
     let atom = rulenodes::atom_at(rule, x);
     let terms = atom.terms;
     let k = kinds::atom(atom.relation as u32, terms, event, out, 0);
-    if MOST < k {
-        return false;
-    }
-    entries::push(out, 0, k, rows, at, n);
-    true
+    push_set(out, k, rows, at, n)
 }
 
 // The step of node x, which has no children, behind h sets: it is an atom, which settles the newest point and has no pairs. The owners, the times and the number of points are there for the contract, which says what is stored.

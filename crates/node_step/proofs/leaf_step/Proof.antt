@@ -1,8 +1,8 @@
 -- `leaf_step` meets its contract: it is the step of a node whose children's sets are none, which settles one point, keeps no pairs and moves no set.
-use Prim.Native.Nat.{ℕ, _+_, _-_, _*_, _≤_}
+use Prim.Native.Nat.{ℕ, _+_, _-_, _≤_}
 use native.Mathlib.Omega.{arith}
 use mathlib.Core.Path.{_≡_, refl, _∙_}
-use mathlib.Core.Bool.{true, false}
+use mathlib.Core.Bool.{true}
 use mathlib.Core.List.{List, _++_}
 use lib.ListN.{length, drop}
 use borrow.Author.Needs.{needs}
@@ -12,14 +12,13 @@ use Rattle.meaning.specs.RuleFile.{nodeAt}
 use Rattle.meaning.proofs.Accepted.{accepted}
 use Rattle.method.specs.Stored.{Stored}
 use Rattle.room.specs.declared.Child.{Child}
-use Rattle.node_step.specs.declared.Own.{Own}
 use Rattle.node_step.specs.declared.Spot.{Spot}
 use Rattle.node_step.specs.Figures.{called}
 use Rattle.node_step.specs.Walks.{setWords}
-use Rattle.node_step.specs.Parts.{NextSettled, PointsSettled, BlockReady}
-use Rattle.node_step.proofs.Numbers.{Numbers, numbers, load-rows, load-spaces, load-numbers}
+use Rattle.node_step.specs.Parts.{NextSettled, PointsSettled}
+use Rattle.node_step.proofs.Numbers.{Numbers, numbers, load-ready}
 use Rattle.node_step.proofs.Going.{one-space, one-crowded, one-settled}
-use Rattle.node_step.proofs.Keeping.{TableStays, set-room, table-stays, room-stays, sets-ready, room-then, nothing-put, rising}
+use Rattle.node_step.proofs.Keeping.{set-room, table-stays, room-stays, sets-ready, room-then, nothing-put, rising}
 use Rattle.node_step.proofs.Stepping.{Loads, base, oldAges, oldValues, points-ready, whole, block-ready}
 use Rattle.node_step.proofs.Ending.{step-crowded, step-kept}
 use Rattle.node_step.proofs.Leaf.{one-new, leaf-kept, not-moved}
@@ -78,12 +77,7 @@ load-sets-requires : tie.Need-load-sets-requires
 load-sets-requires c κs =
     let d = c .before .before .before in
     let s = entry d in
-    let m = numbers-at d in (
-      omega (arith, m .pairs-end, m .end-there, m .numbers-there),
-      load-rows (s .pre .0) (s .args .x) (s .pre .1 .0 .0) (d .own-figures .ensures),
-      load-spaces (s .pre .0) (s .args .x) (s .pre .1 .0 .0) (d .own-figures .ensures) (s .pre .1 .1 .0),
-      load-numbers (s .pre .0) (s .args .x) (s .pre .1 .0 .0) (d .own-figures .ensures),
-    )
+    load-ready (s .pre .0) (s .args .x) (s .pre .1 .0 .0) (d .own-figures .ensures) (s .pre .1 .1 .0)
 
 -- the table is there, and stays while the set is made before it
 table-there : (c : tie.After-own-figures) → setWords ≤ length (entry c .args .blocks .now)

@@ -1,5 +1,5 @@
 -- `own_step` meets its contract: the node's kept sets are loaded, its new points settled, its block is kept, and its sets take the place of its children's.
-use Prim.Native.Nat.{ℕ, _-_, _≤_}
+use Prim.Native.Nat.{ℕ, _≤_}
 use native.Mathlib.Omega.{arith}
 use mathlib.Core.Path.{_∙_}
 use mathlib.Core.List.{List}
@@ -9,7 +9,7 @@ use borrow.Author.Tests.{not-true, not-false}
 use Rattle.meaning.proofs.Accepted.{accepted}
 use Rattle.node_step.specs.Figures.{called}
 use Rattle.node_step.specs.Walks.{setWords}
-use Rattle.node_step.proofs.Numbers.{Numbers, numbers, load-rows, load-spaces, load-numbers}
+use Rattle.node_step.proofs.Numbers.{Numbers, numbers, load-ready}
 use Rattle.node_step.proofs.Seeing.{children-figures}
 use Rattle.node_step.proofs.Keeping.{set-room, table-stays, room-stays}
 use Rattle.node_step.proofs.Stepping.{Loads, points-ready, block-ready, down-laid}
@@ -63,12 +63,7 @@ load-sets-requires : tie.Need-load-sets-requires
 load-sets-requires c κs =
     let d = c .before .before .before .before .before .before in
     let s = entry d in
-    let m = numbers-at d in (
-      omega (arith, m .pairs-end, m .end-there, m .numbers-there),
-      load-rows (s .pre .0) (s .args .x) (s .pre .1 .0 .0) (d .own-figures .ensures),
-      load-spaces (s .pre .0) (s .args .x) (s .pre .1 .0 .0) (d .own-figures .ensures) (s .pre .1 .1 .0),
-      load-numbers (s .pre .0) (s .args .x) (s .pre .1 .0 .0) (d .own-figures .ensures),
-    )
+    load-ready (s .pre .0) (s .args .x) (s .pre .1 .0 .0) (d .own-figures .ensures) (s .pre .1 .1 .0)
 
 -- the table is there, and stays while sets are made before it
 table-there : (c : tie.After-own-figures) → setWords ≤ length (entry c .args .blocks .now)
