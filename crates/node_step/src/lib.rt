@@ -176,7 +176,7 @@ fn settle_next(
     push_set(out, k, rows, at, n)
 }
 
-// Settles the node's points from start on before end, and puts their sets behind `sets` others; false where a point has more than 32 rows. The node's pairs before these points are held in the old slices. Each set is made in `out`. The last point is settled behind the loop: mostly it is the only one.
+// Settles the node's points from start on before end, and puts their sets behind `sets` others; false where a point has more than 32 rows. The node's pairs before these points are held in the old slices. Each set is made in `out`.
 fn settle_points(
     node: Node,
     rule: &[u8],
@@ -283,7 +283,7 @@ fn note_block(blocks: &mut [u32], x: u8, rows: usize, pairs: usize, end: usize)
     blocks[k + 2] = end as u32;
 }
 
-// Puts what is wanted of node x behind the kept entries, its rows and then its pairs, and notes where; how many entries are then kept, or one more than there is room for. Its sets begin at set `first`.
+// Puts what is wanted of node x behind the kept entries, its rows and then its pairs, and notes where; how many entries are then kept, or one more than there is room for. Its sets begin at set `spot.sets`.
 fn keep_node(
     node: Node,
     rule: &[u8],
