@@ -195,8 +195,13 @@ static inline struct yokemango_checked yokemango_start_in(struct yokemango_state
 
 /* Takes an event into `state`: time, row count m, m relation numbers, m rows of 4 words with unused columns 0. The report
    goes to the front of `report`, words past it stay. An event that settles nothing still writes 3 words. The answer has the
-   words written, or the first of the refusals 8 to 16 that applies; then no word of `state` or `report` is changed. Stack of
-   a call: docs/MANUAL.md. */
+   words written, or the first of the refusals 8 to 16 that applies; then no word of `state` or `report` is changed.
+
+   Stack of a call in bytes, by the nodes of the rule, measured:
+     nodes                                        2 or 4        8       16       32
+     a usual event                                12,048   12,616   15,240   15,816
+     an event that settles 32 points at once      62,640  156,392  156,968  154,952
+   yokemango_start takes 13,544 and yokemango_figures 1,368. */
 static inline struct yokemango_taken yokemango_take_in(struct yokemango_state *state, const uint32_t *event, size_t event_len, uint32_t *report, size_t report_len)
 {
     return yokemango_take(

@@ -11,7 +11,7 @@ use Rattle.meaning.specs.declared.Point.{Point}
 use Rattle.method.specs.Stored.{held}
 use Rattle.entries.specs.Entries.{entriesFrom, hasOwner}
 use Rattle.entries.proofs.Entries.{entries-append}
-use Rattle.node_sets.specs.Shelved.{setEntries}
+use Rattle.node_sets.specs.NodeEntries.{setEntries}
 use Rattle.formed.specs.Walk.{behind, setsRest, nodesRest}
 use Rattle.formed.specs.Steps.{restAt, NodeTo, EntriesPlaced}
 use Rattle.formed.proofs.Walks.{rows-own, pairs-own}

@@ -26,7 +26,7 @@ use Rattle.method.proofs.Formed.{same-entries, entries-same}
 use Rattle.rulefile.proofs.Ranges.{gather-last}
 use Rattle.entries.specs.Entries.{begins, hasOwner, isEntry}
 use Rattle.entries.proofs.Walking.{all-are}
-use Rattle.node_sets.specs.Shelved.{setEntries, agedEntries}
+use Rattle.node_sets.specs.NodeEntries.{setEntries, agedEntries}
 use Rattle.node_sets.proofs.Gathered.{sets-more, sets-first, sets-later}
 use Rattle.node_sets.proofs.Paired.{pairOf, all-owned}
 use Rattle.formed.specs.Walk.{front, behind, setsRest, rowsFound, pairsFound, nodesRest, runsFit, ownRuns, ownFit, entriesFit}

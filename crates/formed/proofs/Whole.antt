@@ -25,7 +25,7 @@ use Rattle.progress.specs.Bounds.{Within}
 use Rattle.rulefile.specs.Weighing.{Masked}
 use Rattle.kinds.specs.Kinds.{inMask}
 use Rattle.entries.specs.Entries.{entryAt, entriesFrom}
-use Rattle.node_sets.specs.Shelved.{setEntries, agedEntries}
+use Rattle.node_sets.specs.NodeEntries.{setEntries, agedEntries}
 use Rattle.formed.specs.StateFigures.{storedIn, StateFigures, EntryPlaces}
 use Rattle.formed.specs.Walk.{ownRuns, ownFit, entriesFit}
 use Rattle.formed.specs.Parts.{countsIn, CountsStand, timesFit, keptFit}

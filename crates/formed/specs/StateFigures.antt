@@ -9,7 +9,7 @@ use Rattle.method.specs.Stored.{Stored, held, heldPairs}
 use Rattle.method.specs.Step.{wantedFrom, countsStored, countBefore}
 use Rattle.kinds.specs.Kinds.{inMask}
 use Rattle.entries.specs.Entries.{entriesFrom}
-use Rattle.node_sets.specs.Shelved.{setEntries, agedEntries}
+use Rattle.node_sets.specs.NodeEntries.{setEntries, agedEntries}
 
 abbrev pub storedIn : List ℕ → ℕ → List ℕ → List ℕ → List ℕ → List ℕ → ℕ → Stored
 storedIn b points times os ns vs count = record { rule = b; points = points; times = times; entries = entriesFrom os ns vs 0 count }

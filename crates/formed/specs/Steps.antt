@@ -8,7 +8,7 @@ use Rattle.meaning.specs.Kept.{Entry}
 use Rattle.meaning.specs.declared.Point.{Point}
 use Rattle.method.specs.Stored.{held, heldPairs}
 use Rattle.entries.specs.Entries.{entriesFrom, begins, hasOwner}
-use Rattle.node_sets.specs.Shelved.{setEntries, agedEntries}
+use Rattle.node_sets.specs.NodeEntries.{setEntries, agedEntries}
 use Rattle.formed.specs.declared.Ended.{Ended}
 use Rattle.formed.specs.declared.Ended.the-variants.{At, Stuck}
 use Rattle.formed.specs.Walk.{behind, setsRest, runsFit}

@@ -11,7 +11,7 @@ use Rattle.meaning.specs.declared.Point.{Point}
 use Rattle.method.specs.Stored.{held, heldPairs}
 use Rattle.method.specs.WellFormed.{sameEntries, setFits, pairsFit}
 use Rattle.entries.specs.Entries.{hasOwner, isEntry}
-use Rattle.node_sets.specs.Shelved.{setEntries, agedEntries}
+use Rattle.node_sets.specs.NodeEntries.{setEntries, agedEntries}
 
 module _ {A : Type 0} where
   -- those at the front that pass, one after the other; and those behind them

@@ -15,7 +15,7 @@ use Rattle.meaning.proofs.Lists.{range-length, gather-append}
 use Rattle.meaning.proofs.Points.{pointsFrom-append}
 use Rattle.entries.specs.Entries.{entriesFrom, begins, hasOwner, isEntry}
 use Rattle.entries.proofs.Walking.{hasNumber}
-use Rattle.node_sets.specs.Shelved.{setEntries}
+use Rattle.node_sets.specs.NodeEntries.{setEntries}
 
 pub entries-many : (os ns vs : List ℕ) (from count : ℕ) → length (entriesFrom os ns vs from count) ≡ count
 unfolding entriesFrom

@@ -21,7 +21,7 @@ use Rattle.room.specs.Room.{setIn, setAt, SetsInOrder}
 use Rattle.room.proofs.SetsInOrder.{marks-rise}
 use Rattle.entries.specs.Appended.{WordsPut, Copied}
 use Rattle.entries.proofs.Listed.{listed-append, listed-moved, map-twice}
-use Rattle.node_sets.specs.Shelved.{setEntries, agedEntries}
+use Rattle.node_sets.specs.NodeEntries.{setEntries, agedEntries}
 use Rattle.node_sets.specs.Blocks.{EntriesPut}
 use Rattle.node_sets.specs.Parts.{PointsPut, Numbered}
 use Rattle.node_sets.proofs.Gathered.{sets-more}

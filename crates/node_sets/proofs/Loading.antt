@@ -17,7 +17,7 @@ use Rattle.entries.proofs.Copies.{rows-part}
 use Rattle.entries.proofs.Growth.{extended-none, extended-over, extended-as}
 use Rattle.entries.proofs.Streaks.{streak-all}
 use Rattle.entries.proofs.Walking.{RunAt, number-walked}
-use Rattle.node_sets.specs.Shelved.{setEntries, Spaces, NumbersWithin, Loaded}
+use Rattle.node_sets.specs.NodeEntries.{setEntries, Spaces, NumbersWithin, Loaded}
 use Rattle.node_sets.specs.Parts.{EndsMarked, MarksRaised, PointsStand}
 use Rattle.node_sets.proofs.Gathered.{entries-many, sets-apart, numbers-later}
 

@@ -13,7 +13,7 @@ use Rattle.meaning.specs.Order.{OfLength}
 use Rattle.kinds.specs.Kinds.{pairsFrom}
 use Rattle.entries.specs.Entries.{entryAt, entriesFrom, hasOwner}
 use Rattle.entries.proofs.Listed.{map-twice}
-use Rattle.node_sets.specs.Shelved.{agedEntries}
+use Rattle.node_sets.specs.NodeEntries.{agedEntries}
 
 pub all-owned : (x : ℕ) (pairs : List (List ℕ)) → all (hasOwner x 1) (agedEntries x pairs) ≡ true
 all-owned x [] = refl

@@ -1,4 +1,4 @@
 -- A node's sets and pairs as kept entries, and what functions over them ask and ensure.
-pub mod Shelved
+pub mod NodeEntries
 pub mod Blocks
 pub mod Parts

@@ -5,7 +5,7 @@ ghost use lib.ListN.{length, getD};
 ghost use Rattle.rowset.specs.Sets.{Run};
 ghost use Rattle.kinds.specs.Kinds.{pairsFrom};
 ghost use Rattle.room.specs.Room.{setAt, SetsInOrder};
-ghost use Rattle.node_sets.specs.Shelved.{setEntries, agedEntries, Spaces, NumbersWithin, Loaded};
+ghost use Rattle.node_sets.specs.NodeEntries.{setEntries, agedEntries, Spaces, NumbersWithin, Loaded};
 ghost use Rattle.node_sets.specs.Blocks.{MovedDown, RoomToKeep, EntriesPut};
 ghost use Rattle.node_sets.specs.Parts.{EndsMarked, MarksRaised, Moved, MarksLowered, PointsPut, Numbered};
 

@@ -17,7 +17,7 @@ use Rattle.kinds.specs.Kinds.{pairAt, pairsFrom, PairsThere}
 use Rattle.room.specs.declared.Child.{Child}
 use Rattle.entries.proofs.Listed.{listed-same, listed-moved, map-twice}
 use Rattle.room.specs.Room.{SetsInOrder}
-use Rattle.node_sets.specs.Shelved.{agedEntries}
+use Rattle.node_sets.specs.NodeEntries.{agedEntries}
 use Rattle.node_sets.specs.Blocks.{RoomToKeep, EntriesPut}
 use Rattle.node_sets.specs.Parts.{Numbered}
 use Rattle.since.specs.Since.{heldIn, PairsPut}

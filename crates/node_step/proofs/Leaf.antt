@@ -28,7 +28,7 @@ use Rattle.kinds.proofs.Atoms.{atom-reads}
 use Rattle.room.specs.Room.{setIn, setAt, SetsInOrder}
 use Rattle.room.specs.declared.Child.{Child}
 use Rattle.room.proofs.SetsInOrder.{mark-before}
-use Rattle.node_sets.specs.Shelved.{setEntries}
+use Rattle.node_sets.specs.NodeEntries.{setEntries}
 use Rattle.node_sets.specs.Blocks.{MovedDown, RoomToKeep, EntriesPut}
 use Rattle.since.specs.Since.{heldIn}
 use Rattle.settling.specs.Inputs.{PointSettled}

@@ -17,7 +17,7 @@ use Rattle.method.proofs.Bounds.{before-after, after-most, wanted-before, wante
 use Rattle.method.proofs.Room.{entries-rows}
 use Rattle.rowset.specs.Sets.{Run}
 use Rattle.entries.specs.Entries.{entriesFrom}
-use Rattle.node_sets.specs.Shelved.{setEntries, Spaces, NumbersWithin}
+use Rattle.node_sets.specs.NodeEntries.{setEntries, Spaces, NumbersWithin}
 use Rattle.node_sets.proofs.Gathered.{entries-many}
 use Rattle.node_sets.proofs.Loading.{numbers-within}
 use Rattle.node_step.specs.declared.Own.{Own}

@@ -15,7 +15,7 @@ use Rattle.method.specs.Stored.{heldPairs}
 use Rattle.kinds.specs.Kinds.{pairAt, pairsFrom, PairsThere}
 use Rattle.entries.specs.Entries.{entryAt, entriesFrom}
 use Rattle.entries.proofs.Listed.{listed-moved}
-use Rattle.node_sets.specs.Shelved.{agedEntries}
+use Rattle.node_sets.specs.NodeEntries.{agedEntries}
 use Rattle.node_sets.proofs.Paired.{pairOf, pairs-back, entries-pairs}
 use Rattle.since.specs.Since.{heldIn}
 use Rattle.node_step.proofs.Keeping.{row-same}

@@ -29,7 +29,7 @@ use Rattle.room.proofs.SetsInOrder.{laid-fewer}
 use Rattle.entries.specs.Entries.{entriesFrom}
 use Rattle.entries.specs.Appended.{Extended}
 use Rattle.entries.proofs.Growth.{extended-as, extended-then}
-use Rattle.node_sets.specs.Shelved.{setEntries, agedEntries, Loaded}
+use Rattle.node_sets.specs.NodeEntries.{setEntries, agedEntries, Loaded}
 use Rattle.node_sets.specs.Parts.{Numbered}
 use Rattle.since.specs.Since.{heldIn}
 use Rattle.settling.specs.Inputs.{asked}

@@ -12,7 +12,7 @@ use Rattle.method.specs.WellFormed.{Formed}
 use Rattle.method.specs.Room.{othersIn}
 use Rattle.kinds.specs.Kinds.{inMask, EventThere}
 use Rattle.entries.specs.Entries.{entriesFrom}
-use Rattle.node_sets.specs.Shelved.{setEntries, agedEntries}
+use Rattle.node_sets.specs.NodeEntries.{setEntries, agedEntries}
 
 -- the words of a node's figures
 abbrev pub nodeWords : ℕ

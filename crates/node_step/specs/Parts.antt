@@ -17,7 +17,7 @@ use Rattle.kinds.specs.Kinds.{EventThere}
 use Rattle.room.specs.Room.{setIn, setAt, SetsInOrder, Sets}
 use Rattle.room.specs.declared.Child.{Child}
 use Rattle.entries.specs.Appended.{Space, Extended, Pushed}
-use Rattle.node_sets.specs.Shelved.{setEntries, agedEntries, Spaces}
+use Rattle.node_sets.specs.NodeEntries.{setEntries, agedEntries, Spaces}
 use Rattle.node_sets.specs.Blocks.{RoomToKeep, EntriesPut}
 use Rattle.node_sets.specs.Parts.{Numbered}
 use Rattle.since.specs.Since.{heldIn}
