@@ -79,7 +79,8 @@ fn in_memory(file: &[u8], words: &[u32], ends: &[usize]) -> (f64, Gave) {
         from = end;
     }
     let spent = used(OWN) - began;
-    (spent, Gave { points, rows, open: library::open(&state).points, kept: library::kept(&state) })
+    let figures = library::figures(&state);
+    (spent, Gave { points, rows, open: figures.open_points, kept: figures.kept })
 }
 
 // Runs the listing program on the file.
