@@ -1,3 +1,3 @@
 -- What the program's contracts cite.
 pub mod Ends
-pub mod Turns
+pub mod Events

@@ -1,8 +1,10 @@
 // The listing program: a rule and its events on standard input, the monitor's answers on standard output.
+mod event;
 mod input;
 mod text;
-mod turn;
 
+use event::Figures;
+use event::take_event;
 use input::is_short;
 use input::read_more;
 use input::read_rule;
@@ -16,8 +18,6 @@ use meaning::RULE_BYTES;
 use monitor::State;
 use rulefile::Checked;
 use text::put_end;
-use turn::Figures;
-use turn::take_event;
 ghost use Prim.Native.Nat.{_+_, _≤_};
 ghost use lib.ListN.{length};
 
@@ -88,7 +88,7 @@ fn take_all(first: State) {
             io::write_all(STDOUT_FILENO, &text[0..end]);
             return;
         };
-        let turn = take_event(
+        let answered = take_event(
             &rule,
             first.bytes,
             figures,
@@ -101,9 +101,9 @@ fn take_all(first: State) {
             &mut text,
             at,
         );
-        let after = turn.figures;
+        let after = answered.figures;
         figures = after;
-        at = make_room(&text, turn.end);
+        at = make_room(&text, answered.end);
         from += 4 * n;
     }
 }

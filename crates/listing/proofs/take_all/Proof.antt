@@ -39,9 +39,9 @@ take-event-requires c κs =
 make-room-requires : tie.Need-make-room-requires Inv-loop μ-loop
 make-room-requires c κs =
     let i = c .before .before .before .before .before .before .before .before .before .before .before .before .before .before .before .before .before .before .before .before .before .before .before .before .before .before .before .before .before .before .before .loop .inv in
-    let turn = c .before .before .before .before .before .before .before .before .take-event .ensures in
-    let long = put-long (turn .0 .put) in
-    (omega (arith, i .3, i .10, long, turn .1), omega (arith, i .3, long))
+    let answered = c .before .before .before .before .before .before .before .before .take-event .ensures in
+    let long = put-long (answered .0 .put) in
+    (omega (arith, i .3, i .10, long, answered .1), omega (arith, i .3, long))
 
 mul-from : tie.Need-mul-from Inv-loop μ-loop
 mul-from c = omega (arith, event-there _ _ (sym (c .before .before .before .before .before .before .before .before .before .before .before .before .before .before .before .before .before .before .before .before .before .before .before .next-event .ensures .next) ∙ c .before .before .before .before .before .before .before .before .before .before .before .before .before .before .before .before .before .before .before .before .next .given .1) .0)

@@ -1,7 +1,7 @@
 -- `take_event` meets its contract: what the taking leaves, and its answer's text.
 use borrow.Author.Needs.{needs}
-use Rattle.listing.proofs.turn.take_event.Statement.{statement}
-use Rattle.listing.proofs.turn.take_event.Tie as tie
+use Rattle.listing.proofs.event.take_event.Statement.{statement}
+use Rattle.listing.proofs.event.take_event.Tie as tie
 
 returns : tie.Need-returns
 returns c =

@@ -1,4 +1,4 @@
--- What a turn of the listing leaves: an event taken, and what is printed for it put behind the text so far.
+-- What an event leaves: it is taken, and what is printed for it put behind the text so far.
 use Prim.Native.Nat.{ℕ}
 use mathlib.Core.Path.{_≡_}
 use mathlib.Core.List.{List}
@@ -10,7 +10,7 @@ use Rattle.writer.specs.Puts.{Put}
 use Rattle.lines.specs.Answers.{answerText}
 
 -- every word of the state and of the buffer, as a taking leaves them; and of the text, with the answer's from `at` on
-pub record Turned (m : Lent) (w buffer text : List ℕ) (at : ℕ) (m' : Lent) (buffer' text' : List ℕ) (end : ℕ) : Type 0 where
+pub record EventAnswered (m : Lent) (w buffer text : List ℕ) (at : ℕ) (m' : Lent) (buffer' text' : List ℕ) (end : ℕ) : Type 0 where
   pub moved : m' ≡ lentAfter (answerIn m w (length buffer)) m w
   pub written : buffer' ≡ bufferAfter (answerIn m w (length buffer)) (reportNow (stored m) w) buffer
   pub put : Put text at (answerText (answerIn m w (length buffer)) buffer') text' end

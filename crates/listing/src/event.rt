@@ -3,7 +3,7 @@ use crate::text::put_answer;
 ghost use Prim.Native.Nat.{_+_, _≤_};
 ghost use lib.ListN.{length};
 ghost use Rattle.lent_state.specs.Lent.{lent};
-ghost use Rattle.listing.specs.Turns.{Turned};
+ghost use Rattle.listing.specs.Events.{EventAnswered};
 
 // A state's figures: the points accepted, the times retained and the entries kept.
 pub struct Figures {
@@ -12,8 +12,8 @@ pub struct Figures {
     pub count: u32,
 }
 
-// What a turn leaves beside the slices: the state's figures, and where the text ends.
-pub struct Turn {
+// What an event leaves beside the slices: the state's figures, and where the text ends.
+pub struct Answered {
     pub figures: Figures,
     pub end: usize,
 }
@@ -31,9 +31,9 @@ pub fn take_event(
     report: &mut [u32],
     text: &mut [u8],
     at: usize,
-) -> Turn
+) -> Answered
     requires { ⌜ (at + 53504 ≤ length (now text)) × (length (now report) ≤ 4326) ⌝ }
-    ensures { λ r. ⌜ Turned (lent (now (rule .entry)) bytes (figures .points) (now (times .entry)) (figures .retained) (now (owners .entry)) (now (numbers .entry)) (now (values .entry)) (figures .count)) (now (event .entry)) (now (report .entry)) (now (text .entry)) at (lent (now (rule .entry)) bytes (r .figures .points) (now (times .exit)) (r .figures .retained) (now (owners .exit)) (now (numbers .exit)) (now (values .exit)) (r .figures .count)) (now (report .exit)) (now (text .exit)) (r .end) ⌝ }
+    ensures { λ r. ⌜ EventAnswered (lent (now (rule .entry)) bytes (figures .points) (now (times .entry)) (figures .retained) (now (owners .entry)) (now (numbers .entry)) (now (values .entry)) (figures .count)) (now (event .entry)) (now (report .entry)) (now (text .entry)) at (lent (now (rule .entry)) bytes (r .figures .points) (now (times .exit)) (r .figures .retained) (now (owners .exit)) (now (numbers .exit)) (now (values .exit)) (r .figures .count)) (now (report .exit)) (now (text .exit)) (r .end) ⌝ }
     ensures { λ r. ⌜ r .end ≤ at + 53504 ⌝ }
 {
     let left = lent_state::take(
@@ -56,7 +56,7 @@ pub fn take_event(
         retained: left.retained,
         count: left.count,
     };
-    Turn {
+    Answered {
         figures: after,
         end,
     }
