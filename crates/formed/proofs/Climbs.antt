@@ -67,8 +67,15 @@ or-right : (a b : ℕ) → b ≤ bitOr a b
 or-right a b = omega (arith, or-add-and a b, and-le-l a b)
 
 module _ (column : ℕ → ℕ) (from : ℕ) where
-  bits-none : Bits column from from 0
-  bits-none = record { word = omega arith; most = λ i u l. absurd (omega arith); none = λ h. refl }
+  bits-one : column from < 4294967296 → Bits column from (from + 1) (column from)
+  bits-one l =
+      record {
+        word = l;
+        most = λ i u m.
+            let e : i ≡ from = omega arith in
+            rw e (omega arith);
+        none = λ z. z from (omega arith) (omega arith);
+      }
 
   bits-more : {i w : ℕ} → from ≤ i → column i < 4294967296 → Bits column from i w → Bits column from (i + 1) (bitOr w (column i))
   bits-more {i} {w} f l h =
@@ -100,12 +107,19 @@ word-most (suc zero) l g h = omega (arith, g .word)
 word-most (suc (suc b)) l g h = absurd (omega arith)
 
 module _ (vs : List ℕ) (words : (i : ℕ) → getD vs i 0 < 4294967296) (from : ℕ) where
-  pub rows-none : BitsOf vs from from (record { v0 = 0; v1 = 0; v2 = 0; v3 = 0 })
-  rows-none = record { bits0 = bits-none (λ i. getD vs (i * 4) 0) from; bits1 = bits-none (λ i. getD vs (i * 4 + 1) 0) from; bits2 = bits-none (λ i. getD vs (i * 4 + 2) 0) from; bits3 = bits-none (λ i. getD vs (i * 4 + 3) 0) from }
-
   -- the words of a row, as they stand in the list
   fields : (row : Row) (i : ℕ) → wordsOf row ≡ rowAt vs i → (row .v0 ≡ getD vs (i * 4) 0) × (row .v1 ≡ getD vs (i * 4 + 1) 0) × (row .v2 ≡ getD vs (i * 4 + 2) 0) × (row .v3 ≡ getD vs (i * 4 + 3) 0)
   fields row i e = (ap (λ u. getD u 0 0) e, ap (λ u. getD u 1 0) e, ap (λ u. getD u 2 0) e, ap (λ u. getD u 3 0) e)
+
+  pub rows-one : (row : Row) → wordsOf row ≡ rowAt vs from → BitsOf vs from (from + 1) row
+  rows-one row e =
+      let f = fields row from e in
+      record {
+        bits0 = rw (f .0) (bits-one (λ i. getD vs (i * 4) 0) from (words (from * 4)));
+        bits1 = rw (f .1) (bits-one (λ i. getD vs (i * 4 + 1) 0) from (words (from * 4 + 1)));
+        bits2 = rw (f .2) (bits-one (λ i. getD vs (i * 4 + 2) 0) from (words (from * 4 + 2)));
+        bits3 = rw (f .3) (bits-one (λ i. getD vs (i * 4 + 3) 0) from (words (from * 4 + 3)));
+      }
 
   pub rows-more : {i : ℕ} {bits : Row} (row : Row) → from ≤ i → BitsOf vs from i bits → wordsOf row ≡ rowAt vs i → BitsOf vs from (i + 1) (joinedBits bits row)
   rows-more {i} {bits} row l h e =
@@ -119,7 +133,7 @@ module _ (vs : List ℕ) (words : (i : ℕ) → getD vs i 0 < 4294967296) (from 
 
   module _ (mask to : ℕ) (r : Row) (h : BitsOf vs from to r) where
     -- the rows are cut down to the mask where the bits of all are
-    pub bits-cut : rowUnder (mostOf mask) (wordsOf r) ≡ true → (i : ℕ) → from ≤ i → i < to → rowCut mask (rowAt vs i) ≡ true
+    bits-cut : rowUnder (mostOf mask) (wordsOf r) ≡ true → (i : ℕ) → from ≤ i → i < to → rowCut mask (rowAt vs i) ≡ true
     bits-cut t i u l =
         let m = mostOf mask in
         let w = words-under m r t in
@@ -128,7 +142,7 @@ module _ (vs : List ℕ) (words : (i : ℕ) → getD vs i 0 < 4294967296) (from 
         (both (le-leb (getD vs (i * 4 + 1) 0) (m .v1) (omega (arith, h .bits1 .most i u l, w .1)))
         (both (le-leb (getD vs (i * 4 + 2) 0) (m .v2) (omega (arith, h .bits2 .most i u l, w .2))) (le-leb (getD vs (i * 4 + 3) 0) (m .v3) (omega (arith, h .bits3 .most i u l, w .3)))))
 
-    pub cut-bits : ((i : ℕ) → from ≤ i → i < to → rowCut mask (rowAt vs i) ≡ true) → rowUnder (mostOf mask) (wordsOf r) ≡ true
+    cut-bits : ((i : ℕ) → from ≤ i → i < to → rowCut mask (rowAt vs i) ≡ true) → rowUnder (mostOf mask) (wordsOf r) ≡ true
     cut-bits c =
         both (le-leb (r .v0) (m .v0) (word-most (mask / 1 % 2) (omega arith) (h .bits0) (λ i u l. at i u l .0)))
         (both (le-leb (r .v1) (m .v1) (word-most (mask / 2 % 2) (omega arith) (h .bits1) (λ i u l. at i u l .1)))
@@ -140,6 +154,11 @@ module _ (vs : List ℕ) (words : (i : ℕ) → getD vs i 0 < 4294967296) (from 
         at : (i : ℕ) → from ≤ i → i < to
             → (getD vs (i * 4) 0 ≤ mask / 1 % 2 * 4294967295) × (getD vs (i * 4 + 1) 0 ≤ mask / 2 % 2 * 4294967295) × (getD vs (i * 4 + 2) 0 ≤ mask / 4 % 2 * 4294967295) × (getD vs (i * 4 + 3) 0 ≤ mask / 8 % 2 * 4294967295)
         at i u l = words-under m (record { v0 = getD vs (i * 4) 0; v1 = getD vs (i * 4 + 1) 0; v2 = getD vs (i * 4 + 2) 0; v3 = getD vs (i * 4 + 3) 0 }) (row-under mask vs words i ∙ c i u l)
+
+  -- so entries that ascend are a node's where the test of all their bits says so
+  pub rising-tells : (ns : List ℕ) (mask to : ℕ) (r : Row) → Ascends (pairAt ns vs) from to → BitsOf vs from to r → (t : Bool) → t ≡ rowUnder (mostOf mask) (wordsOf r) → Tells t (Rising (pairAt ns vs) (λ p. rowCut mask (drop 1 p)) from to)
+  rising-tells ns mask to r a h true e = record { each = bits-cut mask to r h (sym e); up = a .up }
+  rising-tells ns mask to r a h false e = λ g. true≢false (sym (cut-bits mask to r h (g .each)) ∙ sym e)
 
 -- ---- no more of one number than a point may have rows
 

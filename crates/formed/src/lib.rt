@@ -29,7 +29,7 @@ ghost use Rattle.entries.specs.Entries.{entriesFrom, EntriesWithin};
 ghost use Rattle.formed.specs.StateFigures.{storedIn, StateFigures, EntryPlaces};
 ghost use Rattle.formed.specs.Parts.{CountsStand, timesFit, keptFit};
 ghost use Rattle.formed.specs.Walk.{entriesFit};
-ghost use Rattle.formed.specs.Tests.{Tells, MaskOf, rowCut, mostOf, rowUnder, joinedBits, BitsOf, Ascends, Rising, FewAlike, SetsFit, ageFits, agedFit};
+ghost use Rattle.formed.specs.Tests.{Tells, MaskOf, rowCut, mostOf, rowUnder, joinedBits, Rising, FewAlike, SetsFit, ageFits, agedFit};
 ghost use Rattle.formed.specs.Steps.{NodeEnded, EntriesPlaced};
 
 // The largest word.
@@ -82,25 +82,6 @@ fn joined(x: Row, y: Row) -> Row
     }
 }
 
-// The bits of rows from..to, word by word: 0 just where all are 0.
-fn bits_of(values: &[u32], from: usize, to: usize) -> Row
-    requires { ⌜ (from ≤ to) × (to * 4 ≤ length (now values)) ⌝ }
-    ensures { λ r. ⌜ BitsOf (now (values .entry)) from to r ⌝ }
-{
-    let mut bits = Row {
-        v0: 0,
-        v1: 0,
-        v2: 0,
-        v3: 0,
-    };
-    let mut i = from;
-    while i < to {
-        bits = joined(bits, rowset::row_at(values, i));
-        i += 1;
-    }
-    bits
-}
-
 // Entry i stands behind the one before it, by its number and then by its row.
 fn is_behind(numbers: &[u32], values: &[u32], i: usize) -> bool
     requires { ⌜ (0 < i) × (i < length (now numbers)) × (i * 4 + 4 ≤ length (now values)) ⌝ }
@@ -114,30 +95,21 @@ fn is_behind(numbers: &[u32], values: &[u32], i: usize) -> bool
     )
 }
 
-// Entries from..to, of which there is one, ascend by number and then by row.
-fn ascend(numbers: &[u32], values: &[u32], from: usize, to: usize) -> bool
+// Entries from..to, of which there is one, ascend by number and then by row, and their rows are 0 at variables that the mask doesn't have: the bits of all rows are gathered in the same loop, and compared with the largest that the mask leaves once.
+fn rows_ascend(numbers: &[u32], values: &[u32], from: usize, to: usize, mask: u8) -> bool
     requires { ⌜ (from < to) × (to ≤ length (now numbers)) × (to * 4 ≤ length (now values)) ⌝ }
-    ensures { λ t. ⌜ Tells t (Ascends (pairAt (now (numbers .entry)) (now (values .entry))) from to) ⌝ }
+    ensures { λ t. ⌜ Tells t (Rising (pairAt (now (numbers .entry)) (now (values .entry))) (λ p. rowCut mask (drop 1 p)) from to) ⌝ }
 {
+    let mut bits = rowset::row_at(values, from);
     let mut i = from + 1;
     while i < to {
         if !is_behind(numbers, values, i) {
             return false;
         }
+        bits = joined(bits, rowset::row_at(values, i));
         i += 1;
     }
-    true
-}
-
-// Entries from..to, of which there is one, ascend, and their rows are 0 at variables that the mask doesn't have.
-fn rows_ascend(numbers: &[u32], values: &[u32], from: usize, to: usize, mask: u8) -> bool
-    requires { ⌜ (from < to) × (to ≤ length (now numbers)) × (to * 4 ≤ length (now values)) ⌝ }
-    ensures { λ t. ⌜ Tells t (Rising (pairAt (now (numbers .entry)) (now (values .entry))) (λ p. rowCut mask (drop 1 p)) from to) ⌝ }
-{
-    if is_under(most_of(mask), bits_of(values, from, to)) {
-        return ascend(numbers, values, from, to);
-    }
-    false
+    is_under(most_of(mask), bits)
 }
 
 // Of entries from..to, which ascend, no more than a point may have rows have one number: none has that of the one so many before it.
