@@ -232,9 +232,9 @@ module _ (s : Stored) (a : Accepted) (ok : checking (s .rule) ≡ given a)
     pub wanted-grows : (x : ℕ) → x < nodeCount (s .rule) → wantedFrom (s .rule) (countBefore s) x .0 ≤ wantedFrom (s .rule) (countAfter s w) x .0
     wanted-grows = wanted-moves (s .rule) a ok (countBefore s) (countAfter s w) before-after
 
-    -- a call looks at few points of a node: those it newly settles and those still wanted
-    pub span : (x : ℕ) → x < nodeCount (s .rule) → countAfter s w x - wantedFrom (s .rule) (countBefore s) x .0 ≤ 65
-    span x o = omega (arith, retained, wanted-retained x o, after-most x o)
+    -- a call looks at few points of a node: those it newly settles and those still wanted, none of them before the first retained
+    pub span : (x : ℕ) → x < nodeCount (s .rule) → countAfter s w x - wantedFrom (s .rule) (countBefore s) x .0 ≤ length (s .times) + 1
+    span x o = omega (arith, wanted-retained x o, after-most x o)
 
 -- ---- what a newly settled point consults is settled
 

@@ -19,7 +19,7 @@ use Rattle.meaning.proofs.Points.{Tested, passed, failed, tested}
 use Rattle.method.specs.Stored.{Stored, held, heldPairs}
 use Rattle.method.specs.Step.{wantedFrom, countBefore}
 use Rattle.method.specs.WellFormed.{ownEntries, Formed}
-use Rattle.method.specs.Room.{weight, otherAt, previousIn, othersIn, heavier, lighter, need, newPoints, keptRows, rowsMost, setsMost, setsNeeded, SettlesAtMost, mostSets, RoomEnough}
+use Rattle.method.specs.Room.{weight, otherAt, previousIn, othersIn, heavier, lighter, need, newPoints, keptRows, rowsMost, setsMost, setsNeeded, marksNeeded, SettlesAtMost, mostSets, marksToTime, RoomEnough}
 use Rattle.method.proofs.Views.{Branches, none, single, double, viewed}
 use Rattle.method.proofs.Bounds.{below, by-children, span}
 use Rattle.method.proofs.Inputs.{one, two}
@@ -142,7 +142,8 @@ module _ (s : Stored) (f : Formed s) (w : List ℕ) where
         calm = λ h. omega (arith, within 1 6 h (omega (arith, nodes)));
         sets = omega (arith, within (mostOpen + 1 + q) m news u);
         rows = omega (arith, kept-shares, need-within b a ok (rowsMost s w) (λ x. length (keptRows s w x)) (mostRows * (mostOpen + 1 + q)) (λ x o. omega (arith, news x o)) (lastNode b) last m u);
-        marks = omega (arith, need-within b a ok (setsMost s w) (λ x. 0) 65 (λ x o. span s a ok (f .few-times) (f .times-many) w x o) (lastNode b) last 6 (omega (arith, nodes)), no-shares b a ok);
+        by-times = by-times;
+        marks = omega (arith, by-times, f .few-times);
       }
     where
       b : List ℕ
@@ -165,6 +166,10 @@ module _ (s : Stored) (f : Formed s) (w : List ℕ) where
 
       news : SettlesAtMost s w (mostOpen + 1 + q)
       news = new-points s f w
+
+      by-times : marksNeeded s w ≤ marksToTime * (length (s .times) + 1)
+      by-times =
+          omega (arith, need-within b a ok (setsMost s w) (λ x. 0) (length (s .times) + 1) (λ x o. omega (arith, span s a ok (f .few-times) (f .times-many) w x o)) (lastNode b) last marksToTime (omega (arith, nodes)), no-shares b a ok)
 
       within : (most m : ℕ) → SettlesAtMost s w most → othersIn b (lastNode b) + 1 < 2 ^ m → setsNeeded s w ≤ m * most
       within most m h u = omega (arith, need-within b a ok (newPoints s w) (λ x. 0) most (λ x o. omega (arith, h x o)) (lastNode b) last m u, no-shares b a ok)

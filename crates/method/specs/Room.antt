@@ -106,7 +106,10 @@ module _ (s : Stored) (w : List ℕ) where
 abbrev pub mostSets : ℕ
 mostSets = 250
 
--- and in marks: six times 65
+-- and in marks: six for each time, of which there are 65 at most
+abbrev pub marksToTime : ℕ
+marksToTime = 6
+
 abbrev pub mostMarks : ℕ
 mostMarks = 390
 
@@ -119,5 +122,6 @@ pub record RoomEnough (s : Stored) (w : List ℕ) : Type 0 where
   pub calm : SettlesAtMost s w 1 → setsNeeded s w ≤ 6
   pub sets : setsNeeded s w ≤ mostSets
   pub rows : rowsNeeded s w ≤ mostKept + mostRows * mostSets
-  -- 65 points at most of each of 32 nodes: six times as many
+  -- a node has no more sets than there are retained times and the new one; for 32 nodes six times as many
+  pub by-times : marksNeeded s w ≤ marksToTime * (length (s .times) + 1)
   pub marks : marksNeeded s w ≤ mostMarks
