@@ -163,14 +163,14 @@ module _ {b : List ℕ} {points : ℕ} {stamps os ns vs : List ℕ} {count : ℕ
     pub again-ready : ReadyIn b points stamps os' ns' vs' count w f
     again-ready = rw (d, e, g) h
 
-    pub again-needs : (n : ℕ) → rowsNeeded s w ≤ n → rowsNeeded (callIn b points stamps os' ns' vs' count) w ≤ n
-    again-needs n u = rw (d, e, g) u
+    pub again-so : (P : Stored → Type 0) → P s → P (callIn b points stamps os' ns' vs' count)
+    again-so P u = rw (d, e, g) u
 
     pub again-settled : {buffer buffer₁ buffer₂ os₂ ns₂ vs₂ : List ℕ} {r : Weighed} → buffer₁ ≡ buffer → SettledCall (callIn b points stamps os' ns' vs' count) w buffer₁ buffer₂ os' ns' vs' os₂ ns₂ vs₂ r
         → SettledCall s w buffer buffer₂ os ns vs os₂ ns₂ vs₂ r
     again-settled k u = rw (k, d, e, g) at u
 
-  stamps-long : length stamps ≡ length (s .times) + 1
+  pub stamps-long : length stamps ≡ length (s .times) + 1
   stamps-long = ap length (h .ready .stamps-now) ∙ length-append (s .times) (getD w 0 0 ∷ [])
 
   -- the base of the stamps is that of the state

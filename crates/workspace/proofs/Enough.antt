@@ -1,15 +1,23 @@
--- The largest room is enough for every call, and so are the marks.
-use Prim.Native.Nat.{ℕ, _<_, _≤_}
+-- What a call needs, by its times, and that the largest room always has it.
+use Prim.Native.Nat.{ℕ, _+_, _-_, _*_, _≤_, _<_}
 use native.Mathlib.Omega.{arith}
 use mathlib.Core.List.{List}
-use Rattle.method.specs.Room.{rowsNeeded, marksNeeded}
+use lib.ListN.{length}
+use Rattle.method.specs.Room.{rowsNeeded, marksNeeded, marksToTime}
 use Rattle.method.proofs.Room.{room-enough}
 use Rattle.call.specs.Settles.{callIn, ReadyIn}
-use Rattle.workspace.specs.Rooms.{largestRows}
+use Rattle.call.proofs.Calls.{stamps-long}
+use Rattle.workspace.specs.Rooms.{CallFits, largestRows, marks}
 
 module _ {b : List ℕ} {points : ℕ} {stamps os ns vs : List ℕ} {count : ℕ} {w f : List ℕ} (h : ReadyIn b points stamps os ns vs count w f) where
-  pub rows-enough : rowsNeeded (callIn b points stamps os ns vs count) w ≤ largestRows
-  rows-enough = room-enough (callIn b points stamps os ns vs count) (h .ready .formed) w .rows
-
-  pub marks-enough : marksNeeded (callIn b points stamps os ns vs count) w < 391
+  pub marks-enough : marksNeeded (callIn b points stamps os ns vs count) w < marks
   marks-enough = omega (arith, room-enough (callIn b points stamps os ns vs count) (h .ready .formed) w .marks)
+
+  pub largest-fits : CallFits (callIn b points stamps os ns vs count) w largestRows marks
+  largest-fits = (room-enough (callIn b points stamps os ns vs count) (h .ready .formed) w .rows, marks-enough)
+
+  pub stamps-few : length stamps ≤ 65
+  stamps-few = omega (arith, stamps-long h, h .ready .formed .few-times)
+
+  pub marks-by-times : marksNeeded (callIn b points stamps os ns vs count) w ≤ marksToTime * length stamps
+  marks-by-times = omega (arith, stamps-long h, room-enough (callIn b points stamps os ns vs count) (h .ready .formed) w .by-times)

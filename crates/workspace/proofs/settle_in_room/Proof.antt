@@ -1,39 +1,46 @@
--- `settle_in_room` meets its contract: where a call with less room is full, it is made with room for all entries; no room's function calls itself.
+-- `settle_in_room` meets its contract: where a call in a smaller room is full, it is made with room for all entries; no room's function calls itself.
+use Prim.Native.Nat.{_*_, _≤_}
+use lib.ListN.{length}
 use native.Mathlib.Omega.{arith}
 use mathlib.Core.Path.{_∙_}
-use Rattle.call.proofs.Calls.{again-ready, again-needs, again-settled}
 use borrow.Author.Needs.{needs}
+use Rattle.method.specs.Room.{rowsNeeded, marksNeeded, marksToTime}
+use Rattle.call.proofs.Calls.{again-ready, again-so, again-settled}
+use Rattle.workspace.proofs.Enough.{stamps-few, marks-by-times}
 use Rattle.workspace.proofs.settle_in_room.Statement.{statement}
 use Rattle.workspace.proofs.settle_in_room.Tie as tie
 
-keep-fewer-requires : tie.Need-keep-fewer-requires
-keep-fewer-requires c κs = let s = c .before .before .before .before .before .before .before .before .before .before .before .before .before in (c .before .before .before .before .never .ensures, (s .pre .0, s .pre .1))
+settle-smaller-requires : tie.Need-settle-smaller-requires
+settle-smaller-requires c κs = let s = c .before .before .before .before .before .before .before .before .before .before .before .before .before .before in (c .before .before .before .before .before .never .ensures, (s .pre .0, (s .pre .1, marks-by-times (s .pre .0))))
 
-keep-all-requires : tie.Need-keep-all-requires
-keep-all-requires c κs =
-    let s = c .before .before .before .before .before .before .before .before .before .before .before .before .before .before .before .before .before .before .before .before .before .before .before .before .before .before .before .before in
-    let g = rw (c .before .before .before .before .enum-told .given .1) at (c .before .before .before .before .before .before .before .before .before .before .before .before .before .before .keep-fewer .ensures) in
-    (c .before .before .before .before .before .before .before .before .before .before .before .before .before .before .before .before .before .before .before .never .ensures, (again-ready (s .pre .0) (g .1) (g .2) (g .3), again-needs (s .pre .0) (g .1) (g .2) (g .3) (s .args .needed) (s .pre .1)))
+settle-all-requires : tie.Need-settle-all-requires
+settle-all-requires c κs =
+    let s = c .before .before .before .before .before .before .before .before .before .before .before .before .before .before .before .before .before .before .before .before .before .before .before .before .before .before .before .before .before in
+    let g = rw (c .before .before .before .before .enum-told .given .1) at (c .before .before .before .before .before .before .before .before .before .before .before .before .before .before .settle-smaller .ensures) in
+    (c .before .before .before .before .before .before .before .before .before .before .before .before .before .before .before .before .before .before .before .before .never .ensures, (again-ready (s .pre .0) (g .1) (g .2) (g .3), again-so (s .pre .0) (g .1) (g .2) (g .3) (λ t. (rowsNeeded t (s .args .event .now) ≤ s .args .needed) × (marksNeeded t (s .args .event .now) ≤ marksToTime * length (s .args .stamps .now))) (s .pre .1, marks-by-times (s .pre .0))))
 
 returns : tie.Need-returns
-returns c = rw (c .before .tried .given .1) at (c .before .before .before .before .before .before .before .before .before .before .before .keep-fewer .ensures)
+returns c = rw (c .before .tried .given .1) at (c .before .before .before .before .before .before .before .before .before .before .before .settle-smaller .ensures)
 
 returns-2 : tie.Need-returns-2
 returns-2 c =
-    let s = c .before .before .before .before .before .before .before .before .before .before .before .before .before .before .before .before .before .before .before .before .before .before .before .before .before .before .before .before .before .before .before .before .before .before .before .before .before in
-    let g = rw (c .before .before .before .before .before .before .before .before .before .before .before .before .before .enum-told .given .1) at (c .before .before .before .before .before .before .before .before .before .before .before .before .before .before .before .before .before .before .before .before .before .before .before .keep-fewer .ensures) in
-    again-settled (s .pre .0) (g .1) (g .2) (g .3) (g .0) (c .before .before .before .before .before .before .before .before .keep-all .ensures)
+    let s = c .before .before .before .before .before .before .before .before .before .before .before .before .before .before .before .before .before .before .before .before .before .before .before .before .before .before .before .before .before .before .before .before .before .before .before .before .before .before in
+    let g = rw (c .before .before .before .before .before .before .before .before .before .before .before .before .before .enum-told .given .1) at (c .before .before .before .before .before .before .before .before .before .before .before .before .before .before .before .before .before .before .before .before .before .before .before .settle-smaller .ensures) in
+    again-settled (s .pre .0) (g .1) (g .2) (g .3) (g .0) (c .before .before .before .before .before .before .before .before .settle-all .ensures)
 
 pub settle-in-room-spec : {M : Type 1} → statement M
 settle-in-room-spec =
     tie.close
     (tie.spec
     (λ c κs. c .before .before .before .before .before .before .before .before .pre .0 .ready .not-full)
-    (λ c. omega (arith, c .before .before .before .before .before .before .before .before .before .pre .0 .few-kept))
-    keep-fewer-requires
+    (λ c. omega (arith, stamps-few (c .before .before .before .before .before .before .before .before .before .pre .0)))
+    (λ c. omega (arith, c .before .before .before .before .before .before .before .before .before .before .pre .0 .ready .event .there))
+    (λ c. search needs)
+    (λ c. omega (arith, c .before .before .before .before .before .before .before .before .before .before .pre .0 .few-kept, c .shared-slice-known5 .given 1))
+    settle-smaller-requires
     (λ c. search needs)
     (λ c. search needs)
-    keep-all-requires
+    settle-all-requires
     (λ c. c .before .before .before .before .before .before .before .before .before .before .owners .given)
     (λ c. c .before .before .before .before .before .before .before .before .numbers .given)
     (λ c. c .before .before .before .before .before .before .values .given)
