@@ -9,12 +9,13 @@ use lib.Dec.{ltb}
 use borrow.Author.Tests.{ltb-true, lt-ltb, not-true, not-false}
 use Rattle.meaning.specs.Lists.{range}
 use Rattle.meaning.specs.Order.{before}
-use Rattle.meaning.specs.Evaluator.{insert}
-use Rattle.meaning.proofs.Points.{first, second}
+use Rattle.meaning.specs.Evaluator.{insert, lookUp}
+use Rattle.meaning.proofs.Points.{Tested, passed, failed, tested, first, second}
+use Rattle.meaning.proofs.LookUp.{sized}
 use Rattle.rowset.specs.Rows.{rowAt, rowsFrom, placeOf, mostHeld, addCapped}
 use Rattle.rowset.specs.Sets.{Added}
 use Rattle.rowset.proofs.Saturation.{with-room, when-full}
-use Rattle.rowset.proofs.Places.{place-within, insert-there, insert-new}
+use Rattle.rowset.proofs.Places.{place-within, insert-there, insert-new, missed-before}
 use Rattle.rowset.proofs.Runs.{run-length, run-at, run-take, run-drop, rows-length}
 
 pub add-full : (ws r : List ℕ) (n : ℕ) → n ≤ mostHeld → mostHeld ≤ n → Added ws n ws n (r ∷ [])
@@ -31,6 +32,18 @@ module _ (at : ℕ → List ℕ) (n p : ℕ) (x : List ℕ) (e : p ≡ placeOf x
   at-place l =
       let z : 0 + p ≡ p = omega arith in
       ap (λ k. getD (map at (range 0 n)) k []) (sym e) ∙ run-at at [] 0 n p l ∙ ap at z
+
+  -- x doesn't stand at p where looking up doesn't find it
+  not-there : sized (length x) (map at (range 0 n)) ≡ true → lookUp x (map at (range 0 n)) ≡ false → false ≡ (ltb p n && not (before x (at p)))
+  not-there sizes missed = go (tested (ltb p n))
+    where
+      go : Tested (ltb p n) → false ≡ (ltb p n && not (before x (at p)))
+      go (passed t) =
+          let l : p < n = ltb-true p n t in
+          let m : placeOf x (map at (range 0 n)) < length (map at (range 0 n)) = omega (arith, run-length at 0 n) in
+          let q : before x (at p) ≡ true = ap (before x) (sym (at-place l)) ∙ missed-before x (map at (range 0 n)) sizes missed m in
+          rw (t, q)
+      go (failed t) = rw t
 
   module _ {stands : Bool} (is : stands ≡ (ltb p n && not (before x (at p)))) where
     -- x stands at p, and the run stays
@@ -75,3 +88,10 @@ module _ (ws r : List ℕ) (n p : ℕ) (room : n < mostHeld) (e : p ≡ 0 + plac
     pub add-new : stands ≡ false → (ws' : List ℕ) → length ws' ≡ length ws → rowsFrom ws' 0 (n + 1) ≡ rowsFrom ws 0 p ++ r ∷ rowsFrom ws p (n - p) → Added ws n ws' (n + 1) (r ∷ [])
     unfolding rowsFrom
     add-new none ws' same h = record { most = omega arith; long = same; set = h ∙ sym (taken-in ∙ goes-there (rowAt ws) n p r place-is is none) }
+
+  -- the row is put in where looking up doesn't find it
+  pub add-missed : sized (length r) (rowsFrom ws 0 n) ≡ true → lookUp r (rowsFrom ws 0 (n - 0)) ≡ false → (ws' : List ℕ) → length ws' ≡ length ws → rowsFrom ws' 0 (n + 1) ≡ rowsFrom ws 0 p ++ r ∷ rowsFrom ws p (n - p) → Added ws n ws' (n + 1) (r ∷ [])
+  unfolding rowsFrom
+  add-missed sizes missed =
+      let f : n - 0 ≡ n = omega arith in
+      add-new (not-there (rowAt ws) n p r place-is sizes (rw f at missed)) refl

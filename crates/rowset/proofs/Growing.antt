@@ -10,7 +10,7 @@ use lib.Dec.{ltb, leb}
 use borrow.Author.Tests.{ltb-true, leb-true, leb-false}
 use Rattle.meaning.specs.Lists.{range, select, sameRow}
 use Rattle.meaning.specs.Order.{ascending}
-use Rattle.meaning.specs.Evaluator.{insert, setOf, member, lookUp}
+use Rattle.meaning.specs.Evaluator.{insert, setOf, lookUp}
 use Rattle.meaning.proofs.Points.{Tested, passed, failed, tested, first, second}
 use Rattle.meaning.proofs.LookUp.{look-member}
 use Rattle.rowset.specs.declared.Row.{Row}
@@ -90,26 +90,24 @@ module _ (set : List (List ℕ)) (r : List ℕ) where
       go true = sym (insert-found r set e)
       go false = refl
 
+pub add-found : (ws r : List ℕ) (n : ℕ) → n ≤ mostHeld → lookUp r (rowsFrom ws 0 (n - 0)) ≡ true → Added ws n ws n (r ∷ [])
+add-found ws r n m e =
+    let z : n - 0 ≡ n = omega arith in
+    record { most = m; long = refl; set = found-stays (rowsFrom ws 0 n) r (rw z at e) }
+
 -- a row that one of the first n is, in a set that ascends, is found there, and nothing is put in
 module _ (ws : List ℕ) (r : Row) (n p : ℕ) (up : ascending (rowsFrom ws 0 n) ≡ true) where
-  is-member : p < n → sameRow (wordsOf r) (rowAt ws p) ≡ true → member (wordsOf r) (rowsFrom ws 0 n) ≡ true
+  is-found : p < n → sameRow (wordsOf r) (rowAt ws p) ≡ true → lookUp (wordsOf r) (rowsFrom ws 0 (n - 0)) ≡ true
   unfolding rowsFrom
-  is-member l e =
+  is-found l e =
       let z : 0 + p ≡ p = omega arith in
-      any-listed (sameRow (wordsOf r)) (rowAt ws) 0 n p l (rw z e)
-
-  pub add-found : n ≤ mostHeld → p < n → sameRow (wordsOf r) (rowAt ws p) ≡ true → Added ws n ws n (wordsOf r ∷ [])
-  add-found m l e =
-      record {
-        most = m;
-        long = refl;
-        set = found-stays (rowsFrom ws 0 n) (wordsOf r) (look-member (wordsOf r) (rowsFrom ws 0 n) (rows-sized ws 0 n) up ∙ is-member l e);
-      }
+      let f : n - 0 ≡ n = omega arith in
+      rw f (look-member (wordsOf r) (rowsFrom ws 0 n) (rows-sized ws 0 n) up ∙ any-listed (sameRow (wordsOf r)) (rowAt ws) 0 n p l (rw z e))
 
   pub add-at : n ≤ mostHeld → {t : Bool} → t ≡ (ltb p n && sameRow (wordsOf r) (rowAt ws p)) → t ≡ true → Added ws n ws n (wordsOf r ∷ [])
   add-at m is there =
       let both : (ltb p n && sameRow (wordsOf r) (rowAt ws p)) ≡ true = sym is ∙ there in
-      add-found m (ltb-true p n (first (ltb p n) (sameRow (wordsOf r) (rowAt ws p)) both)) (second (ltb p n) (sameRow (wordsOf r) (rowAt ws p)) both)
+      add-found ws (wordsOf r) n m (is-found (ltb-true p n (first (ltb p n) (sameRow (wordsOf r) (rowAt ws p)) both)) (second (ltb p n) (sameRow (wordsOf r) (rowAt ws p)) both))
 
 -- an ascending set still ascends with rows put in
 pub added-ascends : {old : List ℕ} {n : ℕ} {new : List ℕ} {k : ℕ} {rows : List (List ℕ)} → Added old n new k rows → ascending (rowsFrom old 0 n) ≡ true → ascending (rowsFrom new 0 k) ≡ true

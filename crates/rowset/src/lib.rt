@@ -10,7 +10,7 @@ ghost use Rattle.meaning.specs.Lists.{sameRow};
 ghost use Rattle.meaning.specs.Order.{before, ascending};
 ghost use Rattle.meaning.specs.Evaluator.{lookUp};
 ghost use Rattle.rowset.specs.Rows.{wordsOf, rowAt, setRow, rowsFrom, placeOf};
-ghost use Rattle.rowset.specs.Sets.{Run, SetRoom, Found, Added};
+ghost use Rattle.rowset.specs.Sets.{Run, SetRoom, Seeks, Added};
 
 // Rows at most that a set takes: one more than a node may have, so that too many shows.
 const MOST_HELD: usize = MOST_ROWS as usize + 1;
@@ -93,23 +93,29 @@ pub fn place(ws: &[u32], from: usize, to: usize, r: Row) -> usize
     i
 }
 
-// The number of the row in the run, or the run's end where it isn't there: looking for it stops at the first row that isn't before it.
-fn find(ws: &[u32], from: usize, to: usize, r: Row) -> usize
+// What looking for a row in a run gives: the number of the row where it is there; else the number of the first row that isn't before it, or the run's end.
+pub enum Sought {
+    Here(usize),
+    Behind(usize),
+}
+
+// Looks for the row in the run from its front: it stops at the first row that isn't before it.
+fn seek(ws: &[u32], from: usize, to: usize, r: Row) -> Sought
     requires { ⌜ Run (now ws) from to ⌝ }
-    ensures { λ p. ⌜ Found (now (ws .entry)) from to (wordsOf r) p ⌝ }
+    ensures { λ s. ⌜ Seeks (now (ws .entry)) from to (wordsOf r) s ⌝ }
 {
     let mut i = from;
     while i < to {
         let u = row_at(ws, i);
         if same_row(r, u) {
-            return i;
+            return Sought::Here(i);
         }
         if !is_before(u, r) {
-            return to;
+            return Sought::Behind(i);
         }
         i += 1;
     }
-    to
+    Sought::Behind(i)
 }
 
 // The row is in the run.
@@ -117,7 +123,11 @@ pub fn contains(ws: &[u32], from: usize, to: usize, r: Row) -> bool
     requires { ⌜ Run (now ws) from to ⌝ }
     ensures { λ t. ⌜ t ≡ lookUp (wordsOf r) (rowsFrom (now (ws .entry)) from (to - from)) ⌝ }
 {
-    find(ws, from, to, r) < to
+    let sought = seek(ws, from, to, r);
+    match sought {
+        Sought::Here(_) => true,
+        Sought::Behind(_) => false,
+    }
 }
 
 // Row p is one of the first n, and doesn't stand after r.
@@ -202,21 +212,27 @@ fn before_in_turn(p: usize, n: usize) -> usize {
     0
 }
 
-// Puts a row into an ascending set of n rows as `add` does, where it is mostly there already.
+// Puts a row into an ascending set of n rows as `add` does, where it is mostly there already. One search tells that it is, or else its place.
 fn add_sought(out: &mut [u32], n: usize, r: Row) -> Gathered
     requires { ⌜ SetRoom (now out) n × (ascending (rowsFrom (now out) 0 n) ≡ true) ⌝ }
     ensures { λ g. ⌜ Added (now (out .entry)) n (now (out .exit)) (g .count) (wordsOf r ∷ []) ⌝ }
 {
-    let p = find(out, 0, n, r);
-    if p < n {
-        return Gathered {
+    let sought = seek(out, 0, n, r);
+    match sought {
+        Sought::Here(p) => Gathered {
             count: n,
             near: before_in_turn(p, n),
-        };
-    }
-    Gathered {
-        count: add(out, n, r),
-        near: 0,
+        },
+        Sought::Behind(p) => {
+            if n < MOST_HELD {
+                put_in(out, n, p, r);
+                return Gathered {
+                    count: n + 1,
+                    near: 0,
+                };
+            }
+            Gathered { count: n, near: 0 }
+        }
     }
 }
 
