@@ -3,6 +3,7 @@ use limits::Refusal;
 use limits::Weighed;
 use meaning::Point;
 use node_step::NO_NODE;
+use node_step::NODE_WORDS;
 use node_step::SET_WORDS;
 use writer::Points;
 ghost use mathlib.Core.Path.{_≡_};
@@ -105,7 +106,7 @@ fn weigh_last(
     requires { ⌜ LastReady (now rule) (now figures) points (now stamps) (now rows) (now at) ⌝ }
     ensures { λ r. ⌜ Weighs (points + 1 - afterIn (now (figures .entry)) (lastNode (now (rule .entry)))) kept (words (now (rows .entry)) (now (at .entry)) (now (stamps .entry)) (lastPoints (now (rule .entry)) (now (figures .entry)) points (now (stamps .entry)))) (now (report .entry)) (now (report .exit)) r ⌝ }
 {
-    let x = ((rule[2] - 1) as usize) * 9;
+    let x = ((rule[2] - 1) as usize) * NODE_WORDS;
     let before = figures[x + 2];
     let after = figures[x + 3];
     let p = Points {

@@ -8,6 +8,7 @@ use meaning::Point;
 use meaning::RULE_BYTES;
 use meaning::Stamp;
 use meaning::Times;
+use node_step::NODE_WORDS;
 use rulenodes::greater;
 ghost use mathlib.Core.Path.{_≡_};
 ghost use mathlib.Core.List.{[], _∷_, _++_, map, List·Memᴰ};
@@ -297,7 +298,7 @@ pub fn fill_table(
     while x < n {
         put_node(
             table,
-            x * 9,
+            x * NODE_WORDS,
             rulenodes::wide(masks[x]),
             Point(lows[x]),
             before[x],
@@ -317,7 +318,7 @@ fn rows_in(table: &[u32], x: u8) -> u32
     requires { ⌜ Sized (now table) x ⌝ }
     ensures { λ r. ⌜ r ≡ rowsIn (now (table .entry)) x ⌝ }
 {
-    let at = (x as usize) * 9;
+    let at = (x as usize) * NODE_WORDS;
     let kept = progress::less(table[at + 6], table[at + 5]);
     let sets = progress::less(table[at + 3], table[at + 2]);
     kept + MOST_ROWS * sets
@@ -328,7 +329,7 @@ fn weight_in(table: &[u32], x: u8) -> u32
     requires { ⌜ x * nodeWords + nodeWords ≤ length (now table) ⌝ }
     ensures { λ r. ⌜ r ≡ weightIn (now (table .entry)) x ⌝ }
 {
-    let at = (x as usize) * 9;
+    let at = (x as usize) * NODE_WORDS;
     table[at + 8]
 }
 

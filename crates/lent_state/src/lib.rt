@@ -7,6 +7,7 @@ use meaning::MOST_NODES;
 use meaning::Point;
 use meaning::RULE_BYTES;
 use meaning::TIME_WORDS;
+use node_step::NODE_WORDS;
 ghost use mathlib.Core.Path.{_≡_};
 ghost use Prim.Native.Nat.{ℕ, _+_, _≤_, _<_};
 ghost use lib.ListN.{length, take};
@@ -88,7 +89,7 @@ fn take_admitted(
     let k = retained + 1;
     let mut stamps = [0u32; TIME_WORDS];
     let mut after = [0u32; MOST_NODES];
-    let mut table = [0u32; 288];
+    let mut table = [0u32; MOST_NODES * NODE_WORDS];
     let needed = figures::call_table(
         rule,
         points,

@@ -23,7 +23,7 @@ use Rattle.node_sets.specs.Parts.{Numbered}
 use Rattle.since.specs.Since.{heldIn}
 use Rattle.settling.specs.Inputs.{asked, InputsStand}
 use Rattle.node_step.specs.declared.Own.{Own}
-use Rattle.node_step.specs.Figures.{maskIn, lowIn, beforeIn, afterIn, wantIn, beginIn, pairsIn, endIn}
+use Rattle.node_step.specs.Figures.{maskIn, lowIn, beforeIn, afterIn, wantIn, beginIn, pairsIn, endIn, nodeWords}
 use Rattle.node_step.specs.Walks.{setWords, blockWord, blockIn}
 
 -- ---- what is read off the figures
@@ -34,7 +34,7 @@ childIn f y first = record { first = first; low = point (lowIn f y); count = aft
 
 -- node y's figures are there, and its mask fits a byte
 pub record ChildFigures (f : List ℕ) (y : ℕ) : Type 0 where
-  pub there : y * 9 + 9 ≤ length f
+  pub there : y * nodeWords + nodeWords ≤ length f
   pub mask : maskIn f y < 256
 
 -- the sets of a node's children, of which there are none, one or two
@@ -103,7 +103,7 @@ module _ (b w rows at times : List ℕ) (base : Point) (oldAges oldValues : List
     pub ordered : start .0 ≤ end .0
     pub small : n + (end .0 - start .0) < 4294967296
     pub asks : (i : Point) → start .0 ≤ i .0 → i .0 < end .0 → (rows' at' : List ℕ) → SetsInOrder rows' at' n → asked b w rows' at' oldAges oldValues left right start i node
-    pub space : Spaces rows at n (end .0 - start .0) (32 * (end .0 - start .0))
+    pub space : Spaces rows at n (end .0 - start .0) (mostRows * (end .0 - start .0))
 
   -- the points' sets stand behind the others, or one of the points has too many rows
   pub record PointsSettled (rows' at' : List ℕ) (done : Bool) : Type 0 where

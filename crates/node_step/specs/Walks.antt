@@ -6,7 +6,7 @@ use mathlib.Core.List.{List, [], _∷_, _++_, map}
 use lib.ListN.{length, getD}
 use lib.Dec.{eqb}
 use Rattle.meaning.specs.Lists.{range}
-use Rattle.meaning.specs.Outcome.{mostKept}
+use Rattle.meaning.specs.Outcome.{mostKept, mostNodes}
 use Rattle.meaning.specs.RuleFile.{nodeCount, lastNode}
 use Rattle.meaning.specs.Kept.{Entry, entryOf}
 use Rattle.method.specs.Stored.{Stored}
@@ -68,9 +68,9 @@ module _ (s : Stored) (w : List ℕ) where
     pub within : blockWord bl x 2 ≤ kept
     pub there : blockIn on ov bl x ≡ entriesNow s w x
 
-  -- how many of node x's sets stand: none where a node of its tree is crowded; low is the lowest such node, 32 where there is none
+  -- how many of node x's sets stand: none where a node of its tree is crowded; low is the lowest such node, `mostNodes` where there is none
   abbrev pub standing : ℕ → ℕ → ℕ
-  standing low x = cond (eqb low 32) (setsMost s w x) 0
+  standing low x = cond (eqb low mostNodes) (setsMost s w x) 0
 
   -- what is kept where none of the nodes P is crowded: W entries more, or one more than there is room for
   pub record Keeps (P : ℕ → Type 0) (W : ℕ) (on ov bl on' ov' bl' : List ℕ) (kept kept' : ℕ) : Type 0 where
@@ -82,24 +82,24 @@ module _ (s : Stored) (w : List ℕ) where
   pub record Walks (P : ℕ → Type 0) (W x h : ℕ) (rows at rows' at' on ov bl on' ov' bl' : List ℕ) (kept : ℕ) (r : Place) : Type 0 where
     pub more : Extended rows at rows' at' h (standing (r .low) x) (turnSet x)
     pub stand : Sets rows' at' (h + standing (r .low) x)
-    pub row-end : getD at' (h + standing (r .low) x) 0 ≤ getD at h 0 + cond (eqb (r .low) 32) (rowsMost s w x) 0
-    pub low : r .low ≤ 32
-    pub inside : r .low < 32 → r .low ≤ x
-    pub told : r .low < 32 → crowdedNow s w (r .low) ≡ true
+    pub row-end : getD at' (h + standing (r .low) x) 0 ≤ getD at h 0 + cond (eqb (r .low) mostNodes) (rowsMost s w x) 0
+    pub low : r .low ≤ mostNodes
+    pub inside : r .low < mostNodes → r .low ≤ x
+    pub told : r .low < mostNodes → crowdedNow s w (r .low) ≡ true
     pub calm : (y : ℕ) → P y → y < r .low → crowdedNow s w y ≡ false
     pub few : r .kept ≤ length on + 1
     pub onLong : length on' ≡ length on
     pub ovLong : length ov' ≡ length ov
     pub blLong : length bl' ≡ length bl
-    pub keeps : r .low ≡ 32 → Keeps P W on ov bl on' ov' bl' kept (r .kept)
+    pub keeps : r .low ≡ mostNodes → Keeps P W on ov bl on' ov' bl' kept (r .kept)
 
   -- what the walk over the whole tree leaves: the lowest crowded node; or the last node's sets from set 0 on, and each node's block
   pub record Walked (rows at on ov bl : List ℕ) (room : ℕ) (r : Place) : Type 0 where
-    pub low : r .low ≤ 32
-    pub told : r .low < 32 → (r .low < nodeCount (s .rule)) × (crowdedNow s w (r .low) ≡ true)
+    pub low : r .low ≤ mostNodes
+    pub told : r .low < mostNodes → (r .low < nodeCount (s .rule)) × (crowdedNow s w (r .low) ≡ true)
     pub calm : (y : ℕ) → y < nodeCount (s .rule) → y < r .low → crowdedNow s w y ≡ false
-    pub stand : r .low ≡ 32 → Sets rows at (setsMost s w (lastNode (s .rule)))
-    pub there : r .low ≡ 32 → (k : ℕ) → k < setsMost s w (lastNode (s .rule)) → setIn rows at k ≡ turnSet (lastNode (s .rule)) k
-    pub counted : r .low ≡ 32 → r .kept ≡ min (room + 1) (length (storedNow s w .entries))
-    pub blocks : r .low ≡ 32 → r .kept ≤ room → (y : ℕ) → y < nodeCount (s .rule) → BlockStands on ov bl (r .kept) y
+    pub stand : r .low ≡ mostNodes → Sets rows at (setsMost s w (lastNode (s .rule)))
+    pub there : r .low ≡ mostNodes → (k : ℕ) → k < setsMost s w (lastNode (s .rule)) → setIn rows at k ≡ turnSet (lastNode (s .rule)) k
+    pub counted : r .low ≡ mostNodes → r .kept ≡ min (room + 1) (length (storedNow s w .entries))
+    pub blocks : r .low ≡ mostNodes → r .kept ≤ room → (y : ℕ) → y < nodeCount (s .rule) → BlockStands on ov bl (r .kept) y
     pub onLong : length on ≡ room

@@ -15,7 +15,7 @@ ghost use Rattle.method.specs.Step.{entriesNow};
 ghost use Rattle.method.specs.Room.{rowsMost, setsMost};
 ghost use Rattle.rowset.specs.Sets.{SetRoom};
 ghost use Rattle.entries.specs.Appended.{Space};
-ghost use Rattle.node_step.specs.Figures.{called, CallReady};
+ghost use Rattle.node_step.specs.Figures.{called, CallReady, nodeWords};
 ghost use Rattle.node_step.specs.Walks.{setWords, RoomFor, ChildrenStand, OutThere, Walks};
 ghost use Rattle.node_step.specs.Parts.{childIn, ChildFigures, ChildSetsAre, OwnFigures, agesOf, SetPushed, NextReady, NextSettled, LeafReady, LeafSettled, PointsReady, PointsSettled, PairsReady, PairsKept, BlockReady, BlockKept};
 
@@ -33,6 +33,9 @@ const MOST: usize = MOST_ROWS as usize;
 
 // The first words of the table of blocks are lent to the set that is being made: 33 rows of 4 words, one row more than a set may have, so that one too many shows.
 pub const SET_WORDS: usize = (MOST + 1) * 4;
+
+// The words of a node in the table of figures.
+pub const NODE_WORDS: usize = 9;
 
 // The number that stands for no node: one more than the last of as many as a rule may have.
 pub const NO_NODE: u8 = MOST_NODES as u8;
@@ -62,10 +65,10 @@ struct ChildSets {
 
 // The figures of node x.
 fn own_figures(figures: &[u32], x: u8) -> Own
-    requires { ⌜ x * 9 + 9 ≤ length (now figures) ⌝ }
+    requires { ⌜ x * nodeWords + nodeWords ≤ length (now figures) ⌝ }
     ensures { λ r. ⌜ OwnFigures (now (figures .entry)) x r ⌝ }
 {
-    let k = x as usize * 9;
+    let k = x as usize * NODE_WORDS;
     Own {
         low: Point(figures[k + 1]),
         before: figures[k + 2],
@@ -82,7 +85,7 @@ fn child_at(figures: &[u32], y: u8, first: usize) -> Child
     requires { ⌜ ChildFigures (now figures) y ⌝ }
     ensures { λ r. ⌜ r ≡ childIn (now (figures .entry)) y first ⌝ }
 {
-    let k = y as usize * 9;
+    let k = y as usize * NODE_WORDS;
     Child {
         first,
         low: Point(figures[k + 1]),

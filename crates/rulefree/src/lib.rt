@@ -4,6 +4,7 @@ use meaning::Sides;
 use meaning::Term;
 use meaning::Terms;
 use rulenodes::has_bit;
+use rulenodes::one_if;
 ghost use mathlib.Core.Path.{_≡_};
 ghost use Prim.Native.Nat.{_+_, _*_, _≤_};
 ghost use lib.ListN.{getD};
@@ -11,12 +12,6 @@ ghost use Rattle.meaning.specs.Lists.{any};
 ghost use Rattle.meaning.specs.Formula.{termsOf, isVariable, termWithin};
 ghost use Rattle.meaning.specs.RuleFile.{oneIf, maskOf};
 ghost use Rattle.rulefree.specs.Mask.{variableIn, eitherMask, maskWithout, maskWithin, sidesWithin, nodeMask, nodeFits};
-
-fn one_if(b: bool) -> u8
-    ensures { λ r. ⌜ (r ≡ oneIf b) × (r ≤ 1) ⌝ }
-{
-    if b { 1 } else { 0 }
-}
 
 // The mask of the variables whose tests hold.
 fn mask_of(a: bool, b: bool, c: bool, d: bool) -> u8

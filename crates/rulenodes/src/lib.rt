@@ -16,7 +16,7 @@ ghost use mathlib.Core.List.{[]};
 ghost use Prim.Native.Nat.{ℕ, _+_, _*_, _≤_, _<_, max};
 ghost use lib.ListN.{length};
 ghost use Rattle.meaning.specs.View.{here, viewOf, childrenIn};
-ghost use Rattle.meaning.specs.RuleFile.{wordAt, nodeCount, arity, headAt, bodyAt, bodies, bit, termOf, comparisonOf, termsOfBody, nodeOf, nodeAt, childrenOf};
+ghost use Rattle.meaning.specs.RuleFile.{wordAt, nodeCount, arity, headAt, bodyAt, bodies, bit, termOf, comparisonOf, termsOfBody, nodeOf, nodeAt, childrenOf, oneIf};
 ghost use Rattle.meaning.specs.declared.Body.{Body};
 ghost use Rattle.meaning.specs.declared.Node.the-variants.{Atom};
 
@@ -32,6 +32,13 @@ pub fn greater(a: u32, b: u32) -> u32
     ensures { λ r. ⌜ r ≡ max a b ⌝ }
 {
     if a < b { b } else { a }
+}
+
+// 1 for true, 0 for false.
+pub fn one_if(b: bool) -> u8
+    ensures { λ r. ⌜ (r ≡ oneIf b) × (r ≤ 1) ⌝ }
+{
+    if b { 1 } else { 0 }
 }
 
 // The word at byte k.

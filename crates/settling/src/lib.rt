@@ -26,14 +26,6 @@ ghost use Rattle.untils.specs.Until.{leftTest, Stand};
 ghost use Rattle.settling.specs.Children.{childSet, SetStands};
 ghost use Rattle.settling.specs.Inputs.{asked, rightIn, PointSettled, PairsSettled};
 
-// The window holds what has elapsed from point j to point k.
-fn due(times: &[u32], base: Point, w: Window, j: Point, k: Point) -> bool
-    ensures { λ r. ⌜ r ≡ inWindow w (elapsed (stampIn base (now (times .entry)) j) (stampIn base (now (times .entry)) k)) ⌝ }
-{
-    let start = progress::time_in(times, base, j);
-    untils::due(times, base, w, start, k)
-}
-
 // Puts in a child's set at point j.
 fn copy_at(c: Child, rows: &[u32], at: &[u32], j: Point, out: &mut [u32], n: usize) -> usize
     requires { ⌜ SetStands (now rows) (now at) c j ⌝ }
@@ -138,7 +130,9 @@ fn previous_at(
 {
     if 0 < i.0 {
         let j = Point(i.0 - 1);
-        let ok = due(times, base, w, j, i);
+        let then = progress::time_in(times, base, j);
+        let here = progress::time_in(times, base, i);
+        let ok = untils::due(w, then, here);
         return copy_if(ok, a, rows, at, j, out);
     }
     0
@@ -160,7 +154,9 @@ fn next_at(
     ensures { λ k. ⌜ Added (now (out .entry)) 0 (now (out .exit)) k (cond (inWindow w (elapsed (stampIn base (now (times .entry)) i) (stampIn base (now (times .entry)) (pointAfter i)))) (childSet (now (rows .entry)) (now (at .entry)) a (pointAfter i)) []) ⌝ }
 {
     let j = Point(i.0 + 1);
-    let ok = due(times, base, w, i, j);
+    let here = progress::time_in(times, base, i);
+    let then = progress::time_in(times, base, j);
+    let ok = untils::due(w, here, then);
     copy_if(ok, a, rows, at, j, out)
 }
 

@@ -1,7 +1,6 @@
 // The since kinds at a newly settled point, straight from their definition: right's rows from the first newly settled point on, and the pairs that were held before it.
 use meaning::Left;
 use meaning::Point;
-use meaning::Stamp;
 use meaning::Window;
 use room::Child;
 use rowset::Row;
@@ -12,8 +11,7 @@ ghost use mathlib.Core.List.{[], _∷_, map};
 ghost use lib.ListN.{length};
 ghost use lib.Dec.{ltb, leb};
 ghost use Rattle.meaning.specs.Lists.{select};
-ghost use Rattle.meaning.specs.Log.{point, elapsed};
-ghost use Rattle.meaning.specs.Formula.{inWindow};
+ghost use Rattle.meaning.specs.Log.{point};
 ghost use Rattle.meaning.specs.Order.{ascending};
 ghost use Rattle.meaning.specs.Evaluator.{setOf};
 ghost use Rattle.meaning.specs.Kept.{belowEnd, countedAge};
@@ -129,14 +127,6 @@ fn put_point_if(
     n
 }
 
-// The window holds what has elapsed from point j up to a stamp.
-fn is_due(times: &[u32], base: Point, w: Window, j: Point, here: Stamp) -> bool
-    ensures { λ r. ⌜ r ≡ inWindow w (elapsed (stampIn base (now (times .entry)) j) here) ⌝ }
-{
-    let then = progress::time_in(times, base, j);
-    untils::in_window(w, untils::elapsed(then, here))
-}
-
 // The rows at point i that right's rows from point start on give, put into an empty set, the last point first.
 fn put_fresh(
     left: Left,
@@ -164,7 +154,7 @@ fn put_fresh(
     let mut x = 0;
     while x < count {
         let j = Point(i.0 - x);
-        let ok = is_due(times, base, w, j, here);
+        let ok = untils::due(w, progress::time_in(times, base, j), here);
         k = put_point_if(ok, left, a, b, rows, at, j, end, out, k);
         x += 1;
     }

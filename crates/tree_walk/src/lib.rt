@@ -1,6 +1,7 @@
 // The walk over a rule's tree in a call: a node's children first, of two the heavier first, then the node itself, whose sets take the place of its children's.
 use meaning::Children;
 use node_step::NO_NODE;
+use node_step::NODE_WORDS;
 use node_step::Place;
 use node_step::Spot;
 use node_step::leaf_step;
@@ -30,8 +31,8 @@ fn ordered(figures: &[u32], left: u8, right: u8) -> Sides
     requires { ⌜ (left * nodeWords + nodeWords ≤ length (now figures)) × (right * nodeWords + nodeWords ≤ length (now figures)) ⌝ }
     ensures { λ r. ⌜ Ordered (now (figures .entry)) left right r ⌝ }
 {
-    let i = (left as usize) * 9 + 8;
-    let j = (right as usize) * 9 + 8;
+    let i = (left as usize) * NODE_WORDS + 8;
+    let j = (right as usize) * NODE_WORDS + 8;
     if figures[i] < figures[j] {
         return Sides {
             first: right,
@@ -80,7 +81,7 @@ fn sets_of(figures: &[u32], x: u8) -> usize
     requires { ⌜ (x * nodeWords + nodeWords ≤ length (now figures)) × (lowIn (now figures) x ≤ afterIn (now figures) x) ⌝ }
     ensures { λ r. ⌜ r ≡ afterIn (now (figures .entry)) x - lowIn (now (figures .entry)) x ⌝ }
 {
-    let i = (x as usize) * 9;
+    let i = (x as usize) * NODE_WORDS;
     (figures[i + 3] - figures[i + 1]) as usize
 }
 

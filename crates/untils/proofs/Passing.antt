@@ -1,6 +1,6 @@
 -- Left's test over a run of points, one point at a time; and what one point adds to until's rows.
 use Prim.Native.Nat.{ℕ, suc, _+_, _-_, _≤_, _<_}
-use mathlib.Core.Path.{_≡_, refl, sym, ap, _∙_}
+use mathlib.Core.Path.{_≡_, refl, sym, ap, ap₂, _∙_}
 use mathlib.Core.Bool.{Bool, true, false, cond}
 use mathlib.Core.List.{List, [], _∷_, _++_}
 use native.Mathlib.Numerals.{add-one}
@@ -54,6 +54,10 @@ gather-one p f x xs = go (p x)
     go true = refl
     go false = refl
 
+-- the window's test of two stamps, each as it was read
+pub due-read : (w : Window) {s t a b : Stamp} {ok : Bool} → a ≡ s → b ≡ t → ok ≡ inWindow w (elapsed a b) → ok ≡ inWindow w (elapsed s t)
+due-read w d e f = f ∙ ap₂ (λ a b. inWindow w (elapsed a b)) d e
+
 -- until's rows over some points, and what one point gives
 module _ (τ : Point → Stamp) (w : Window) (left : List ℕ → Point → Bool) (right : Point → List (List ℕ)) (i : Point) where
   abbrev pub overPoints : List Point → List (List ℕ)
@@ -66,5 +70,5 @@ module _ (τ : Point → Stamp) (w : Window) (left : List ℕ → Point → Bool
   point-one j js = gather-one (λ j. inWindow w (elapsed (τ i) (τ j))) (leading left right i) j js
 
   -- the same as the code computes it
-  pub point-as : (j : Point) {start : Stamp} {ok : Bool} → start ≡ τ i → ok ≡ inWindow w (elapsed start (τ j)) → cond ok (leading left right i j) [] ≡ atPoint j
-  point-as j e f = ap (λ t. cond t (leading left right i j) []) (f ∙ ap (λ s. inWindow w (elapsed s (τ j))) e)
+  pub point-as : (j : Point) {start here : Stamp} {ok : Bool} → start ≡ τ i → here ≡ τ j → ok ≡ inWindow w (elapsed start here) → cond ok (leading left right i j) [] ≡ atPoint j
+  point-as j d e f = ap (λ t. cond t (leading left right i j) []) (due-read w d e f)

@@ -27,7 +27,7 @@ pub struct Part {
 }
 
 // The window holds t.
-pub fn in_window(w: Window, t: u32) -> bool
+fn in_window(w: Window, t: u32) -> bool
     ensures { λ r. ⌜ r ≡ inWindow w t ⌝ }
 {
     if t < w.start {
@@ -46,11 +46,11 @@ pub fn elapsed(s: Stamp, t: Stamp) -> u32
     if s.0 < t.0 { t.0 - s.0 } else { 0 }
 }
 
-// The window holds what has elapsed from a stamp to point j's.
-pub fn due(times: &[u32], base: Point, w: Window, start: Stamp, j: Point) -> bool
-    ensures { λ r. ⌜ r ≡ inWindow w (elapsed start (stampIn base (now (times .entry)) j)) ⌝ }
+// The window holds what has elapsed from the first stamp to the second.
+pub fn due(w: Window, s: Stamp, t: Stamp) -> bool
+    ensures { λ r. ⌜ r ≡ inWindow w (elapsed s t) ⌝ }
 {
-    in_window(w, elapsed(start, progress::time_in(times, base, j)))
+    in_window(w, elapsed(s, t))
 }
 
 // A node's set at point j stands in the rows from..to, where set first is its set at point low.
@@ -219,7 +219,7 @@ pub fn until(
     let mut j = i.0;
     while j < m {
         let here = Point(j);
-        let ok = due(times, base, w, start, here);
+        let ok = due(w, start, progress::time_in(times, base, here));
         k = put_point_if(ok, left, mask, rows, at, fa, la, fb, lb, i, here, out, k);
         j += 1;
     }
@@ -241,7 +241,7 @@ fn due_run(
 {
     let mut k = j.0;
     while k < m {
-        if due(times, base, w, start, Point(k)) != want {
+        if due(w, start, progress::time_in(times, base, Point(k))) != want {
             return Point(k);
         }
         k += 1;

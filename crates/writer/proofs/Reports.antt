@@ -10,6 +10,7 @@ use Rattle.meaning.specs.Lists.{range, select, gather, total}
 use Rattle.meaning.specs.Log.{point, pointsFrom}
 use Rattle.meaning.specs.Formula.{variables}
 use Rattle.meaning.specs.Report.{Reported, triple, rowWords, reportWords}
+use Rattle.meaning.specs.RuleFile.{oneIf}
 use Rattle.meaning.specs.Keeper.{reportRow}
 use Rattle.meaning.specs.declared.Point.{Point}
 use Rattle.meaning.specs.declared.Stamp.{Stamp}
@@ -27,19 +28,19 @@ use Rattle.writer.specs.Words.{freeCount, pointsOf, setOf, firstSet, end
 use Rattle.writer.proofs.Gathers.{gather-length, gather-map}
 
 -- one more where the test passed
-select-one : (f : ℕ → Bool) (x : ℕ) (xs : List ℕ) → length (select f (x ∷ xs)) ≡ cond (f x) 1 0 + length (select f xs)
+select-one : (f : ℕ → Bool) (x : ℕ) (xs : List ℕ) → length (select f (x ∷ xs)) ≡ oneIf (f x) + length (select f xs)
 select-one f x xs = by-test (f x)
   where
-    by-test : (t : Bool) → length (cond t (x ∷ select f xs) (select f xs)) ≡ cond t 1 0 + length (select f xs)
+    by-test : (t : Bool) → length (cond t (x ∷ select f xs) (select f xs)) ≡ oneIf t + length (select f xs)
     by-test true = omega arith
     by-test false = omega arith
 
 -- a test that counts one
-counted : {a : ℕ} {p t : Bool} → a ≡ cond p 1 0 → p ≡ t → a ≡ cond t 1 0
+counted : {a : ℕ} {p t : Bool} → a ≡ oneIf p → p ≡ t → a ≡ oneIf t
 counted e f = cc
 
 -- four variables, each counted by its test
-pub count-four : (mask : ℕ) {a b c d : ℕ} {p q r t : Bool} → a ≡ cond p 1 0 → p ≡ inMask mask 0 → b ≡ cond q 1 0 → q ≡ inMask mask 1 → c ≡ cond r 1 0 → r ≡ inMask mask 2 → d ≡ cond t 1 0 → t ≡ inMask mask 3 → a + (b + (c + d)) ≡ freeCount mask
+pub count-four : (mask : ℕ) {a b c d : ℕ} {p q r t : Bool} → a ≡ oneIf p → p ≡ inMask mask 0 → b ≡ oneIf q → q ≡ inMask mask 1 → c ≡ oneIf r → r ≡ inMask mask 2 → d ≡ oneIf t → t ≡ inMask mask 3 → a + (b + (c + d)) ≡ freeCount mask
 count-four mask e0 f0 e1 f1 e2 f2 e3 f3 =
     omega (
       arith,

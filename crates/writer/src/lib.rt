@@ -2,6 +2,8 @@
 use meaning::Point;
 use meaning::Stamp;
 use rowset::Row;
+use rulenodes::has_bit;
+use rulenodes::one_if;
 ghost use mathlib.Core.Path.{_≡_};
 ghost use mathlib.Core.Bool.{cond};
 ghost use mathlib.Core.List.{List, [], _∷_};
@@ -39,32 +41,15 @@ pub enum Wrote {
     Short(usize),
 }
 
-// Whether the variable is free whose bit of the mask is 1, 2, 4 or 8.
-fn is_free(mask: u8, bit: u8) -> bool
-    requires { ⌜ 0 < bit ⌝ }
-    ensures { λ t. ⌜ t ≡ eqb (mask / bit % 2) 1 ⌝ }
-{
-    mask / bit % 2 == 1
-}
-
-fn one_if(t: bool) -> u32
-    ensures { λ r. ⌜ (r ≡ cond t 1 0) × (r ≤ 1) ⌝ }
-{
-    if t {
-        return 1;
-    }
-    0
-}
-
 // How many variables are free.
 fn free_count(mask: u8) -> u32
     ensures { λ r. ⌜ (r ≡ freeCount mask) × (r ≤ 4) ⌝ }
 {
-    let a = one_if(is_free(mask, 1));
-    let b = one_if(is_free(mask, 2));
-    let c = one_if(is_free(mask, 4));
-    let d = one_if(is_free(mask, 8));
-    a + (b + (c + d))
+    let a = one_if(has_bit(mask, 1));
+    let b = one_if(has_bit(mask, 2));
+    let c = one_if(has_bit(mask, 4));
+    let d = one_if(has_bit(mask, 8));
+    rulenodes::wide(a + (b + (c + d)))
 }
 
 // The set of point i.
@@ -132,7 +117,7 @@ fn put_free(mask: u8, bit: u8, buf: &mut [u32], at: usize, word: u32) -> usize
     requires { ⌜ at + length (cond (eqb (mask / bit % 2) 1) (word ∷ []) []) ≤ length (now buf) ⌝ }
     ensures { λ r. ⌜ Put (now (buf .entry)) at (cond (eqb (mask / bit % 2) 1) (word ∷ []) []) (now (buf .exit)) r ⌝ }
 {
-    if is_free(mask, bit) {
+    if has_bit(mask, bit) {
         return put_at(buf, at, word);
     }
     at

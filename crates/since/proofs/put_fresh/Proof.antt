@@ -14,6 +14,7 @@ use Rattle.method.specs.Stored.{stampIn}
 use Rattle.rowset.proofs.Growing.{ended, Through, begun-all, turned, added-as}
 use Rattle.room.specs.Room.{setAt}
 use Rattle.untils.proofs.Spans.{stand-part}
+use Rattle.untils.proofs.Passing.{due-read}
 use Rattle.since.proofs.Fresh.{lastingTo, rowsOver, rowsOf, rows-one, rows-fresh}
 use Rattle.since.proofs.put_fresh.Statement.{statement}
 use Rattle.since.proofs.put_fresh.Tie as tie
@@ -31,10 +32,10 @@ loop-holds c = begun-all (c .before .before .before .before .before .before .bef
 
 put-point-if-requires : tie.Need-put-point-if-requires Inv-loop μ-loop
 put-point-if-requires c κs =
-    let s = c .before .before .before .before .before .before .before .before .before .before .before .before .before in
-    let l = c .before .before .before .before .loop in
+    let s = c .before .before .before .before .before .before .before .before .before .before .before .before .before .before in
+    let l = c .before .before .before .before .before .loop in
     let i : ℕ = s .args .i .0 in
-    let m : l .x < i + 1 - s .args .start .0 = c .before .before .before .loop-test .taken in
+    let m : l .x < i + 1 - s .args .start .0 = c .before .before .before .before .loop-test .taken in
     let o = s .pre .1 .0 .ordered in (
       stand-part (s .pre .1 .0) (point (i - l .x + 1)) (i + 1) (omega (arith, m)) (omega (arith, m)) (omega arith),
       (stand-part (s .pre .1 .1 .0) (point (i - l .x)) (i - l .x + 1) (omega (arith, m)) (omega arith) (omega (arith, m)), record { most = l .inv .put .most; there = omega (arith, l .inv .put .long, s .pre .1 .1 .1 .there) }),
@@ -42,14 +43,14 @@ put-point-if-requires c κs =
 
 loop-again : tie.Need-loop-again Inv-loop μ-loop
 loop-again c =
-    let a = c .before .before .before .before .before .before .before .before .before .before .before .before .before .before .before .before .args in
-    let j : Point = point (a .i .0 - c .before .before .before .before .before .before .before .loop .x) in
+    let a = c .before .before .before .before .before .before .before .before .before .before .before .before .before .before .before .before .before .args in
+    let j : Point = point (a .i .0 - c .before .before .before .before .before .before .before .before .loop .x) in
     let sets : Point → List (List ℕ) = setAt (a .rows .now) (a .at .now) (a .a .first) (a .a .low) in
     let right : Point → List (List ℕ) = setAt (a .rows .now) (a .at .now) (a .b .first) (a .b .low) in
     let τ : Point → Stamp = stampIn (a .base) (a .times .now) in
-    let here : Stamp = c .before .before .before .before .before .before .before .before .before .before .before .time-in .result in
-    turned (c .before .before .before .before .before .before .before .loop .inv) (rowsOf (a .left) (a .a .mask) sets right τ (a .w) here (point (a .i .0 + 1))) (rows-one (a .left) (a .a .mask) sets right τ (a .w) here (point (a .i .0 + 1))) (c .before .before .before .before .before .before .loop-test .taken) (c .before .before .put-point-if .ensures)
-    (ap (λ t. cond t (lastingTo (a .left) (a .a .mask) sets right (point (a .i .0 + 1)) j) []) (c .before .before .before .before .is-due .ensures))
+    let here : Stamp = c .before .before .before .before .before .before .before .before .before .before .before .before .time-in .result in
+    turned (c .before .before .before .before .before .before .before .before .loop .inv) (rowsOf (a .left) (a .a .mask) sets right τ (a .w) here (point (a .i .0 + 1))) (rows-one (a .left) (a .a .mask) sets right τ (a .w) here (point (a .i .0 + 1))) (c .before .before .before .before .before .before .before .loop-test .taken) (c .before .before .put-point-if .ensures)
+    (ap (λ t. cond t (lastingTo (a .left) (a .a .mask) sets right (point (a .i .0 + 1)) j) []) (due-read (a .w) (c .before .before .before .before .before .time-in2 .ensures) refl (c .before .before .before .before .due .ensures)))
 
 returns : tie.Need-returns Inv-loop μ-loop
 returns c =
@@ -69,6 +70,7 @@ put-fresh-spec =
     (λ c. omega (arith, c .before .before .before .before .before .before .before .before .pre .1 .0 .ordered))
     loop-holds
     (λ c. omega (arith, c .before .loop-test .taken))
+    (λ c κs. search needs)
     (λ c κs. search needs)
     put-point-if-requires
     (λ c. omega arith)

@@ -1,15 +1,9 @@
--- `due` meets its contract: the three results, one put into the next.
+-- `due` meets its contract: one result put into the other.
 use mathlib.Core.Path.{ap, _∙_}
 use borrow.Author.Needs.{needs}
 use Rattle.meaning.specs.Formula.{inWindow}
-use Rattle.meaning.specs.Log.{elapsed}
 use Rattle.untils.proofs.due.Statement.{statement}
 use Rattle.untils.proofs.due.Tie as tie
 
-returns : tie.Need-returns
-returns c =
-    let a = c .before .before .before .before .args in
-    c .in-window .ensures ∙ ap (inWindow (a .w)) (c .before .elapsed .ensures ∙ ap (elapsed (a .start)) (c .before .before .time-in .ensures))
-
 pub due-spec : {M : Type 1} → statement M
-due-spec = tie.close (tie.spec (λ c κs. search needs) (λ c κs. search needs) (λ c κs. search needs) returns)
+due-spec = tie.close (tie.spec (λ c κs. search needs) (λ c κs. search needs) (λ c. c .in-window .ensures ∙ ap (inWindow (c .before .before .args .w)) (c .before .elapsed .ensures)))

@@ -32,24 +32,24 @@ loop-holds c =
 
 put-point-if-requires : tie.Need-put-point-if-requires Inv-loop μ-loop
 put-point-if-requires c κs =
-    let s = c .before .before .before .before .before .before .before .before .before .pre in
-    let j : ℕ = c .before .before .before .loop .j in
+    let s = c .before .before .before .before .before .before .before .before .before .before .pre in
+    let j : ℕ = c .before .before .before .before .loop .j in
     (stand-part (s .0) _ j (omega arith) (omega arith) (omega arith), (stand-part (s .1 .0) (point j) (j + 1) (omega arith) (omega arith) (omega arith), search needs))
 
 loop-again : tie.Need-loop-again Inv-loop μ-loop
 loop-again c =
-    let a = c .before .before .before .before .before .before .before .before .before .before .before .before .args in
+    let a = c .before .before .before .before .before .before .before .before .before .before .before .before .before .args in
     let τ : Point → Stamp = stampIn (a .base) (a .times .now) in
     let left : List ℕ → Point → Bool = leftTest (a .left) (a .mask) (setAt (a .rows .now) (a .at .now) (a .fa) (a .la)) in
     let right : Point → List (List ℕ) = setAt (a .rows .now) (a .at .now) (a .fb) (a .lb) in
-    let v = c .before .before .before .before .before .before .loop .inv in (
+    let v = c .before .before .before .before .before .before .before .loop .inv in (
       omega arith,
-      turned (v .1) (atPoint τ (a .w) left right (a .i)) (point-one τ (a .w) left right (a .i)) (c .before .before .before .before .before .loop-test .taken) (c .before .before .put-point-if .ensures)
-          (point-as τ (a .w) left right (a .i) (point (c .before .before .before .before .before .before .loop .j)) (c .before .before .before .before .before .before .before .time-in .ensures) (c .before .before .before .before .due .ensures)),
+      turned (v .1) (atPoint τ (a .w) left right (a .i)) (point-one τ (a .w) left right (a .i)) (c .before .before .before .before .before .before .loop-test .taken) (c .before .before .put-point-if .ensures)
+          (point-as τ (a .w) left right (a .i) (point (c .before .before .before .before .before .before .before .loop .j)) (c .before .before .before .before .before .before .before .before .time-in .ensures) (c .before .before .before .before .before .time-in2 .ensures) (c .before .before .before .before .due .ensures)),
     )
 
 returns : tie.Need-returns Inv-loop μ-loop
 returns c = ended (c .before .loop .inv .1) refl (c .loop-test .left)
 
 pub until-spec : {M : Type 1} → statement M
-until-spec = tie.close (tie.spec Inv-loop μ-loop (λ c κs. search needs) loop-holds (λ c κs. search needs) put-point-if-requires (λ c. omega arith) (λ c. omega arith) loop-again (λ c. c .before .loop .inv .1 .put .long) returns)
+until-spec = tie.close (tie.spec Inv-loop μ-loop (λ c κs. search needs) loop-holds (λ c κs. search needs) (λ c κs. search needs) put-point-if-requires (λ c. omega arith) (λ c. omega arith) loop-again (λ c. c .before .loop .inv .1 .put .long) returns)

@@ -1,4 +1,5 @@
 -- Each variable that is free counts one.
+use mathlib.Core.Path.{_∙_}
 use native.Mathlib.Omega.{arith}
 use borrow.Author.Needs.{needs}
 use Rattle.writer.proofs.Reports.{count-four}
@@ -6,14 +7,15 @@ use Rattle.writer.proofs.free_count.Statement.{statement}
 use Rattle.writer.proofs.free_count.Tie as tie
 
 returns : tie.Need-returns
-returns c = (
-  count-four (c .before .before .before .before .before .before .before .before .args .mask)
-      (c .before .before .before .before .before .before .one-if .ensures .0) (c .before .before .before .before .before .before .before .is-free .ensures)
-      (c .before .before .before .before .one-if2 .ensures .0) (c .before .before .before .before .before .is-free2 .ensures)
-      (c .before .before .one-if3 .ensures .0) (c .before .before .before .is-free3 .ensures)
-      (c .one-if4 .ensures .0) (c .before .is-free4 .ensures),
-  omega arith,
-)
+returns c =
+    let d = c .before in (
+      c .wide .ensures .0 ∙ count-four (d .before .before .before .before .before .before .before .before .args .mask)
+          (d .before .before .before .before .before .before .one-if .ensures .0) (d .before .before .before .before .before .before .before .has-bit .ensures)
+          (d .before .before .before .before .one-if2 .ensures .0) (d .before .before .before .before .before .has-bit2 .ensures)
+          (d .before .before .one-if3 .ensures .0) (d .before .before .before .has-bit3 .ensures)
+          (d .one-if4 .ensures .0) (d .before .has-bit4 .ensures),
+      omega arith,
+    )
 
 pub free-count-spec : {M : Type 1} → statement M
 free-count-spec =
@@ -30,4 +32,5 @@ free-count-spec =
     (λ c. search needs)
     (λ c. search needs)
     (λ c. search needs)
+    (λ c κs. search needs)
     returns)
