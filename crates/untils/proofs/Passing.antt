@@ -5,6 +5,9 @@ use mathlib.Core.Bool.{Bool, true, false, cond}
 use mathlib.Core.List.{List, [], _∷_, _++_}
 use native.Mathlib.Numerals.{add-one}
 use native.Mathlib.Omega.{arith}
+use lib.Dec.{eqb}
+use borrow.Author.Tests.{eqb-true, eq-eqb, ne-eqb}
+use Rattle.meaning.proofs.Points.{Tested, passed, failed, tested}
 use Rattle.meaning.specs.Lists.{all, select, gather}
 use Rattle.meaning.specs.Log.{point, elapsed, pointsFrom}
 use Rattle.meaning.specs.Formula.{inWindow}
@@ -58,6 +61,13 @@ gather-one p f x xs = go (p x)
 pub due-read : (w : Window) {s t a b : Stamp} {ok : Bool} → a ≡ s → b ≡ t → ok ≡ inWindow w (elapsed a b) → ok ≡ inWindow w (elapsed s t)
 due-read w d e f = f ∙ ap₂ (λ a b. inWindow w (elapsed a b)) d e
 
+-- the same where it is made only if two marks, each as it was read, aren't one
+pub none-there : {from to a b : ℕ} (t : Bool) → from ≡ a → to ≡ b → from ≡ to → false ≡ cond (eqb a b) false t
+none-there {from} {to} {a} {b} t d e f = rw (eq-eqb a b (sym d ∙ f ∙ e)) refl
+
+pub some-there : {from to a b : ℕ} {ok : Bool} (t : Bool) → from ≡ a → to ≡ b → (from ≡ to → ⊥) → ok ≡ t → ok ≡ cond (eqb a b) false t
+some-there {from} {to} {a} {b} t d e f g = rw (ne-eqb a b (λ h. f (d ∙ h ∙ sym e))) g
+
 -- until's rows over some points, and what one point gives
 module _ (τ : Point → Stamp) (w : Window) (left : List ℕ → Point → Bool) (right : Point → List (List ℕ)) (i : Point) where
   abbrev pub overPoints : List Point → List (List ℕ)
@@ -72,3 +82,18 @@ module _ (τ : Point → Stamp) (w : Window) (left : List ℕ → Point → Bool
   -- the same as the code computes it
   pub point-as : (j : Point) {start here : Stamp} {ok : Bool} → start ≡ τ i → here ≡ τ j → ok ≡ inWindow w (elapsed start here) → cond ok (leading left right i j) [] ≡ atPoint j
   point-as j d e f = ap (λ t. cond t (leading left right i j) []) (due-read w d e f)
+
+  -- and where the point's set, which stands between two marks, is passed over if it is empty
+  pub point-there : (j : Point) {start : Stamp} {ok : Bool} (from to : ℕ) → start ≡ τ i → (from ≡ to → right j ≡ []) → ok ≡ cond (eqb from to) false (inWindow w (elapsed start (τ j))) → cond ok (leading left right i j) [] ≡ atPoint j
+  point-there j {start} {ok} from to d none e = go (tested (eqb from to))
+    where
+      nothing : List (List ℕ)
+      nothing = []
+
+      either : (t : Bool) → cond t nothing nothing ≡ nothing
+      either true = refl
+      either false = refl
+
+      go : Tested (eqb from to) → cond ok (leading left right i j) [] ≡ atPoint j
+      go (passed q) = rw (e, q, none (eqb-true from to q)) (sym (either (inWindow w (elapsed (τ i) (τ j)))))
+      go (failed q) = point-as j d refl (rw q at e)

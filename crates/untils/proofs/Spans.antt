@@ -1,14 +1,14 @@
 -- Sets laid one after the other: fewer of them, the rows of one of them, and a node's sets at fewer points.
 use Prim.Native.Nat.{ℕ, _+_, _-_, _≤_}
-use mathlib.Core.Path.{_≡_}
-use mathlib.Core.List.{List}
+use mathlib.Core.Path.{_≡_, refl}
+use mathlib.Core.List.{List, []}
 use native.Mathlib.Omega.{arith}
 use lib.ListN.{getD}
 use Rattle.meaning.specs.declared.Point.{Point}
 use Rattle.rowset.specs.Rows.{rowsFrom}
 use Rattle.rowset.specs.Sets.{Run}
 use Rattle.room.proofs.SetsInOrder.{laid-fewer}
-use Rattle.room.specs.Room.{SetsInOrder, setAt}
+use Rattle.room.specs.Room.{SetsInOrder, setAt, setIn}
 use Rattle.untils.specs.Until.{Stand}
 
 module _ {rows at : List ℕ} where
@@ -30,3 +30,10 @@ module _ {rows at : List ℕ} where
 
     pub set-read : rowsFrom rows from (to - from) ≡ setAt rows at first low k
     set-read = rw (e, f)
+
+-- a set that begins where the next one does has no row
+pub set-none : (rows at : List ℕ) (q : ℕ) → getD at q 0 ≡ getD at (q + 1) 0 → setIn rows at q ≡ []
+unfolding rowsFrom
+set-none rows at q e =
+    let z : getD at (q + 1) 0 - getD at q 0 ≡ 0 = omega (arith, e) in
+    rw z refl

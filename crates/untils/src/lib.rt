@@ -5,10 +5,11 @@ use meaning::Stamp;
 use meaning::Window;
 use rowset::Row;
 ghost use mathlib.Core.Path.{_≡_};
-ghost use mathlib.Core.Bool.{true, cond};
+ghost use mathlib.Core.Bool.{true, false, cond};
 ghost use mathlib.Core.List.{[]};
 ghost use Prim.Native.Nat.{_+_, _-_, _≤_, _<_};
 ghost use lib.ListN.{length, getD};
+ghost use lib.Dec.{eqb};
 ghost use Rattle.meaning.specs.Lists.{all, select};
 ghost use Rattle.meaning.specs.Log.{elapsed, pointsFrom};
 ghost use Rattle.meaning.specs.Formula.{inWindow};
@@ -191,6 +192,27 @@ fn put_point_if(
     n
 }
 
+// A node's set at point j has a row, and the window holds what has elapsed from a stamp to that point. Most sets are empty, and are passed over by their marks alone.
+fn due_there(
+    at: &[u32],
+    first: usize,
+    low: Point,
+    times: &[u32],
+    base: Point,
+    w: Window,
+    start: Stamp,
+    j: Point,
+) -> bool
+    requires { ⌜ (low .0 ≤ j .0) × (first + (j .0 - low .0) + 1 < length (now at)) ⌝ }
+    ensures { λ r. ⌜ r ≡ cond (eqb (getD (now (at .entry)) (first + (j .0 - low .0)) 0) (getD (now (at .entry)) (first + (j .0 - low .0) + 1) 0)) false (dueAt (stampIn base (now (times .entry))) w start j) ⌝ }
+{
+    let set = set_part(at, first, low, j);
+    if set.from == set.to {
+        return false;
+    }
+    due(w, start, progress::time_in(times, base, j))
+}
+
 // Until at point i over the points before m. Left's sets begin at set fa, which is for point la, right's at set fb, for point lb; where nothing is asked of left, right's may be given for left's.
 pub fn until(
     left: Left,
@@ -219,7 +241,7 @@ pub fn until(
     let mut j = i.0;
     while j < m {
         let here = Point(j);
-        let ok = due(w, start, progress::time_in(times, base, here));
+        let ok = due_there(at, fb, lb, times, base, w, start, here);
         k = put_point_if(ok, left, mask, rows, at, fa, la, fb, lb, i, here, out, k);
         j += 1;
     }

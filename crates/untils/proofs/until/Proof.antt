@@ -4,6 +4,7 @@ use native.Mathlib.Omega.{arith}
 use mathlib.Core.Path.{refl}
 use mathlib.Core.Bool.{Bool}
 use mathlib.Core.List.{List}
+use lib.ListN.{getD}
 use borrow.Author.Needs.{needs}
 use Rattle.meaning.specs.Log.{point}
 use Rattle.meaning.specs.Evaluator.{untilRows}
@@ -13,8 +14,8 @@ use Rattle.method.specs.Stored.{stampIn}
 use Rattle.rowset.proofs.Growing.{Through, begun, turned, ended}
 use Rattle.room.specs.Room.{setAt}
 use Rattle.untils.specs.Until.{leftTest}
-use Rattle.untils.proofs.Spans.{stand-part}
-use Rattle.untils.proofs.Passing.{overPoints, atPoint, point-one, point-as}
+use Rattle.untils.proofs.Spans.{stand-part, set-none}
+use Rattle.untils.proofs.Passing.{overPoints, atPoint, point-one, point-there}
 use Rattle.untils.proofs.until.Statement.{statement}
 use Rattle.untils.proofs.until.Tie as tie
 
@@ -30,26 +31,31 @@ loop-holds c =
     let s = c .before .before .before .before .before .pre in
     (omega arith, begun (s .0 .ordered) (s .1 .1))
 
+due-there-requires : tie.Need-due-there-requires Inv-loop μ-loop
+due-there-requires c κs = let s = c .before .before .before .before .before .before .before .pre in (omega (arith, s .1 .0 .low-most, c .before .loop .inv .0), omega (arith, s .1 .0 .laid .marks, s .1 .0 .low-most, c .before .loop .inv .0, c .loop-test .taken))
+
 put-point-if-requires : tie.Need-put-point-if-requires Inv-loop μ-loop
 put-point-if-requires c κs =
-    let s = c .before .before .before .before .before .before .before .before .before .before .pre in
-    let j : ℕ = c .before .before .before .before .loop .j in
+    let s = c .before .before .before .before .before .before .before .before .before .pre in
+    let j : ℕ = c .before .before .before .loop .j in
     (stand-part (s .0) _ j (omega arith) (omega arith) (omega arith), (stand-part (s .1 .0) (point j) (j + 1) (omega arith) (omega arith) (omega arith), search needs))
 
 loop-again : tie.Need-loop-again Inv-loop μ-loop
 loop-again c =
-    let a = c .before .before .before .before .before .before .before .before .before .before .before .before .before .args in
+    let a = c .before .before .before .before .before .before .before .before .before .before .before .before .args in
     let τ : Point → Stamp = stampIn (a .base) (a .times .now) in
     let left : List ℕ → Point → Bool = leftTest (a .left) (a .mask) (setAt (a .rows .now) (a .at .now) (a .fa) (a .la)) in
     let right : Point → List (List ℕ) = setAt (a .rows .now) (a .at .now) (a .fb) (a .lb) in
-    let v = c .before .before .before .before .before .before .before .loop .inv in (
+    let v = c .before .before .before .before .before .before .loop .inv in
+    let j : ℕ = c .before .before .before .before .before .before .loop .j in
+    let q : ℕ = a .fb + (j - a .lb .0) in (
       omega arith,
-      turned (v .1) (atPoint τ (a .w) left right (a .i)) (point-one τ (a .w) left right (a .i)) (c .before .before .before .before .before .before .loop-test .taken) (c .before .before .put-point-if .ensures)
-          (point-as τ (a .w) left right (a .i) (point (c .before .before .before .before .before .before .before .loop .j)) (c .before .before .before .before .before .before .before .before .time-in .ensures) (c .before .before .before .before .before .time-in2 .ensures) (c .before .before .before .before .due .ensures)),
+      turned (v .1) (atPoint τ (a .w) left right (a .i)) (point-one τ (a .w) left right (a .i)) (c .before .before .before .before .before .loop-test .taken) (c .before .before .put-point-if .ensures)
+          (point-there τ (a .w) left right (a .i) (point j) (getD (a .at .now) q 0) (getD (a .at .now) (q + 1) 0) (c .before .before .before .before .before .before .before .time-in .ensures) (set-none (a .rows .now) (a .at .now) q) (c .before .before .before .before .due-there .ensures)),
     )
 
 returns : tie.Need-returns Inv-loop μ-loop
 returns c = ended (c .before .loop .inv .1) refl (c .loop-test .left)
 
 pub until-spec : {M : Type 1} → statement M
-until-spec = tie.close (tie.spec Inv-loop μ-loop (λ c κs. search needs) loop-holds (λ c κs. search needs) (λ c κs. search needs) put-point-if-requires (λ c. omega arith) (λ c. omega arith) loop-again (λ c. c .before .loop .inv .1 .put .long) returns)
+until-spec = tie.close (tie.spec Inv-loop μ-loop (λ c κs. search needs) loop-holds due-there-requires put-point-if-requires (λ c. omega arith) (λ c. omega arith) loop-again (λ c. c .before .loop .inv .1 .put .long) returns)
