@@ -3,18 +3,18 @@ use Prim.Native.Nat.{ℕ, zero, suc, _+_, _-_, _*_, _/_, _%_, _≤_, _<_}
 use native.Mathlib.Nat.{eq-or-lt-of-le}
 use native.Mathlib.Omega.{arith}
 use mathlib.Core.Path.{_≡_, refl, sym, ap, ap₂, _∙_}
-use mathlib.Core.Bool.{Bool, true, false, not, _&&_, true≢false}
+use mathlib.Core.Bool.{Bool, true, false, not, _&&_, _||_, true≢false}
 use mathlib.Core.Logic.{_⊎_, inl, inr}
 use mathlib.Core.List.{List}
 use lib.ListN.{getD, drop}
 use lib.Bits.{bitOr, or-add-and, and-le-l, and-le-r, or-zero-l, or-lt}
-use lib.Dec.{leb}
-use borrow.Author.Tests.{le-leb, lt-leb, leb-true}
+use lib.Dec.{leb, eqb}
+use borrow.Author.Tests.{le-leb, lt-leb, leb-true, eqb-true, eqb-false}
 use Rattle.meaning.specs.Outcome.{mostRows}
 use Rattle.meaning.specs.Order.{before}
 use Rattle.meaning.specs.declared.Point.{Point}
 use Rattle.meaning.specs.declared.Window.{Window}
-use Rattle.meaning.proofs.Points.{first, second, both}
+use Rattle.meaning.proofs.Points.{first, second, both, Tested, passed, failed, tested}
 use Rattle.rowset.specs.Rows.{wordsOf, rowAt}
 use Rattle.rowset.specs.declared.Row.{Row}
 use Rattle.kinds.specs.Kinds.{pairAt, pairsFrom}
@@ -166,7 +166,7 @@ module _ (ns : List ℕ) (from : ℕ) where
   pub alike-few : (to : ℕ) → to ≤ from + mostRows → FewAlike ns from to
   alike-few to l = record { apart = λ i u m e. omega arith }
 
-  pub alike-more : (i : ℕ) → from + mostRows ≤ i → FewAlike ns from i → (getD ns i 0 ≡ getD ns (i - mostRows) 0 → ⊥) → FewAlike ns from (i + 1)
+  alike-more : (i : ℕ) → from + mostRows ≤ i → FewAlike ns from i → (getD ns i 0 ≡ getD ns (i - mostRows) 0 → ⊥) → FewAlike ns from (i + 1)
   alike-more i l h d = record { apart = λ j u m. go j u (eq-or-lt-of-le (let w : j + mostRows ≤ i = omega arith in w)) }
     where
       go : (j : ℕ) → from ≤ j → (j + mostRows ≡ i) ⊎ (j + mostRows < i) → getD ns j 0 ≡ getD ns (j + mostRows) 0 → ⊥
@@ -175,10 +175,27 @@ module _ (ns : List ℕ) (from : ℕ) where
           d (sym (ap (λ k. getD ns k 0) e) ∙ sym s ∙ ap (λ k. getD ns k 0) f)
       go j u (inr m) s = h .apart j u m s
 
-  pub alike-fails : (i to : ℕ) → from + mostRows ≤ i → i < to → getD ns i 0 ≡ getD ns (i - mostRows) 0 → FewAlike ns from to → ⊥
+  alike-fails : (i to : ℕ) → from + mostRows ≤ i → i < to → getD ns i 0 ≡ getD ns (i - mostRows) 0 → FewAlike ns from to → ⊥
   alike-fails i to l m e h =
       let z : i - mostRows + mostRows ≡ i = omega arith in
       h .apart (i - mostRows) (omega arith) (omega arith) (sym e ∙ sym (ap (λ k. getD ns k 0) z))
+
+  -- what a loop over the entries knows before entry i: one of all has such a number, or none before i has
+  abbrev pub AlikeYet : ℕ → ℕ → Bool → Type 0
+  AlikeYet to i true = FewAlike ns from to → ⊥
+  AlikeYet to i false = FewAlike ns from i
+
+  pub yet-more : (to i : ℕ) → from + mostRows ≤ i → i < to → (t : Bool) {u : Bool} → AlikeYet to i t → u ≡ t || eqb (getD ns i 0) (getD ns (i - mostRows) 0) → AlikeYet to (i + 1) u
+  yet-more to i l m true h e = rw e h
+  yet-more to i l m false {u} h e = go (tested (eqb (getD ns i 0) (getD ns (i - mostRows) 0)))
+    where
+      go : Tested (eqb (getD ns i 0) (getD ns (i - mostRows) 0)) → AlikeYet to (i + 1) u
+      go (passed q) = rw (e, q) (alike-fails i to l m (eqb-true (getD ns i 0) (getD ns (i - mostRows) 0) q))
+      go (failed q) = rw (e, q) (alike-more i l h (eqb-false (getD ns i 0) (getD ns (i - mostRows) 0) q))
+
+  pub yet-all : (to i : ℕ) → i ≡ to → (t : Bool) → AlikeYet to i t → Tells (not t) (FewAlike ns from to)
+  yet-all to i e true h = h
+  yet-all to i e false h = rw e at h
 
 -- ---- a node's rows and pairs, with the mask
 

@@ -10,7 +10,7 @@ use meaning::Times;
 use meaning::Window;
 use rowset::Row;
 ghost use mathlib.Core.Path.{_≡_};
-ghost use mathlib.Core.Bool.{true, _&&_};
+ghost use mathlib.Core.Bool.{true, _&&_, _||_};
 ghost use Prim.Native.Nat.{ℕ, _+_, _-_, _*_, _≤_, _<_};
 ghost use lib.ListN.{length, getD, drop};
 ghost use lib.Dec.{leb, eqb};
@@ -112,7 +112,14 @@ fn rows_ascend(numbers: &[u32], values: &[u32], from: usize, to: usize, mask: u8
     is_under(most_of(mask), bits)
 }
 
-// Of entries from..to, which ascend, no more than a point may have rows have one number: none has that of the one so many before it.
+// It was found before, or two numbers are the same.
+fn or_same(found: bool, a: u32, b: u32) -> bool
+    ensures { λ r. ⌜ r ≡ found || eqb a b ⌝ }
+{
+    found | (a == b)
+}
+
+// Of entries from..to, which ascend, no more than a point may have rows have one number: none has that of the one so many before it. The loop has one way out, so that several are compared at once.
 fn few_alike(numbers: &[u32], from: usize, to: usize) -> bool
     requires { ⌜ (from ≤ to) × (to ≤ length (now numbers)) ⌝ }
     ensures { λ t. ⌜ Tells t (FewAlike (now (numbers .entry)) from to) ⌝ }
@@ -121,14 +128,13 @@ fn few_alike(numbers: &[u32], from: usize, to: usize) -> bool
     if to - from <= most {
         return true;
     }
+    let mut alike = false;
     let mut i = from + most;
     while i < to {
-        if numbers[i] == numbers[i - most] {
-            return false;
-        }
+        alike = or_same(alike, numbers[i], numbers[i - most]);
         i += 1;
     }
-    true
+    !alike
 }
 
 // Entries from..to are a node's rows at points from low on and before end, where the mask has its free variables.
