@@ -9,7 +9,7 @@ ghost use mathlib.Core.Path.{_≡_};
 ghost use mathlib.Core.Bool.{true};
 ghost use Prim.Native.Nat.{_≤_, _<_};
 ghost use Rattle.meaning.specs.Outcome.{mostPoints};
-ghost use Rattle.method.specs.Room.{rowsNeeded, marksNeeded};
+ghost use Rattle.method.specs.Room.{rowsNeeded};
 ghost use Rattle.call.specs.Settles.{callIn, ReadyIn, SettledCall, Tried};
 ghost use Rattle.call.specs.declared.Settled.the-variants.{Done, Full};
 ghost use Rattle.workspace.specs.Rooms.{CallFits, NeedsAre, smallRows, doubleRows, mediumRows, usualRows, largeRows, largestRows, fewMarks, someMarks, marks};
