@@ -199,8 +199,8 @@ static inline struct yokemango_checked yokemango_start_in(struct yokemango_state
 
    Stack of a call in bytes, by the nodes of the rule, measured:
      nodes                                        2 or 4        8       16       32
-     a usual event                                12,048   12,616   15,240   15,816
-     an event that settles 32 points at once      62,640  156,392  156,968  154,952
+     a usual event                                 9,232    9,800   11,528   12,104
+     an event that settles 32 points at once      61,504  155,256  155,832  156,408
    yokemango_start takes 13,544 and yokemango_figures 1,368. */
 static inline struct yokemango_taken yokemango_take_in(struct yokemango_state *state, const uint32_t *event, size_t event_len, uint32_t *report, size_t report_len)
 {
