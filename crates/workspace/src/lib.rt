@@ -743,6 +743,7 @@ pub fn settle_in_room(
     requires { ⌜ rowsNeeded (callIn (now rule) points (now stamps) (now owners) (now numbers) (now values) count) (now event) ≤ needed ⌝ }
     ensures { λ r. ⌜ SettledCall (callIn (now (rule .entry)) points (now (stamps .entry)) (now (owners .entry)) (now (numbers .entry)) (now (values .entry)) count) (now (event .entry)) (now (report .entry)) (now (report .exit)) (now (owners .entry)) (now (numbers .entry)) (now (values .entry)) (now (owners .exit)) (now (numbers .exit)) (now (values .exit)) r ⌝ }
 {
+    // `never` keeps each room's function apart from this one, so that a call has the frame of its own room alone.
     let again = never(points);
     let needs = Needs {
         rows: needed as usize,
