@@ -18,7 +18,7 @@ use Rattle.meaning.proofs.Points.{first, second, both, Tested, passed, failed, 
 use Rattle.rowset.specs.Rows.{wordsOf, rowAt}
 use Rattle.rowset.specs.declared.Row.{Row}
 use Rattle.kinds.specs.Kinds.{pairAt, pairsFrom}
-use Rattle.formed.specs.Tests.{Tells, rowCut, ageFits, pairCut, agedFit, mostOf, rowUnder, joinedBits, Bits, BitsOf, Ascends, Rising, FewAlike, SetsFit}
+use Rattle.formed.specs.Tests.{Tells, rowCut, ageFits, pairCut, agedFit, mostOf, rowUnder, joinedBits, Rising, FewAlike, SetsFit}
 use Rattle.formed.proofs.Ascents.{rising-passes, passes-rising, pairs-fit}
 use Rattle.formed.proofs.Masks.{row-under}
 use Rattle.formed.proofs.Ordered.{rises}
@@ -38,6 +38,10 @@ said-not true e h = absurd (true≢false (sym e))
 said-not false e h = h
 
 -- ---- entries that ascend
+
+-- what an accessor gives from one number up to another: each stands before the next
+pub record Ascends (at : ℕ → List ℕ) (from to : ℕ) : Type 0 where
+  pub up : (i : ℕ) → from ≤ i → i + 1 < to → before (at i) (at (i + 1)) ≡ true
 
 module _ (at : ℕ → List ℕ) (from : ℕ) where
   pub ascends-one : (to : ℕ) → to ≤ from + 1 → Ascends at from to
@@ -59,6 +63,18 @@ module _ (at : ℕ → List ℕ) (from : ℕ) where
       true≢false (sym up ∙ t)
 
 -- ---- the bits of words
+
+-- a word is at least each word of a column from one row up to another, and 0 where these are
+pub record Bits (column : ℕ → ℕ) (from to w : ℕ) : Type 0 where
+  pub word : w < 4294967296
+  pub most : (i : ℕ) → from ≤ i → i < to → column i ≤ w
+  pub none : ((i : ℕ) → from ≤ i → i < to → column i ≡ 0) → w ≡ 0
+
+pub record BitsOf (vs : List ℕ) (from to : ℕ) (r : Row) : Type 0 where
+  pub bits0 : Bits (λ i. getD vs (i * 4) 0) from to (r .v0)
+  pub bits1 : Bits (λ i. getD vs (i * 4 + 1) 0) from to (r .v1)
+  pub bits2 : Bits (λ i. getD vs (i * 4 + 2) 0) from to (r .v2)
+  pub bits3 : Bits (λ i. getD vs (i * 4 + 3) 0) from to (r .v3)
 
 or-left : (a b : ℕ) → a ≤ bitOr a b
 or-left a b = omega (arith, or-add-and a b, and-le-r a b)

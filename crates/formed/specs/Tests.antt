@@ -56,23 +56,7 @@ Tells false P = P → ⊥
 abbrev pub joinedBits : Row → Row → Row
 joinedBits x y = record { v0 = bitOr (x .v0) (y .v0); v1 = bitOr (x .v1) (y .v1); v2 = bitOr (x .v2) (y .v2); v3 = bitOr (x .v3) (y .v3) }
 
--- a word is at least each word of a column from one row up to another, and 0 where these are
-pub record Bits (column : ℕ → ℕ) (from to w : ℕ) : Type 0 where
-  pub word : w < 4294967296
-  pub most : (i : ℕ) → from ≤ i → i < to → column i ≤ w
-  pub none : ((i : ℕ) → from ≤ i → i < to → column i ≡ 0) → w ≡ 0
-
-pub record BitsOf (vs : List ℕ) (from to : ℕ) (r : Row) : Type 0 where
-  pub bits0 : Bits (λ i. getD vs (i * 4) 0) from to (r .v0)
-  pub bits1 : Bits (λ i. getD vs (i * 4 + 1) 0) from to (r .v1)
-  pub bits2 : Bits (λ i. getD vs (i * 4 + 2) 0) from to (r .v2)
-  pub bits3 : Bits (λ i. getD vs (i * 4 + 3) 0) from to (r .v3)
-
--- what an accessor gives from one number up to another: each stands before the next
-pub record Ascends (at : ℕ → List ℕ) (from to : ℕ) : Type 0 where
-  pub up : (i : ℕ) → from ≤ i → i + 1 < to → before (at i) (at (i + 1)) ≡ true
-
--- and each passes
+-- what an accessor gives from one number up to another: each passes, and stands before the next
 pub record Rising (at : ℕ → List ℕ) (p : List ℕ → Bool) (from to : ℕ) : Type 0 where
   pub each : (i : ℕ) → from ≤ i → i < to → p (at i) ≡ true
   pub up : (i : ℕ) → from ≤ i → i + 1 < to → before (at i) (at (i + 1)) ≡ true

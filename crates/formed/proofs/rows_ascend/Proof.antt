@@ -7,8 +7,8 @@ use borrow.Author.Needs.{needs}
 use Rattle.rowset.specs.Rows.{wordsOf}
 use Rattle.rowset.specs.declared.Row.{Row}
 use Rattle.kinds.specs.Kinds.{pairAt}
-use Rattle.formed.specs.Tests.{rowUnder, BitsOf, Ascends}
-use Rattle.formed.proofs.Climbs.{ascends-one, ascends-more, ascends-fails, rows-one, rows-more, rising-tells}
+use Rattle.formed.specs.Tests.{rowUnder}
+use Rattle.formed.proofs.Climbs.{Ascends, BitsOf, ascends-one, ascends-more, ascends-fails, rows-one, rows-more, rising-tells}
 use Rattle.formed.proofs.rows_ascend.Statement.{statement}
 use Rattle.formed.proofs.rows_ascend.Tie as tie
 
