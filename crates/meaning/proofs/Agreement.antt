@@ -9,7 +9,7 @@ use lib.Dec.{ltb, eqb}
 use borrow.Author.Tests.{ltb-true, eqb-true, lt-ltb, eq-eqb}
 use native.Mathlib.Omega.{arith}
 use Rattle.meaning.specs.Lists.{all, any, select, sameRow}
-use Rattle.meaning.specs.Log.{Log, Row, size, time, rowsAt, elapsed, point, pointBefore, pointAfter, pointsFrom}
+use Rattle.meaning.specs.Log.{Log, size, time, rowsAt, elapsed, point, pointBefore, pointAfter, pointsFrom}
 use Rattle.meaning.specs.Formula.{Formula, atom, and, andNot, keep, or, exists, previous, next, since, notSince, until, notUntil, once, eventually, inWindow, compares, isVariable, free, variables, within, termWithin}
 use Rattle.meaning.specs.Definition2.{Valuation, value, replaced, Since, Until, Holds}
 use Rattle.meaning.specs.Order.{ascending, OfLength}
@@ -202,31 +202,27 @@ named-below ts h x e = let (t, m, k) = any-at (isVariable x) ts e in go t (all-a
     go (Variable y) a b = omega (arith, ltb-true y 4 a, eqb-true x y b)
     go (Constant c) a b = absurd (false≢true b)
 
-module _ (r : ℕ) (ts : List Term) (fine : all named ts ≡ true) (rows : List Row) where
-  matches-row : (row : Row) → (matches r ts row ≡ true) ↔ ((row .relation ≡ r) × (map (value (bound ts (row .values))) ts ≡ row .values))
-  matches-row row =
-      let values : List ℕ = map (value (bound ts (row .values))) ts in
-      Iff·trans (and-eq-true-iff (eqb (row .relation) r) (sameRow values (row .values))) (Iff·and (eqb-true (row .relation) r, eq-eqb (row .relation) r) (same-row values (row .values)))
+module _ (ts : List Term) (fine : all named ts ≡ true) (rows : List (List ℕ)) where
+  matches-row : (row : List ℕ) → (matches ts row ≡ true) ↔ (map (value (bound ts row)) ts ≡ row)
+  matches-row row = same-row (map (value (bound ts row)) ts) row
 
-  pub gives-atom : Gives (λ x. any (isVariable x) ts) (λ v. List·Memᴰ {A = Row} (record { relation = r; values = map (value v) ts }) rows) (atomRows r ts rows)
+  pub gives-atom : Gives (λ x. any (isVariable x) ts) (λ v. List·Memᴰ (map (value v) ts) rows) (atomRows ts rows)
   gives-atom =
       record {
-        cut = λ u m. let (row, n, d) = Memᴰ·of-map columns (select (matches r ts) rows) m in
-            let (a, b) = matches-row row .0 (select-at (matches r ts) rows n .1) in
-            cut-of (λ x. any (isVariable x) ts) (bound ts (row .values)) (sym d) (λ x k h. ap (λ (c : List ℕ). bound ts c x) (sym b) ∙ bound-at (bound ts (row .values)) x ts ∙ rw h);
+        cut = λ u m. let (row, n, d) = Memᴰ·of-map columns (select (matches ts) rows) m in
+            let b : map (value (bound ts row)) ts ≡ row = matches-row row .0 (select-at (matches ts) rows n .1) in
+            cut-of (λ x. any (isVariable x) ts) (bound ts row) (sym d) (λ x k h. ap (λ (c : List ℕ). bound ts c x) (sym b) ∙ bound-at (bound ts row) x ts ∙ rw h);
         same = λ v. (
-          λ m. let (row, n, d) = Memᴰ·of-map columns (select (matches r ts) rows) m in
-              let (c, t) = select-at (matches r ts) rows n in
-              let (a, b) = matches-row row .0 t in
-              let values : map (value v) ts ≡ row .values = values-same ts (λ x h. sym (words-equal (bound ts (row .values)) (λ y. cond (any (isVariable y) ts) (v y) 0) d x (named-below ts fine x h) ∙ rw h)) ∙ b in
-              Memᴰ·cast (λ i. record { relation = sym a i; values = values i }) c,
-          λ m. let matched = matches-row (record { relation = r; values = map (value v) ts }) .1 (refl, values-same ts (λ x h. bound-at v x ts ∙ rw h)) in
-              Memᴰ·cast (words-same (λ x k. sym (bound-at v x ts))) (Memᴰ·map columns (select-of (matches r ts) m matched)),
+          λ m. let (row, n, d) = Memᴰ·of-map columns (select (matches ts) rows) m in
+              let (c, t) = select-at (matches ts) rows n in
+              Memᴰ·cast (values-same ts (λ x h. sym (words-equal (bound ts row) (λ y. cond (any (isVariable y) ts) (v y) 0) d x (named-below ts fine x h) ∙ rw h)) ∙ matches-row row .0 t) c,
+          λ m. let matched = matches-row (map (value v) ts) .1 (values-same ts (λ x h. bound-at v x ts ∙ rw h)) in
+              Memᴰ·cast (words-same (λ x k. sym (bound-at v x ts))) (Memᴰ·map columns (select-of (matches ts) m matched)),
         );
       }
     where
-      columns : Row → List ℕ
-      columns row = map (bound ts (row .values)) variables
+      columns : List ℕ → List ℕ
+      columns row = map (bound ts row) variables
 
 -- A child asked at a row says what the child means at the row's valuation.
 module _ {f : ℕ → Bool} (g : ℕ → Bool) {H : Valuation → Point → Type 0} {rows : Point → List (List ℕ)} (e : (k : Point) → Exact f (λ v. H v k) (rows k)) (w : within f g ≡ true) where
@@ -331,7 +327,7 @@ term-at f below v (Constant c) e = refl
 
 -- The evaluator keeps the promises, for every formula that checking lets pass, at every point of every log.
 pub exact : (l : Log) (φ : Formula) → Fine φ → (i : Point) → Exact (free φ) (λ v. Holds l φ v i) (vals l φ i)
-exact l (atom r ts) h i = exact-set (gives-atom r ts h (rowsAt l i))
+exact l (atom r ts) h i = exact-set (gives-atom ts h (rowsAt l r i))
 exact l (and a b) h i = exact-set (gives-and (exact l a (h .0) i) (exact l b (h .1) i))
 exact l (andNot a b) h i = exact-set (gives-select (exact l a (h .0) i) (λ u. not (among (free b) (vals l b) u i)) (λ v. asked-denied (free a) (exact l b (h .1)) (h .2) v i))
 exact l (keep a c s t) h i =

@@ -15,5 +15,6 @@ pub mod Settles
 pub mod Steady
 pub mod Ground
 pub mod Takings
+pub mod WithoutNotices
 pub mod Limits
 pub mod Table

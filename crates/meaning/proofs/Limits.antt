@@ -17,8 +17,8 @@ use Rattle.meaning.specs.Evaluator.{vals}
 use Rattle.meaning.specs.Settled.{settled}
 use Rattle.meaning.specs.RuleFile.{relationCount, arity, formulaAt}
 use Rattle.meaning.specs.Event.{rowCount, relationOf, isEvent, rowFits, columnsOf}
-use Rattle.meaning.specs.Keeper.{newlySettled, weighRows, weighCrowds, admitted, weighed, crowdedAt}
-use Rattle.meaning.specs.Limits.{EventForm, RowForm, EventFits, Admits, Weighs, Crowded}
+use Rattle.meaning.specs.Keeper.{notice, newlySettled, weighRows, weighCrowds, admitted, admits, weighed, crowdedAt}
+use Rattle.meaning.specs.Limits.{EventForm, RowForm, EventFits, Admits, AdmitsNotice, Weighs, Crowded}
 use Rattle.meaning.proofs.Points.{both, first, second}
 use Rattle.meaning.proofs.Rows.{any-at, any-of, select-at, select-of, points-at, points-of}
 use Rattle.meaning.specs.declared.Point.{Point}
@@ -144,6 +144,9 @@ module _ (b w : List ℕ) (last : Stamp) (points : ℕ) (rest : Outcome ℕ) whe
         logFull = λ f h m. rows-passed f ∙ rw (le-ltb (getD w 0 0) (last .0) h, le-leb 10000000 points m);
         passed = λ f h m. rows-passed f ∙ rw (le-ltb (getD w 0 0) (last .0) h, lt-leb 10000000 points m);
       }
+
+pub notice-exact : (b : List ℕ) (t : ℕ) (last : Stamp) (points : ℕ) (rest : Outcome ℕ) → AdmitsNotice t last rest (admits b (notice t) last points rest)
+notice-exact b t last points rest = record { timeFalls = λ h. rw (lt-ltb t (last .0) h); passed = λ h. rw (le-ltb t (last .0) h) }
 
 -- ---- 13 to 16
 

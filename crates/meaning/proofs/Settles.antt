@@ -14,7 +14,7 @@ use Rattle.meaning.specs.declared.Point.{Point}
 use Rattle.meaning.specs.declared.Window.{Window}
 use Rattle.meaning.proofs.Points.{both, first, second, orLeft, orRight, Tested, passed, failed, tested}
 use Rattle.meaning.proofs.Rows.{either, all-points}
-use Rattle.meaning.proofs.Growth.{Extends, latest-first, latest-grows}
+use Rattle.meaning.proofs.Growth.{Extends}
 use Rattle.meaning.proofs.Fine.{Fine}
 
 -- What "settled" says for since and until, over a test of the children.
@@ -153,7 +153,7 @@ up-until l l' x w c c' p i e = go (until-parts l w c i e)
         p j (q .inner j u n (omega arith))
     near q t j u o h (failed y) =
         let n : size l ≤ j .0 = ltb-false (j .0) (size l) y in
-        absurd (omega (arith, q .late, latest-first l l' x (omega (arith, q .here)) j (omega arith) o))
+        absurd (omega (arith, q .late, x .later j n o))
 
     go : UntilSettled l w c i → settledUntil l' w c' i ≡ true
     go q =
@@ -161,7 +161,7 @@ up-until l l' x w c c' p i e = go (until-parts l w c i e)
         until-whole l' w c' i
         (record {
           here = omega (arith, q .here, x .longer);
-          late = omega (arith, q .late, latest-grows l l' x (omega (arith, q .here)));
+          late = omega (arith, q .late, x .clock);
           inner = λ j u o h. near q t j u o h (tested (ltb (j .0) (size l)));
         })
 
@@ -210,7 +210,7 @@ past-previous : (l : Log) → Ordered l → (r : ℕ) (c : Point → Bool) → P
 past-previous l o r c p i n h =
     both (lt-ltb (i .0) (size l) n) (orRight (eqb (i .0) 0) (c (pointBefore i)) (p (pointBefore i) (omega arith) (omega (arith, o .steps (pointBefore i) i (omega arith) n))))
 
--- "for a rule without "next", .. no later than the first accepted point, itself or after it, whose time is at least the point's time plus the rule's reach"
+-- "for a rule without "next", .. no later than the first accepted point", or notice, "itself or after it, whose time is at least the point's time plus the rule's reach"
 pub reached : (l : Log) → Ordered l → (φ : Formula) → withoutNext φ ≡ true → (i : Point) → i .0 < size l → time l i .0 + reach φ ≤ latest l .0 → settled l φ i ≡ true
 reached l o (atom r ts) f = λ i n h. lt-ltb (i .0) (size l) n
 reached l o (and a b) f = past-twin l a b (reached l o a) (reached l o b) f

@@ -8,7 +8,7 @@ use lib.Dec.{ltb, leb, eqb}
 use borrow.Author.Tests.{ltb-true, ltb-false, lt-ltb, le-ltb, eqb-true, ne-eqb}
 use native.Mathlib.Omega.{arith}
 use Rattle.meaning.specs.Lists.{select, gather}
-use Rattle.meaning.specs.Log.{Log, GoesOn, size, time, latest, elapsed, pointBefore, pointAfter, pointsFrom}
+use Rattle.meaning.specs.Log.{Log, size, time, latest, elapsed, pointBefore, pointAfter, pointsFrom}
 use Rattle.meaning.specs.Formula.{Formula, atom, and, andNot, keep, or, exists, previous, next, since, notSince, until, notUntil, once, eventually, inWindow, compares, free}
 use Rattle.meaning.specs.Definition2.{value}
 use Rattle.meaning.specs.Evaluator.{cutTo, valuationOf, setOf, member, atomRows, andRows, lasting, sinceRows, leading, untilRows, among, vals}
@@ -18,7 +18,7 @@ use Rattle.meaning.specs.declared.Point.{Point}
 use Rattle.meaning.specs.declared.Window.{Window}
 use Rattle.meaning.proofs.Points.{first, second, all-same, select-same, select-append, select-none, gather-same, pointsFrom-append, Tested, passed, failed, tested}
 use Rattle.meaning.proofs.Rows.{either}
-use Rattle.meaning.proofs.Growth.{Extends, extends, ordered-before, latest-first}
+use Rattle.meaning.proofs.Growth.{Extends}
 use Rattle.meaning.proofs.Settles.{since-each, UntilSettled, until-parts, twin, present}
 use Rattle.meaning.proofs.Fine.{Fine}
 
@@ -76,7 +76,7 @@ until-same l l' x w d left left' right right' i n late p q =
     (λ j u o. ap₂ (λ s s'. inWindow w (elapsed s s')) (x .times i n) (x .times j (omega arith)))
     (λ j u o h. let e : elapsed (time l i) (time l j) < w .end = before-end w (elapsed (time l i) (time l j)) d h in
     select-both _ _ (right j) (right' j)
-    (λ v. all-same (left v) (left' v) (i .0) (j .0 - i .0) (λ k m y. p k m (omega arith) (omega (arith, ordered-before l l' x .steps k j (omega arith) (omega arith))) v)) (q j u (omega arith) (omega arith)))
+    (λ v. all-same (left v) (left' v) (i .0) (j .0 - i .0) (λ k m y. p k m (omega arith) (omega (arith, x .before .steps k j (omega arith) (omega arith))) v)) (q j u (omega arith) (omega arith)))
     ∙ ap (gather (leading left' right' i)) (sym more)
   where
     chosen : Point → Bool
@@ -85,7 +85,7 @@ until-same l l' x w d left left' right right' i n late p q =
     late' : (j : Point) → size l ≤ j .0 → j .0 < size l' → chosen j ≡ false
     late' j u o =
         past-end w (elapsed (time l' i) (time l' j)) d
-        (omega (arith, ap (λ m. m .0) (x .times i n), latest-first l l' x (omega arith) j (omega arith) o))
+        (omega (arith, ap (λ m. m .0) (x .times i n), x .later j u o))
 
     more : select chosen (pointsFrom i (size l' - i .0)) ≡ select chosen (pointsFrom i (size l - i .0))
     more =
@@ -126,7 +126,7 @@ module _ (l l' : Log) (x : Extends l l') where
   steady-previous w rows rows' i n (inr e) = rw (e, x .times (pointBefore i) (omega arith), x .times i n)
 
   pub steady-by : (φ : Formula) → Fine φ → (i : Point) → settled l φ i ≡ true → vals l φ i ≡ vals l' φ i
-  steady-by (atom r ts) f i e = ap (λ rows. setOf (atomRows r ts rows)) (x .rows i (ltb-true (i .0) (size l) e))
+  steady-by (atom r ts) f i e = ap (λ rows. setOf (atomRows ts rows)) (x .rows r i (ltb-true (i .0) (size l) e))
   steady-by (and a b) f i e =
       ap₂ (λ s t. setOf (andRows (free a) (free b) s t)) (steady-by a (f .0) i (first (settled l a i) (settled l b i) e)) (steady-by b (f .1) i (second (settled l a i) (settled l b i) e))
   steady-by (andNot a b) f i e =
@@ -189,7 +189,3 @@ module _ (l l' : Log) (x : Extends l l') where
   pairs-by (once a w) f i e =
       steady-pairs w (settled l a) (λ u k. true) (λ u k. true) (vals l a) (vals l' a) (λ j h u. refl) (λ j h. steady-by a f j h) i (present l (once a w) i e) e
   pairs-by (eventually a w) f i e = refl
-
--- The valuations at a settled point are the same on every log that begins with this one and goes on by points whose times don't fall.
-pub steady : (l l' : Log) → GoesOn l l' → (φ : Formula) → Fine φ → (i : Point) → settled l φ i ≡ true → vals l φ i ≡ vals l' φ i
-steady l l' g = steady-by l l' (extends l l' g)

@@ -1,4 +1,4 @@
--- The starred bench cases of 01, and cases that guard what meaning and evaluator share, as one table with one proof: from a rule's bytes and its events' words to the report's words and the kept figures, by the keeper's definitions.
+-- The starred bench cases of 01, and cases that guard what meaning and evaluator share, as one table with one proof: from a rule's bytes, events' words and notices' times to the report's words and the kept figures, by the keeper's definitions.
 use Prim.Native.Nat.{ℕ, _+_, _*_, _/_, _%_}
 use mathlib.Core.Path.{_≡_, refl}
 use mathlib.Core.Bool.{not}
@@ -7,23 +7,23 @@ use lib.ListN.{length, getD, take, drop, replicate}
 use lib.Dec.{eqb}
 use Rattle.meaning.specs.Lists.{any, range, gather}
 use Rattle.meaning.specs.Outcome.{Outcome, refused, given}
-use Rattle.meaning.specs.Log.{Log, time, rowsAt, latest}
+use Rattle.meaning.specs.Log.{Log, Taken, size, time, rowsAt, latest, logOf}
 use Rattle.meaning.specs.Formula.{withoutNext}
 use Rattle.meaning.specs.RuleFile.{Accepted, nodeCount, pattern, wordAt, sizesFit, headAt, bodyAt, nodeOf, nodeAt, formulaAt, shapeFits, rangeFits, timesChild, weighNode, checking}
 use Rattle.meaning.specs.Kept.{lastPairs, consulted, parentOf, pointEntries, ageEntries, entriesOf, entries, kept, openPoints}
 use Rattle.meaning.specs.Event.{isEvent, rowFits, pointOf}
 use Rattle.meaning.specs.Report.{reportWords}
-use Rattle.meaning.specs.Keeper.{Taking, Given, newlySettled, reported, report, admitted, weighed, crowdedAt, answer, step, answered, keeperLog, keeper}
+use Rattle.meaning.specs.Keeper.{Fed, event as eventOf, notice, Taking, Given, newlySettled, reported, report, admitted, weighed, crowdedAt, answerOn, step, answered, keeperLog, keeper}
 
--- A case: a rule, events, and what is expected.
+-- A case: a rule, what is fed, and what is expected.
 pub record Case : Type 0 where
   pub rule : List ℕ
-  pub events : List (List ℕ)
+  pub fed : List Fed
   -- what checking answers: the reach and the free variables
   pub checked : Outcome Accepted
   -- what each taking is given back: the answer, and every word of its buffer
   pub givens : List Given
-  -- the kept figure after each event
+  -- the kept figure after each taking
   pub kepts : List ℕ
   -- the `open` figure after the last
   pub left : ℕ
@@ -33,7 +33,10 @@ abbrev room : List ℕ
 room = range 1000 18
 
 abbrev takings : Case → List Taking
-takings c = map (λ e. record { event = e; buffer = room }) (c .events)
+takings c = map (λ f. record { fed = f; buffer = room }) (c .fed)
+
+abbrev events : List (List ℕ) → List Fed
+events = map eventOf
 
 -- a report's words, and behind them the buffer as it was; a refusal, and the whole buffer as it was
 abbrev written : List ℕ → Given
@@ -42,20 +45,20 @@ written words = record { answer = given (length words); buffer = words ++ drop (
 abbrev turned : ℕ → ℕ → Given
 turned number place = record { answer = refused number place; buffer = room }
 
-abbrev logs : List ℕ → Log → List Taking → List Log
-logs b l [] = []
-logs b l (t ∷ ts) = step b l t ∷ logs b (step b l t) ts
+abbrev logs : List ℕ → List Taken → List Taking → List Log
+logs b es [] = []
+logs b es (t ∷ ts) = logOf (step b es t) ∷ logs b (step b es t) ts
 
 -- the case with what the definitions give in the place of what is expected
 abbrev pub run : Case → Case
 run c =
     record {
       rule = c .rule;
-      events = c .events;
+      fed = c .fed;
       checked = checking (c .rule);
       givens = keeper (c .rule) [] (takings c);
       kepts = map (kept (c .rule)) (logs (c .rule) [] (takings c));
-      left = openPoints (c .rule) (keeperLog (c .rule) [] (takings c));
+      left = openPoints (c .rule) (logOf (keeperLog (c .rule) [] (takings c)));
     }
 
 -- Rule files and events, spelt out: a head, a body of words, a size line.
@@ -140,7 +143,7 @@ abbrev keeping : ℕ → List ℕ → Case
 keeping comparison words =
     record {
       rule = comparing comparison;
-      events = event 3 ((0 ∷ 1 ∷ 2 ∷ []) ∷ (0 ∷ 2 ∷ 1 ∷ []) ∷ (0 ∷ 2 ∷ 2 ∷ []) ∷ []) ∷ [];
+      fed = events (event 3 ((0 ∷ 1 ∷ 2 ∷ []) ∷ (0 ∷ 2 ∷ 1 ∷ []) ∷ (0 ∷ 2 ∷ 2 ∷ []) ∷ []) ∷ []);
       checked = reaching 0 3;
       givens = written words ∷ [];
       kepts = 0 ∷ [];
@@ -152,7 +155,7 @@ abbrev asking : ℕ → ℕ → List Given → List ℕ → ℕ → Case
 asking kind reach givens kepts left =
     record {
       rule = sizes 1 2 3 ++ atoms ++ head kind 0 1 ++ body 0 0 ++ body 0 1 ++ body 0 5;
-      events = event 10 ((0 ∷ 1 ∷ []) ∷ []) ∷ event 12 ((1 ∷ 1 ∷ 2 ∷ []) ∷ (1 ∷ 3 ∷ 4 ∷ []) ∷ []) ∷ event 13 ((0 ∷ 1 ∷ []) ∷ []) ∷ event 20 [] ∷ [];
+      fed = events (event 10 ((0 ∷ 1 ∷ []) ∷ []) ∷ event 12 ((1 ∷ 1 ∷ 2 ∷ []) ∷ (1 ∷ 3 ∷ 4 ∷ []) ∷ []) ∷ event 13 ((0 ∷ 1 ∷ []) ∷ []) ∷ event 20 [] ∷ []);
       checked = reaching reach 3;
       givens = givens;
       kepts = kepts;
@@ -161,7 +164,7 @@ asking kind reach givens kepts left =
 
 -- a rule alone, and what checking answers; a rule with another byte at one place; a rule with another byte at each of some places in turn, which 4 refuses at node x
 abbrev checks : List ℕ → Outcome Accepted → Case
-checks b answer = record { rule = b; events = []; checked = answer; givens = []; kepts = []; left = 0 }
+checks b answer = record { rule = b; fed = []; checked = answer; givens = []; kepts = []; left = 0 }
 
 abbrev changed : List ℕ → ℕ → ℕ → Outcome Accepted → Case
 changed b at byte answer = checks (take at b ++ byte ∷ drop (at + 1) b) answer
@@ -240,7 +243,7 @@ cases =
     -- "L above; kept after its events is 2, 3, 2, 2"
     record {
       rule = ruleL;
-      events = leaks ∷ one 130 close 9 ∷ one 161 close 7 ∷ one 191 leak 9 ∷ [];
+      fed = events (leaks ∷ one 130 close 9 ∷ one 161 close 7 ∷ one 191 leak 9 ∷ []);
       checked = reaching 61 1;
       givens = none 1 ∷ none 1 ∷ written (1 ∷ 1 ∷ 1 ∷ 0 ∷ 100 ∷ 1 ∷ 7 ∷ []) ∷ written (1 ∷ 1 ∷ 0 ∷ 1 ∷ 130 ∷ 0 ∷ []) ∷ [];
       kepts = 2 ∷ 3 ∷ 2 ∷ 2 ∷ [];
@@ -249,7 +252,7 @@ cases =
     -- "Closing 7 at 160 instead reports no row for point 0, when 191 settles it"
     ∷ record {
       rule = ruleL;
-      events = leaks ∷ one 130 close 9 ∷ one 160 close 7 ∷ one 191 leak 9 ∷ [];
+      fed = events (leaks ∷ one 130 close 9 ∷ one 160 close 7 ∷ one 191 leak 9 ∷ []);
       checked = reaching 61 1;
       givens = none 1 ∷ none 1 ∷ none 1 ∷ written (2 ∷ 1 ∷ 0 ∷ 0 ∷ 100 ∷ 0 ∷ 1 ∷ 130 ∷ 0 ∷ []) ∷ [];
       kepts = 2 ∷ 3 ∷ 4 ∷ 2 ∷ [];
@@ -258,7 +261,7 @@ cases =
     -- "until [0, 5): right true, left false at the same point: satisfied"
     ∷ record {
       rule = binary 11 0 5;
-      events = facts 10 (1 ∷ []) ∷ facts 15 [] ∷ [];
+      fed = events (facts 10 (1 ∷ []) ∷ facts 15 [] ∷ []);
       checked = reaching 5 0;
       givens = none 0 ∷ met 0 10 ∷ [];
       kepts = 1 ∷ 0 ∷ [];
@@ -267,7 +270,7 @@ cases =
     -- "since [0, 5): right at 10, left at 14 (age 4): yes"
     ∷ record {
       rule = binary 9 0 5;
-      events = facts 10 (1 ∷ []) ∷ facts 14 (0 ∷ []) ∷ [];
+      fed = events (facts 10 (1 ∷ []) ∷ facts 14 (0 ∷ []) ∷ []);
       checked = reaching 0 0;
       givens = met 0 10 ∷ met 1 14 ∷ [];
       kepts = 1 ∷ 1 ∷ [];
@@ -276,7 +279,7 @@ cases =
     -- "Left at 15, no point between: no"
     ∷ record {
       rule = binary 9 0 5;
-      events = facts 10 (1 ∷ []) ∷ facts 15 (0 ∷ []) ∷ [];
+      fed = events (facts 10 (1 ∷ []) ∷ facts 15 (0 ∷ []) ∷ []);
       checked = reaching 0 0;
       givens = met 0 10 ∷ denied 1 15 ∷ [];
       kepts = 1 ∷ 0 ∷ [];
@@ -285,7 +288,7 @@ cases =
     -- "Left missing at 14: no"
     ∷ record {
       rule = binary 9 0 5;
-      events = facts 10 (1 ∷ []) ∷ facts 14 [] ∷ [];
+      fed = events (facts 10 (1 ∷ []) ∷ facts 14 [] ∷ []);
       checked = reaching 0 0;
       givens = met 0 10 ∷ denied 1 14 ∷ [];
       kepts = 1 ∷ 0 ∷ [];
@@ -294,7 +297,7 @@ cases =
     -- "previous [1, 3) over times 10 and 10: no; .. point 0: no"
     ∷ record {
       rule = unary 7 1 3;
-      events = facts 10 (0 ∷ []) ∷ facts 10 [] ∷ [];
+      fed = events (facts 10 (0 ∷ []) ∷ facts 10 [] ∷ []);
       checked = reaching 0 0;
       givens = denied 0 10 ∷ denied 1 10 ∷ [];
       kepts = 1 ∷ 0 ∷ [];
@@ -303,7 +306,7 @@ cases =
     -- point 0 has none before it, whatever the window
     ∷ record {
       rule = unary 7 0 3;
-      events = facts 10 (0 ∷ []) ∷ facts 10 [] ∷ [];
+      fed = events (facts 10 (0 ∷ []) ∷ facts 10 [] ∷ []);
       checked = reaching 0 0;
       givens = denied 0 10 ∷ met 1 10 ∷ [];
       kepts = 1 ∷ 0 ∷ [];
@@ -312,7 +315,7 @@ cases =
     -- "10 and 12: yes"
     ∷ record {
       rule = unary 7 1 3;
-      events = facts 10 (0 ∷ []) ∷ facts 12 [] ∷ [];
+      fed = events (facts 10 (0 ∷ []) ∷ facts 12 [] ∷ []);
       checked = reaching 0 0;
       givens = denied 0 10 ∷ met 1 12 ∷ [];
       kepts = 1 ∷ 0 ∷ [];
@@ -321,7 +324,7 @@ cases =
     -- "10 and 13: no"
     ∷ record {
       rule = unary 7 1 3;
-      events = facts 10 (0 ∷ []) ∷ facts 13 [] ∷ [];
+      fed = events (facts 10 (0 ∷ []) ∷ facts 13 [] ∷ []);
       checked = reaching 0 0;
       givens = denied 0 10 ∷ denied 1 13 ∷ [];
       kepts = 1 ∷ 0 ∷ [];
@@ -330,7 +333,7 @@ cases =
     -- "until [2, 4), left at 0 and 1, right at 2: point 0, settled by a point at 4, yes. Point 1, settled by a further point at 5, no"
     ∷ record {
       rule = binary 11 2 4;
-      events = facts 0 (0 ∷ []) ∷ facts 1 (0 ∷ []) ∷ facts 2 (1 ∷ []) ∷ facts 4 [] ∷ facts 5 [] ∷ [];
+      fed = events (facts 0 (0 ∷ []) ∷ facts 1 (0 ∷ []) ∷ facts 2 (1 ∷ []) ∷ facts 4 [] ∷ facts 5 [] ∷ []);
       checked = reaching 4 0;
       givens = none 0 ∷ none 0 ∷ none 0 ∷ met 0 0 ∷ denied 1 1 ∷ [];
       kepts = 1 ∷ 2 ∷ 3 ∷ 2 ∷ 1 ∷ [];
@@ -339,7 +342,7 @@ cases =
     -- "once [5, 10), atom at 0 and 4, asked at 6: yes": the age 4 at the last point isn't the only one kept
     ∷ record {
       rule = unary 13 5 10;
-      events = facts 0 (0 ∷ []) ∷ facts 4 (0 ∷ []) ∷ facts 6 [] ∷ [];
+      fed = events (facts 0 (0 ∷ []) ∷ facts 4 (0 ∷ []) ∷ facts 6 [] ∷ []);
       checked = reaching 0 0;
       givens = denied 0 0 ∷ denied 1 4 ∷ met 2 6 ∷ [];
       kepts = 1 ∷ 2 ∷ 2 ∷ [];
@@ -348,7 +351,7 @@ cases =
     -- with no end, ages above c count as c: 5 and 9 are one pair
     ∷ record {
       rule = unary 13 5 0;
-      events = facts 0 (0 ∷ []) ∷ facts 4 (0 ∷ []) ∷ facts 9 [] ∷ [];
+      fed = events (facts 0 (0 ∷ []) ∷ facts 4 (0 ∷ []) ∷ facts 9 [] ∷ []);
       checked = reaching 0 0;
       givens = denied 0 0 ∷ denied 1 4 ∷ met 2 9 ∷ [];
       kepts = 1 ∷ 2 ∷ 1 ∷ [];
@@ -357,7 +360,7 @@ cases =
     -- events with equal times are separate points: left missing at the second breaks since, and not-since asks for that
     ∷ record {
       rule = binary 9 0 5;
-      events = facts 10 (1 ∷ []) ∷ facts 10 [] ∷ [];
+      fed = events (facts 10 (1 ∷ []) ∷ facts 10 [] ∷ []);
       checked = reaching 0 0;
       givens = met 0 10 ∷ denied 1 10 ∷ [];
       kepts = 1 ∷ 0 ∷ [];
@@ -365,7 +368,7 @@ cases =
     }
     ∷ record {
       rule = binary 10 0 5;
-      events = facts 10 (1 ∷ []) ∷ facts 10 [] ∷ facts 10 (0 ∷ []) ∷ [];
+      fed = events (facts 10 (1 ∷ []) ∷ facts 10 [] ∷ facts 10 (0 ∷ []) ∷ []);
       checked = reaching 0 0;
       givens = met 0 10 ∷ met 1 10 ∷ denied 2 10 ∷ [];
       kepts = 1 ∷ 1 ∷ 0 ∷ [];
@@ -374,7 +377,7 @@ cases =
     -- next [1, 3) over 10, 12 and 15, and a fall in time, refused with 11
     ∷ record {
       rule = unary 8 1 3;
-      events = facts 10 [] ∷ facts 12 (0 ∷ []) ∷ facts 11 [] ∷ facts 15 (0 ∷ []) ∷ [];
+      fed = events (facts 10 [] ∷ facts 12 (0 ∷ []) ∷ facts 11 [] ∷ facts 15 (0 ∷ []) ∷ []);
       checked = reaching 0 0;
       givens = none 0 ∷ met 0 10 ∷ turned 11 0 ∷ denied 1 12 ∷ [];
       kepts = 0 ∷ 0 ∷ 0 ∷ 0 ∷ [];
@@ -383,7 +386,7 @@ cases =
     -- rows ascend by variable 0, then by variable 1, and a repeated row counts as one
     ∷ record {
       rule = 1 ∷ 1 ∷ 1 ∷ 0 ∷ 2 ∷ 0 ∷ 0 ∷ 0 ∷ 0 ∷ 0 ∷ 0 ∷ 0 ∷ (head 1 0 0 ++ body 0 1);
-      events = event 3 ((0 ∷ 2 ∷ 1 ∷ []) ∷ (0 ∷ 1 ∷ 5 ∷ []) ∷ (0 ∷ 1 ∷ 3 ∷ []) ∷ (0 ∷ 2 ∷ 1 ∷ []) ∷ []) ∷ [];
+      fed = events (event 3 ((0 ∷ 2 ∷ 1 ∷ []) ∷ (0 ∷ 1 ∷ 5 ∷ []) ∷ (0 ∷ 1 ∷ 3 ∷ []) ∷ (0 ∷ 2 ∷ 1 ∷ []) ∷ []) ∷ []);
       checked = reaching 0 3;
       givens = written (1 ∷ 2 ∷ 3 ∷ 0 ∷ 3 ∷ 3 ∷ 1 ∷ 3 ∷ 1 ∷ 5 ∷ 2 ∷ 1 ∷ []) ∷ [];
       kepts = 0 ∷ [];
@@ -397,7 +400,7 @@ cases =
     -- and: rows that agree where both have the variable, here variable 1
     ∷ record {
       rule = sizes 2 2 3 ++ joinHeads ++ joinBodies;
-      events = event 3 ((0 ∷ 1 ∷ 2 ∷ []) ∷ (0 ∷ 3 ∷ 4 ∷ []) ∷ (1 ∷ 2 ∷ 6 ∷ []) ∷ (1 ∷ 2 ∷ 5 ∷ []) ∷ (1 ∷ 9 ∷ 9 ∷ []) ∷ []) ∷ [];
+      fed = events (event 3 ((0 ∷ 1 ∷ 2 ∷ []) ∷ (0 ∷ 3 ∷ 4 ∷ []) ∷ (1 ∷ 2 ∷ 6 ∷ []) ∷ (1 ∷ 2 ∷ 5 ∷ []) ∷ (1 ∷ 9 ∷ 9 ∷ []) ∷ []) ∷ []);
       checked = reaching 0 7;
       givens = written (1 ∷ 3 ∷ 2 ∷ 0 ∷ 3 ∷ 2 ∷ 1 ∷ 2 ∷ 5 ∷ 1 ∷ 2 ∷ 6 ∷ []) ∷ [];
       kepts = 0 ∷ [];
@@ -406,7 +409,7 @@ cases =
     -- exists: the same without variable 1, so that two rows become one
     ∷ record {
       rule = sizes 2 2 4 ++ joinHeads ++ head 6 2 0 ++ joinBodies ++ body 1 0;
-      events = event 3 ((0 ∷ 1 ∷ 2 ∷ []) ∷ (0 ∷ 1 ∷ 4 ∷ []) ∷ (1 ∷ 2 ∷ 6 ∷ []) ∷ (1 ∷ 4 ∷ 6 ∷ []) ∷ (1 ∷ 4 ∷ 5 ∷ []) ∷ []) ∷ [];
+      fed = events (event 3 ((0 ∷ 1 ∷ 2 ∷ []) ∷ (0 ∷ 1 ∷ 4 ∷ []) ∷ (1 ∷ 2 ∷ 6 ∷ []) ∷ (1 ∷ 4 ∷ 6 ∷ []) ∷ (1 ∷ 4 ∷ 5 ∷ []) ∷ []) ∷ []);
       checked = reaching 0 5;
       givens = written (1 ∷ 2 ∷ 2 ∷ 0 ∷ 3 ∷ 2 ∷ 1 ∷ 5 ∷ 1 ∷ 6 ∷ []) ∷ [];
       kepts = 0 ∷ [];
@@ -415,7 +418,7 @@ cases =
     -- or: the rows of both, one that both have once
     ∷ record {
       rule = sizes 1 1 3 ++ atoms ++ head 5 0 1 ++ body 0 0 ++ body 0 0 ++ body 0 0;
-      events = event 3 (columns 0 (3 ∷ 2 ∷ []) ++ columns 1 (1 ∷ 3 ∷ [])) ∷ [];
+      fed = events (event 3 (columns 0 (3 ∷ 2 ∷ []) ++ columns 1 (1 ∷ 3 ∷ [])) ∷ []);
       checked = reaching 0 1;
       givens = written (1 ∷ 1 ∷ 3 ∷ 0 ∷ 3 ∷ 3 ∷ 1 ∷ 2 ∷ 3 ∷ []) ∷ [];
       kepts = 0 ∷ [];
@@ -424,7 +427,7 @@ cases =
     -- not-until [0, 5): right at 11 and 13, left at 12; 18 settles four points at once
     ∷ record {
       rule = binary 12 0 5;
-      events = facts 10 [] ∷ facts 11 (1 ∷ []) ∷ facts 12 (0 ∷ []) ∷ facts 13 (1 ∷ []) ∷ facts 18 [] ∷ [];
+      fed = events (facts 10 [] ∷ facts 11 (1 ∷ []) ∷ facts 12 (0 ∷ []) ∷ facts 13 (1 ∷ []) ∷ facts 18 [] ∷ []);
       checked = reaching 5 0;
       givens = none 0 ∷ none 0 ∷ none 0 ∷ none 0 ∷ written (4 ∷ 0 ∷ 3 ∷ 0 ∷ 10 ∷ 1 ∷ 1 ∷ 11 ∷ 1 ∷ 2 ∷ 12 ∷ 0 ∷ 3 ∷ 13 ∷ 1 ∷ []) ∷ [];
       kepts = 0 ∷ 1 ∷ 2 ∷ 3 ∷ 0 ∷ [];
@@ -433,9 +436,9 @@ cases =
     -- "9: under 2 words, m above 32, or wrong length"; 32 rows are taken. "10: a relation not below R or an unused column not 0; place is the first such row". "11: time below the last point's"
     ∷ record {
       rule = leaking;
-      events =
-          (5 ∷ []) ∷ (5 ∷ 1 ∷ leak ∷ 7 ∷ 0 ∷ 0 ∷ []) ∷ event 5 (columns leak (replicate 33 7)) ∷ event 5 (columns leak (replicate 32 7))
-          ∷ event 5 ((leak ∷ 7 ∷ []) ∷ (leak ∷ 7 ∷ 0 ∷ 0 ∷ 1 ∷ []) ∷ (2 ∷ 7 ∷ []) ∷ []) ∷ event 5 ((2 ∷ 7 ∷ []) ∷ []) ∷ one 4 leak 7 ∷ [];
+      fed =
+          events ((5 ∷ []) ∷ (5 ∷ 1 ∷ leak ∷ 7 ∷ 0 ∷ 0 ∷ []) ∷ event 5 (columns leak (replicate 33 7)) ∷ event 5 (columns leak (replicate 32 7))
+          ∷ event 5 ((leak ∷ 7 ∷ []) ∷ (leak ∷ 7 ∷ 0 ∷ 0 ∷ 1 ∷ []) ∷ (2 ∷ 7 ∷ []) ∷ []) ∷ event 5 ((2 ∷ 7 ∷ []) ∷ []) ∷ one 4 leak 7 ∷ []);
       checked = reaching 0 1;
       givens = turned 9 0 ∷ turned 9 0 ∷ turned 9 0 ∷ written (1 ∷ 1 ∷ 1 ∷ 0 ∷ 5 ∷ 1 ∷ 7 ∷ []) ∷ turned 10 1 ∷ turned 10 0 ∷ turned 11 0 ∷ [];
       kepts = 0 ∷ 0 ∷ 0 ∷ 0 ∷ 0 ∷ 0 ∷ 0 ∷ [];
@@ -444,7 +447,7 @@ cases =
     -- "13, some node has over 32 valuations", the "and" of 4 × 8 rows and of 3 × 11
     ∷ record {
       rule = sizes 1 1 4 ++ joinHeads ++ head 6 2 0 ++ body 0 0 ++ body 1 0 ++ body 0 0 ++ body 1 0;
-      events = event 5 (columns 0 (range 1 4) ++ columns 1 (range 1 8)) ∷ event 5 (columns 0 (range 1 3) ++ columns 1 (range 1 11)) ∷ [];
+      fed = events (event 5 (columns 0 (range 1 4) ++ columns 1 (range 1 8)) ∷ event 5 (columns 0 (range 1 3) ++ columns 1 (range 1 11)) ∷ []);
       checked = reaching 0 1;
       givens = written (1 ∷ 1 ∷ 4 ∷ 0 ∷ 5 ∷ 4 ∷ 1 ∷ 2 ∷ 3 ∷ 4 ∷ []) ∷ turned 13 2 ∷ [];
       kepts = 0 ∷ 0 ∷ [];
@@ -453,10 +456,37 @@ cases =
     -- "16, report buffer too short, place the words needed": a report of 18 words fits, one of 19 doesn't
     ∷ record {
       rule = leaking;
-      events = event 5 (columns leak (range 1 13)) ∷ event 5 (columns leak (range 1 12)) ∷ [];
+      fed = events (event 5 (columns leak (range 1 13)) ∷ event 5 (columns leak (range 1 12)) ∷ []);
       checked = reaching 0 1;
       givens = turned 16 19 ∷ written (1 ∷ 1 ∷ 12 ∷ 0 ∷ 5 ∷ 12 ∷ range 1 12) ∷ [];
       kepts = 0 ∷ 0 ∷ [];
+      left = 0;
+    }
+    -- notices: "before any, every time is accepted", and an event of an equal time; rule L's leak at 100 isn't settled at 160 and is at 161; an event and a notice "below the latest known time" meet 11, and "an equal time is accepted, again and again"
+    ∷ record {
+      rule = ruleL;
+      fed = notice 100 ∷ eventOf leaks ∷ notice 160 ∷ notice 161 ∷ eventOf (one 160 close 7) ∷ notice 161 ∷ notice 160 ∷ [];
+      checked = reaching 61 1;
+      givens = none 1 ∷ none 1 ∷ none 1 ∷ written (1 ∷ 1 ∷ 2 ∷ 0 ∷ 100 ∷ 2 ∷ 7 ∷ 9 ∷ []) ∷ turned 11 0 ∷ none 1 ∷ turned 11 0 ∷ [];
+      kepts = 0 ∷ 2 ∷ 2 ∷ 0 ∷ 0 ∷ 0 ∷ 0 ∷ [];
+      left = 0;
+    }
+    -- ""next" is never settled by a notice, however late"
+    ∷ record {
+      rule = unary 8 0 0;
+      fed = eventOf (facts 10 (0 ∷ [])) ∷ notice 4000000000 ∷ eventOf (facts 4000000000 (0 ∷ [])) ∷ [];
+      checked = reaching 0 0;
+      givens = none 0 ∷ none 0 ∷ met 0 10 ∷ [];
+      kepts = 0 ∷ 0 ∷ 0 ∷ [];
+      left = 1;
+    }
+    -- "the clock ages nothing": once [0, 5) keeps its pair of age 0 after a notice at 14, and at an event at 14 it is 4 old
+    ∷ record {
+      rule = unary 13 0 5;
+      fed = eventOf (facts 10 (0 ∷ [])) ∷ notice 14 ∷ eventOf (facts 14 []) ∷ notice 20 ∷ eventOf (facts 20 []) ∷ [];
+      checked = reaching 0 0;
+      givens = met 0 10 ∷ none 0 ∷ met 1 14 ∷ none 0 ∷ denied 2 20 ∷ [];
+      kepts = 1 ∷ 1 ∷ 1 ∷ 1 ∷ 0 ∷ [];
       left = 0;
     }
     -- since, not-since, until, not-until where left has fewer variables; and-not where right has
@@ -466,7 +496,7 @@ cases =
     ∷ asking 12 5 (none 2 ∷ none 2 ∷ none 2 ∷ written (3 ∷ 2 ∷ 3 ∷ 0 ∷ 10 ∷ 1 ∷ 1 ∷ 12 ∷ 2 ∷ 2 ∷ 13 ∷ 0 ∷ 3 ∷ 4 ∷ 1 ∷ 2 ∷ 3 ∷ 4 ∷ []) ∷ []) (1 ∷ 3 ∷ 4 ∷ 0 ∷ []) 1
     ∷ record {
       rule = sizes 2 1 3 ++ atoms ++ head 3 0 1 ++ body 0 1 ++ body 0 0 ++ body 0 0;
-      events = event 3 ((0 ∷ 1 ∷ 2 ∷ []) ∷ (0 ∷ 3 ∷ 4 ∷ []) ∷ (1 ∷ 1 ∷ []) ∷ []) ∷ [];
+      fed = events (event 3 ((0 ∷ 1 ∷ 2 ∷ []) ∷ (0 ∷ 3 ∷ 4 ∷ []) ∷ (1 ∷ 1 ∷ []) ∷ []) ∷ []);
       checked = reaching 0 3;
       givens = written (1 ∷ 2 ∷ 1 ∷ 0 ∷ 3 ∷ 1 ∷ 3 ∷ 4 ∷ []) ∷ [];
       kepts = 0 ∷ [];
@@ -475,7 +505,7 @@ cases =
     -- "A term is a constant if its mask bit is set": an atom of variable 0, the constant 67,305,985 (bytes 1, 2, 3, 4), variable 2 and the constant 6; kept where variable 2 is less than 7
     ∷ record {
       rule = sizes 4 0 2 ++ (1 ∷ 0 ∷ 0 ∷ 10 ∷ 4 ∷ 0 ∷ 2 ∷ 2 ∷ []) ++ word 0 ++ (1 ∷ 2 ∷ 3 ∷ 4 ∷ []) ++ word 2 ++ word 6 ++ body 2 7;
-      events = event 3 ((0 ∷ 9 ∷ 67305985 ∷ 5 ∷ 6 ∷ []) ∷ (0 ∷ 8 ∷ 67305985 ∷ 7 ∷ 6 ∷ []) ∷ (0 ∷ 9 ∷ 1 ∷ 4 ∷ 6 ∷ []) ∷ (0 ∷ 9 ∷ 67305985 ∷ 4 ∷ 5 ∷ []) ∷ []) ∷ [];
+      fed = events (event 3 ((0 ∷ 9 ∷ 67305985 ∷ 5 ∷ 6 ∷ []) ∷ (0 ∷ 8 ∷ 67305985 ∷ 7 ∷ 6 ∷ []) ∷ (0 ∷ 9 ∷ 1 ∷ 4 ∷ 6 ∷ []) ∷ (0 ∷ 9 ∷ 67305985 ∷ 4 ∷ 5 ∷ []) ∷ []) ∷ []);
       checked = reaching 0 5;
       givens = written (1 ∷ 2 ∷ 1 ∷ 0 ∷ 3 ∷ 1 ∷ 9 ∷ 5 ∷ []) ∷ [];
       kepts = 0 ∷ [];
@@ -485,7 +515,7 @@ cases =
 
 -- every case of the table
 pub starred : map run cases ≡ cases
-unfolding time rowsAt latest wordAt sizesFit headAt bodyAt nodeOf nodeAt formulaAt shapeFits rangeFits timesChild weighNode checking lastPairs consulted parentOf pointEntries ageEntries entriesOf entries kept openPoints isEvent rowFits pointOf reportWords newlySettled reported report admitted weighed crowdedAt answer step answered
+unfolding size time rowsAt latest logOf wordAt sizesFit headAt bodyAt nodeOf nodeAt formulaAt shapeFits rangeFits timesChild weighNode checking lastPairs consulted parentOf pointEntries ageEntries entriesOf entries kept openPoints isEvent rowFits pointOf reportWords newlySettled reported report admitted weighed crowdedAt answerOn step answered
 starred = refl
 
 -- of these rules, those without "next" are the ones that have no head of kind 8

@@ -7,7 +7,7 @@ use lib.ListN.{getD}
 use lib.Dec.{ltb, eqb}
 use Rattle.meaning.specs.Lists.{all, any, select, gather, sameRow}
 use Rattle.meaning.specs.Order.{before}
-use Rattle.meaning.specs.Log.{Log, Row, size, time, rowsAt, elapsed, point, pointBefore, pointAfter, pointsFrom}
+use Rattle.meaning.specs.Log.{Log, size, time, rowsAt, elapsed, point, pointBefore, pointAfter, pointsFrom}
 use Rattle.meaning.specs.Formula.{Formula, atom, and, andNot, keep, or, exists, previous, next, since, notSince, until, notUntil, once, eventually, inWindow, compares, isVariable, free, variables}
 use Rattle.meaning.specs.Definition2.{Valuation, value}
 use Rattle.meaning.specs.declared.Point.{Point}
@@ -49,11 +49,11 @@ bound [] columns x = 0
 bound (t ∷ ts) [] x = 0
 bound (t ∷ ts) (c ∷ columns) x = cond (isVariable x t) c (bound ts columns x)
 
-abbrev pub matches : ℕ → List Term → Row → Bool
-matches r ts row = eqb (row .relation) r && sameRow (map (value (bound ts (row .values))) ts) (row .values)
+abbrev pub matches : List Term → List ℕ → Bool
+matches ts columns = sameRow (map (value (bound ts columns)) ts) columns
 
-abbrev pub atomRows : ℕ → List Term → List Row → List (List ℕ)
-atomRows r ts rows = map (λ row. map (bound ts (row .values)) variables) (select (matches r ts) rows)
+abbrev pub atomRows : List Term → List (List ℕ) → List (List ℕ)
+atomRows ts rows = map (λ columns. map (bound ts columns) variables) (select (matches ts) rows)
 
 -- the row agrees with another where both sets have the variable; and the two put together
 abbrev pub agrees : (ℕ → Bool) → (ℕ → Bool) → List ℕ → List ℕ → Bool
@@ -85,7 +85,7 @@ abbrev pub among : (ℕ → Bool) → (Point → List (List ℕ)) → List ℕ �
 among f left u k = member (cutTo f (valuationOf u)) (left k)
 
 abbrev pub vals : Log → Formula → Point → List (List ℕ)
-vals l (atom r ts) i = setOf (atomRows r ts (rowsAt l i))
+vals l (atom r ts) i = setOf (atomRows ts (rowsAt l r i))
 vals l (and a b) i = setOf (andRows (free a) (free b) (vals l a i) (vals l b i))
 vals l (andNot a b) i = setOf (select (λ u. not (among (free b) (vals l b) u i)) (vals l a i))
 vals l (keep a c s t) i = setOf (select (λ u. compares c (value (valuationOf u) s) (value (valuationOf u) t)) (vals l a i))

@@ -1,4 +1,4 @@
--- "The whole list": the keeper, which is fed the rule and each taking's event words and buffer, and holds only a log.
+-- "The whole list": the keeper, which is fed the rule and each taking's event words or notice's time and its buffer, and holds only a log.
 use Prim.Native.Nat.{ℕ}
 use mathlib.Core.Bool.{Bool, not, cond, _&&_}
 use mathlib.Core.List.{List, [], _∷_, _++_, map}
@@ -6,7 +6,7 @@ use lib.ListN.{length, getD, drop}
 use lib.Dec.{ltb, leb}
 use Rattle.meaning.specs.Lists.{any, range, select, gather}
 use Rattle.meaning.specs.Outcome.{Outcome, refused, given, when, notAnEvent, rowOut, timeFalls, logFull, crowded, backlog, keptOver, bufferShort, mostRows, mostOpen, mostKept, mostPoints}
-use Rattle.meaning.specs.Log.{Log, size, time, latest, pointsOf}
+use Rattle.meaning.specs.Log.{Log, Taken, added, noted, stamp, size, time, latest, pointsOf, logOf}
 use Rattle.meaning.specs.Formula.{Formula, free, variables}
 use Rattle.meaning.specs.Evaluator.{vals}
 use Rattle.meaning.specs.Settled.{settled}
@@ -17,9 +17,14 @@ use Rattle.meaning.specs.Report.{Reported, reportWords}
 use Rattle.meaning.specs.declared.Point.{Point}
 use Rattle.meaning.specs.declared.Stamp.{Stamp}
 
--- "Each taking has event words and a report buffer of its own, of any length and content"
+-- what a taking is fed: an event's words, or a clock notice's time
+pub data Fed : Type 0 where
+  event : List ℕ → Fed
+  notice : ℕ → Fed
+
+-- "Each taking has event words and a report buffer of its own, of any length and content"; "the list then holds takings of either kind"
 pub record Taking : Type 0 where
-  pub event : List ℕ
+  pub fed : Fed
   pub buffer : List ℕ
 
 -- what a taking gives back: the answer, the words written or a refusal, and every word of the buffer
@@ -61,6 +66,11 @@ admitted b w last points rest =
     (when (leb mostPoints points) logFull 0
     rest)))
 
+-- what comes first: 9 to 12 of an event; "A notice is refused by .. 11 if it is below the latest known time"
+abbrev pub admits : List ℕ → Fed → Stamp → ℕ → Outcome ℕ → Outcome ℕ
+admits b (event w) last points rest = admitted b w last points rest
+admits b (notice t) last points rest = when (ltb t (last .0)) timeFalls 0 rest
+
 -- "Then, reckoned as if the event were taken", 13 to 16, by the nodes that are crowded, the points left unsettled, the entries kept, the report's words and the buffer's; "Otherwise .. the words written"
 unfoldable pub weighed : (ℕ → Bool) → ℕ → ℕ → ℕ → ℕ → ℕ → Outcome ℕ
 weighed crowds nodes unsettled entries words room =
@@ -70,41 +80,52 @@ weighed crowds nodes unsettled entries words room =
     (when (ltb room words) bufferShort words
     (given words))))
 
+-- the unsettled points that 14 looks at: it isn't tested on a notice, "then 13, 15 and 16"
+abbrev pub backlogOf : Fed → ℕ → ℕ
+backlogOf (event w) unsettled = unsettled
+backlogOf (notice t) unsettled = 0
+
 -- 13: "some node has over 32 valuations at a point newly settled for it"
 unfoldable pub crowdedAt : List ℕ → Log → Log → ℕ → Bool
 crowdedAt b l l' x = any (λ i. ltb mostRows (length (vals l' (formulaAt b x) i))) (newlySettled l l' (formulaAt b x))
 
--- the log with the event's point at its end
-abbrev pub grown : List ℕ → Log → List ℕ → Log
-grown b l w = l ++ pointOf b w ∷ []
+-- what is put at the log's end: the event's point, or the notice
+abbrev pub takenOf : List ℕ → Fed → Taken
+takenOf b (event w) = added (pointOf b w)
+takenOf b (notice t) = noted (stamp t)
 
--- "If any of 9 to 16 applies to that log, the event and the buffer, it answers the first with its place"
-unfoldable pub answer : List ℕ → Log → Taking → Outcome ℕ
-answer b l t =
-    admitted b (t .event) (latest l) (size l)
-    (weighed (crowdedAt b l (grown b l (t .event))) (nodeCount b) (openPoints b (grown b l (t .event))) (kept b (grown b l (t .event)))
-    (length (report b l (grown b l (t .event)))) (length (t .buffer)))
+abbrev pub grown : List ℕ → List Taken → Fed → List Taken
+grown b es f = es ++ takenOf b f ∷ []
 
--- "log and buffer stay. Otherwise the point joins the log, and the report goes to the buffer's front .. Words past it stay"
-abbrev pub logAfter : Outcome ℕ → Log → Log → Log
-logAfter (refused number place) l l' = l
-logAfter (given words) l l' = l'
+-- "If any of 9 to 16 applies to that log, the event and the buffer, it answers the first with its place"; what is fed is reckoned from the log before it and the log with it
+unfoldable pub answerOn : List ℕ → Log → Log → Taking → Outcome ℕ
+answerOn b l l' t =
+    admits b (t .fed) (latest l) (size l)
+    (weighed (crowdedAt b l l') (nodeCount b) (backlogOf (t .fed) (openPoints b l')) (kept b l') (length (report b l l')) (length (t .buffer)))
+
+abbrev pub answer : List ℕ → List Taken → Taking → Outcome ℕ
+answer b es t = answerOn b (logOf es) (logOf (grown b es (t .fed))) t
+
+-- "log and buffer stay. Otherwise the point joins the log", or the notice is put "in its place in the log", "and the report goes to the buffer's front .. Words past it stay"
+abbrev pub logAfter : Outcome ℕ → List Taken → List Taken → List Taken
+logAfter (refused number place) es es' = es
+logAfter (given words) es es' = es'
 
 abbrev pub bufferAfter : Outcome ℕ → List ℕ → List ℕ → List ℕ
 bufferAfter (refused number place) words buffer = buffer
 bufferAfter (given n) words buffer = words ++ drop (length words) buffer
 
-unfoldable pub step : List ℕ → Log → Taking → Log
-step b l t = logAfter (answer b l t) l (grown b l (t .event))
+unfoldable pub step : List ℕ → List Taken → Taking → List Taken
+step b es t = logAfter (answer b es t) es (grown b es (t .fed))
 
-unfoldable pub answered : List ℕ → Log → Taking → Given
-answered b l t = record { answer = answer b l t; buffer = bufferAfter (answer b l t) (report b l (grown b l (t .event))) (t .buffer) }
+unfoldable pub answered : List ℕ → List Taken → Taking → Given
+answered b es t = record { answer = answer b es t; buffer = bufferAfter (answer b es t) (report b (logOf es) (logOf (grown b es (t .fed)))) (t .buffer) }
 
 -- over a list of takings: the keeper's log after it, and what each taking is given back
-abbrev pub keeperLog : List ℕ → Log → List Taking → Log
-keeperLog b l [] = l
-keeperLog b l (t ∷ ts) = keeperLog b (step b l t) ts
+abbrev pub keeperLog : List ℕ → List Taken → List Taking → List Taken
+keeperLog b es [] = es
+keeperLog b es (t ∷ ts) = keeperLog b (step b es t) ts
 
-abbrev pub keeper : List ℕ → Log → List Taking → List Given
-keeper b l [] = []
-keeper b l (t ∷ ts) = answered b l t ∷ keeper b (step b l t) ts
+abbrev pub keeper : List ℕ → List Taken → List Taking → List Given
+keeper b es [] = []
+keeper b es (t ∷ ts) = answered b es t ∷ keeper b (step b es t) ts

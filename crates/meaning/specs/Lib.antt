@@ -15,3 +15,4 @@ pub mod Event
 pub mod Report
 pub mod Keeper
 pub mod Limits
+pub mod WithoutNotices

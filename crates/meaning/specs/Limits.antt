@@ -34,13 +34,18 @@ pub record Admits (b w : List ℕ) (last : Stamp) (points : ℕ) (rest answer : 
   pub notAnEvent : (EventForm w → ⊥) → answer ≡ refused 9 0
   -- "place is the first such row, from 0"
   pub rowOut : EventForm w → (k : ℕ) → k < getD w 1 0 → (RowForm b w k → ⊥) → ((j : ℕ) → j < k → RowForm b w j) → answer ≡ refused 10 k
-  -- "11: time below the last point's"
+  -- "11: time below the last point's"; "later events below" a notice "meet 11"
   pub timeFalls : EventFits b w → getD w 0 0 < last .0 → answer ≡ refused 11 0
   -- "12: 10,000,000 points already"
   pub logFull : EventFits b w → last .0 ≤ getD w 0 0 → 10000000 ≤ points → answer ≡ refused 12 0
   pub passed : EventFits b w → last .0 ≤ getD w 0 0 → points < 10000000 → answer ≡ rest
 
--- 13 to 16, by the nodes that are crowded, the points left unsettled, the entries kept, the report's words and the buffer's
+-- 11 of a notice, by the latest known time; rest is what follows
+pub record AdmitsNotice (t : ℕ) (last : Stamp) (rest answer : Outcome ℕ) : Type 0 where
+  pub timeFalls : t < last .0 → answer ≡ refused 11 0
+  pub passed : last .0 ≤ t → answer ≡ rest
+
+-- 13 to 16, by the nodes that are crowded, the points left unsettled (0 on a notice, so that 14 doesn't meet it), the entries kept, the report's words and the buffer's
 pub record Weighs (crowds : ℕ → Bool) (nodes unsettled entries words room : ℕ) (answer : Outcome ℕ) : Type 0 where
   -- "place the lowest such node"
   pub crowded : (x : ℕ) → x < nodes → crowds x ≡ true → ((y : ℕ) → y < x → crowds y ≡ false) → answer ≡ refused 13 x

@@ -1,9 +1,11 @@
--- "The log": points, their times and rows. The definitions above reach a log only through size, time, rowsAt and latest.
+-- "The log": points and clock notices, as they are held, and what the definitions see of them. These reach a log only through size, time, rowsAt and latest.
 use Prim.Native.Nat.{ℕ, suc, _-_, _≤_, _<_}
 use mathlib.Core.Path.{_≡_}
-use mathlib.Core.List.{List, [], _++_, map}
+use mathlib.Core.Bool.{Bool, true, _&&_}
+use mathlib.Core.List.{List, [], _∷_, _++_, map}
 use lib.ListN.{length, getD}
-use Rattle.meaning.specs.Lists.{range}
+use lib.Dec.{leb, eqb}
+use Rattle.meaning.specs.Lists.{range, select}
 use Rattle.meaning.specs.declared.Point.{Point}
 use Rattle.meaning.specs.declared.Stamp.{Stamp}
 
@@ -35,25 +37,27 @@ pub record LogPoint : Type 0 where
   pub time : Stamp
   pub rows : List Row
 
-abbrev pub Log : Type 0
-Log = List LogPoint
+-- What the definitions see of a log.
+pub record Log : Type 0 where
+  pub points : ℕ
+  pub stamps : Point → Stamp
+  pub rows : ℕ → Point → List (List ℕ)
+  pub clock : Stamp
 
-abbrev pub size : Log → ℕ
-size l = length l
-
-abbrev pub beyond : LogPoint
-beyond = record { time = stamp 0; rows = [] }
+unfoldable pub size : Log → ℕ
+size l = l .points
 
 -- the time stamp of point i: the paper's τ with index i
 unfoldable pub time : Log → Point → Stamp
-time l i = getD l (i .0) beyond .time
+time l i = l .stamps i
 
-unfoldable pub rowsAt : Log → Point → List Row
-rowsAt l i = getD l (i .0) beyond .rows
+-- the values of the rows of relation r at point i: the paper's r of D with index i
+unfoldable pub rowsAt : Log → ℕ → Point → List (List ℕ)
+rowsAt l r i = l .rows r i
 
--- the latest known time, 0 before any
+-- "the latest known time, of a point or a notice", 0 before any
 unfoldable pub latest : Log → Stamp
-latest l = time l (point (size l - 1))
+latest l = l .clock
 
 abbrev pub pointsOf : Log → List Point
 pointsOf l = pointsFrom (point 0) (size l)
@@ -62,12 +66,53 @@ pointsOf l = pointsFrom (point 0) (size l)
 abbrev pub elapsed : Stamp → Stamp → ℕ
 elapsed s t = t .0 - s .0
 
--- "Times may be equal but never fall"
+-- "Times may be equal but never fall", and none is after the latest known time
 pub record Ordered (l : Log) : Type 0 where
   pub steps : (i j : Point) → i .0 ≤ j .0 → j .0 < size l → time l i .0 ≤ time l j .0
+  pub late : (i : Point) → i .0 < size l → time l i .0 ≤ latest l .0
 
--- a log that begins with l and goes on by points whose times don't fall
-pub record GoesOn (l l' : Log) : Type 0 where
-  pub more : Log
-  pub begins : l' ≡ l ++ more
-  pub ordered : Ordered l'
+-- A log as it is held: what was taken, each in its place: a point was added, or a clock notice noted, which is "a time, and no point".
+pub data Taken : Type 0 where
+  added : LogPoint → Taken
+  noted : Stamp → Taken
+
+abbrev pub timeOf : Taken → Stamp
+timeOf (added p) = p .time
+timeOf (noted t) = t
+
+-- its points; a notice "has no number"
+abbrev pub pointsIn : List Taken → List LogPoint
+pointsIn [] = []
+pointsIn (added p ∷ es) = p ∷ pointsIn es
+pointsIn (noted t ∷ es) = pointsIn es
+
+-- the time of the last that was taken, of a point or a notice; of nothing the first argument
+abbrev pub lastTime : Stamp → List Taken → Stamp
+lastTime t [] = t
+lastTime t (e ∷ es) = lastTime (timeOf e) es
+
+abbrev pub beyond : LogPoint
+beyond = record { time = stamp 0; rows = [] }
+
+-- the values of a relation's rows
+abbrev pub relationIn : ℕ → List Row → List (List ℕ)
+relationIn r rows = map (λ row. row .values) (select (λ row. eqb (row .relation) r) rows)
+
+-- points, and a latest known time beside them
+abbrev pub logWith : List LogPoint → Stamp → Log
+logWith ps t = record { points = length ps; stamps = λ i. getD ps (i .0) beyond .time; rows = λ r i. relationIn r (getD ps (i .0) beyond .rows); clock = t }
+
+-- what the definitions see of what was taken: a notice moves the latest known time alone
+unfoldable pub logOf : List Taken → Log
+logOf es = logWith (pointsIn es) (lastTime (stamp 0) es)
+
+-- each is no earlier than the one before it
+abbrev pub inOrder : Stamp → List Taken → Bool
+inOrder t [] = true
+inOrder t (e ∷ es) = leb (t .0) (timeOf e .0) && inOrder (timeOf e) es
+
+-- "what goes on from a log isn't below its latest known time": points and notices that begin with es and go on in order
+pub record GoesOn (es es' : List Taken) : Type 0 where
+  pub more : List Taken
+  pub begins : es' ≡ es ++ more
+  pub ordered : inOrder (stamp 0) es' ≡ true

@@ -13,7 +13,7 @@ use Rattle.meaning.specs.declared.Window.{Window}
 abbrev pub settledSince : (Point → Bool) → Point → Bool
 settledSince children i = all children (pointsFrom (point 0) (suc (i .0)))
 
--- "11, 12 and 14 if some accepted point has time at least Ti + d and the children are settled at every j ≥ i with Tj < Ti + d"
+-- "11, 12 and 14 if .. the children are settled at every j ≥ i with Tj < Ti + d"; and ""Settled" for kinds 11, 12 and 14 now needs the latest known time, of a point or a notice, to be at least Ti + d"
 abbrev pub settledUntil : Log → Window → (Point → Bool) → Point → Bool
 settledUntil l w children i =
     ltb (i .0) (size l) && leb (time l i .0 + w .end) (latest l .0)

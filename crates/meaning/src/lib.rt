@@ -28,6 +28,12 @@ pub struct Point(pub u32);
 // A point's time stamp in seconds: the paper's τ.
 pub struct Stamp(pub u32);
 
+// Where a log ends: how many points it has, and the latest known time, of a point or a notice.
+pub struct LogEnd {
+    pub points: u32,
+    pub latest: Stamp,
+}
+
 // A term is a variable, by its number, or a constant.
 pub enum Term {
     Variable(u32),

@@ -1,8 +1,9 @@
--- Bounds on the counts of what is stored, whether or not a log reaches it: no count exceeds the number of points or falls as a point is added, and the time of every point that is still wanted is retained.
+-- Bounds on the counts of what is stored, whether or not a log reaches it: no count exceeds the number of points or falls in a call, and the time of every point that is still wanted is retained.
 use Prim.Native.Nat.{ℕ, zero, suc, _+_, _-_, _≤_, _<_, min}
 use native.Mathlib.Omega.{arith}
 use mathlib.Core.Path.{_≡_, refl, sym, _∙_, ap}
 use mathlib.Core.Bool.{Bool, true, false, cond}
+use mathlib.Core.Logic.{_⊎_, inl, inr}
 use mathlib.Core.List.{List, map, List·Memᴰ}
 use lib.ListN.{length, getD}
 use lib.Dec.{ltb, leb, eqb}
@@ -11,18 +12,19 @@ use Rattle.meaning.specs.Lists.{range}
 use Rattle.meaning.specs.Outcome.{given}
 use Rattle.meaning.specs.Log.{point, pointAfter}
 use Rattle.meaning.specs.View.{viewOf, childrenIn}
-use Rattle.meaning.specs.RuleFile.{Accepted, checking, nodeCount, nodeAt, childrenOf, lastNode}
+use Rattle.meaning.specs.RuleFile.{Accepted, checking, nodeCount, nodeAt, childrenOf, lastNode, oneIf}
 use Rattle.meaning.specs.declared.Point.{Point}
 use Rattle.meaning.specs.declared.Stamp.{Stamp}
+use Rattle.meaning.specs.declared.LogEnd.{LogEnd}
 use Rattle.meaning.specs.declared.Times.{Times}
 use Rattle.meaning.specs.declared.Times.the-variants.{Here, Before, After, Past, Future}
 use Rattle.meaning.specs.declared.View.{View}
 use Rattle.meaning.proofs.Points.{Tested, passed, failed, tested}
 use Rattle.meaning.proofs.Rows.{range-of}
 use Rattle.meaning.proofs.Accepted.{accepted, lower}
-use Rattle.method.specs.Stored.{Stored, baseOf, stampIn, leastOf, firstRetained}
+use Rattle.method.specs.Stored.{Stored, endOf, baseOf, stampIn, leastOf, firstRetained}
 use Rattle.method.specs.Counts.{scan, untilCount, advanceBy, advance, countsTo, ConsultsBy, Consults}
-use Rattle.method.specs.Step.{firstWanted, wantedFrom, countsStored, countBefore, stampsNow, countsAfter, countAfter}
+use Rattle.method.specs.Step.{firstWanted, wantedFrom, countsStored, countBefore, pointsAdded, stampsNow, endNow, countsAfter, countAfter}
 use Rattle.method.specs.WellFormed.{mostTimes}
 use Rattle.method.proofs.Least.{least-most, least-below, least-grows, least-same}
 use Rattle.method.proofs.Counted.{counts-length, counts-old, counts-new}
@@ -43,39 +45,39 @@ module _ (τ : Point → Stamp) where
       go true h = omega arith
       go false h = omega arith
 
-  until-within : (n d m from : ℕ) → (from ≤ untilCount τ n d m from) × (untilCount τ n d m from ≤ from + (m - from))
+  until-within : (e : LogEnd) (d m from : ℕ) → (from ≤ untilCount τ e d m from) × (untilCount τ e d m from ≤ from + (m - from))
   unfolding untilCount
-  until-within n d m from = scan-within d (τ (point (cond (ltb m n) m (n - 1)))) (point from) (m - from)
+  until-within e d m from = scan-within d (cond (ltb m (e .points)) (τ (point m)) (e .latest)) (point from) (m - from)
 
-module _ (τ : Point → Stamp) (n from : ℕ) where
+module _ (τ : Point → Stamp) (e : LogEnd) (from : ℕ) where
   -- it is at most the number of points, where the children's and the count to start from are
-  most-by : (m : ℕ) → m ≤ n → from ≤ n → (d : ℕ) (t : Times) → advanceBy τ n m from d t ≤ n
+  most-by : (m : ℕ) → m ≤ e .points → from ≤ e .points → (d : ℕ) (t : Times) → advanceBy τ e m from d t ≤ e .points
   most-by m h u d Here = h
   most-by m h u d Before = omega arith
   most-by m h u d After = omega arith
   most-by m h u d Past = h
-  most-by m h u d Future = omega (arith, until-within τ n d m from)
+  most-by m h u d Future = omega (arith, until-within τ e d m from)
 
   -- it doesn't fall as the number of points and the children's counts grow
-  grows-by : (τ' : Point → Stamp) (n' m m' : ℕ) → n ≤ n' → m ≤ m' → (d : ℕ) (t : Times) → advanceBy τ n m from d t ≤ advanceBy τ' n' m' (advanceBy τ n m from d t) d t
-  grows-by τ' n' m m' u h d Here = h
-  grows-by τ' n' m m' u h d Before = omega arith
-  grows-by τ' n' m m' u h d After = omega arith
-  grows-by τ' n' m m' u h d Past = h
-  grows-by τ' n' m m' u h d Future = until-within τ' n' d m' _ .0
+  grows-by : (τ' : Point → Stamp) (e' : LogEnd) (m m' : ℕ) → e .points ≤ e' .points → m ≤ m' → (d : ℕ) (t : Times) → advanceBy τ e m from d t ≤ advanceBy τ' e' m' (advanceBy τ e m from d t) d t
+  grows-by τ' e' m m' u h d Here = h
+  grows-by τ' e' m m' u h d Before = omega arith
+  grows-by τ' e' m m' u h d After = omega arith
+  grows-by τ' e' m m' u h d Past = h
+  grows-by τ' e' m m' u h d Future = until-within τ' e' d m' _ .0
 
   module _ (c : ℕ → ℕ) (v : View) where
     -- it follows from the counts of the children alone
-    advance-same : (c' : ℕ → ℕ) → ((y : ℕ) → List·Memᴰ y (childrenIn (v .children)) → c y ≡ c' y) → advance τ n c from v ≡ advance τ n c' from v
-    advance-same c' h = ap (λ m. advanceBy τ n m from (v .window .end) (v .times)) (least-same n c c' (childrenIn (v .children)) h)
+    advance-same : (c' : ℕ → ℕ) → ((y : ℕ) → List·Memᴰ y (childrenIn (v .children)) → c y ≡ c' y) → advance τ e c from v ≡ advance τ e c' from v
+    advance-same c' h = ap (λ m. advanceBy τ e m from (v .window .end) (v .times)) (least-same (e .points) c c' (childrenIn (v .children)) h)
 
-    pub advance-most : from ≤ n → advance τ n c from v ≤ n
-    advance-most u = most-by (leastOf n (map c (childrenIn (v .children)))) (least-most n (map c (childrenIn (v .children)))) u (v .window .end) (v .times)
+    pub advance-most : from ≤ e .points → advance τ e c from v ≤ e .points
+    advance-most u = most-by (leastOf (e .points) (map c (childrenIn (v .children)))) (least-most (e .points) (map c (childrenIn (v .children)))) u (v .window .end) (v .times)
 
-    advance-grows : (τ' : Point → Stamp) (n' : ℕ) (c' : ℕ → ℕ) → n ≤ n' → ((y : ℕ) → List·Memᴰ y (childrenIn (v .children)) → c y ≤ c' y)
-        → advance τ n c from v ≤ advance τ' n' c' (advance τ n c from v) v
-    advance-grows τ' n' c' u h =
-        grows-by τ' n' (leastOf n (map c (childrenIn (v .children)))) (leastOf n' (map c' (childrenIn (v .children)))) u (least-grows n n' c c' (childrenIn (v .children)) u h) (v .window .end) (v .times)
+    advance-grows : (τ' : Point → Stamp) (e' : LogEnd) (c' : ℕ → ℕ) → e .points ≤ e' .points → ((y : ℕ) → List·Memᴰ y (childrenIn (v .children)) → c y ≤ c' y)
+        → advance τ e c from v ≤ advance τ' e' c' (advance τ e c from v) v
+    advance-grows τ' e' c' u h =
+        grows-by τ' e' (leastOf (e .points) (map c (childrenIn (v .children)))) (leastOf (e' .points) (map c' (childrenIn (v .children)))) u (least-grows (e .points) (e' .points) c c' (childrenIn (v .children)) u h) (v .window .end) (v .times)
 
 -- ---- the counts of a rule's nodes
 
@@ -92,26 +94,26 @@ module _ (b : List ℕ) (a : Accepted) (ok : checking b ≡ given a) where
       upTo zero u x v = absurd (omega arith)
       upTo (suc k) u x v = step x (omega arith) (λ y m. upTo k (omega arith) y (omega (arith, below x (omega arith) y m)))
 
-  module _ (τ : Point → Stamp) (n : ℕ) (from : ℕ → ℕ) where
+  module _ (τ : Point → Stamp) (e : LogEnd) (from : ℕ → ℕ) where
     abbrev count : ℕ → ℕ
-    count x = getD (countsTo b τ n from (nodeCount b)) x 0
+    count x = getD (countsTo b τ e from (nodeCount b)) x 0
 
     -- a count stays as those of later nodes are added
-    counts-stay : (k m x : ℕ) → x < k → getD (countsTo b τ n from (k + m)) x 0 ≡ getD (countsTo b τ n from k) x 0
-    counts-stay k zero x h = let e : k + 0 ≡ k = omega arith in rw e
-    counts-stay k (suc m) x h = let e : k + suc m ≡ suc (k + m) = omega arith in rw e (counts-old b τ n from (k + m) x (omega arith) ∙ counts-stay k m x h)
+    counts-stay : (k m x : ℕ) → x < k → getD (countsTo b τ e from (k + m)) x 0 ≡ getD (countsTo b τ e from k) x 0
+    counts-stay k zero x h = let z : k + 0 ≡ k = omega arith in rw z
+    counts-stay k (suc m) x h = let z : k + suc m ≡ suc (k + m) = omega arith in rw z (counts-old b τ e from (k + m) x (omega arith) ∙ counts-stay k m x h)
 
-    count-at : (k x : ℕ) → x < k → k ≤ nodeCount b → count x ≡ getD (countsTo b τ n from k) x 0
-    count-at k x h u = let e : nodeCount b ≡ k + (nodeCount b - k) = omega arith in ap (λ z. getD (countsTo b τ n from z) x 0) e ∙ counts-stay k (nodeCount b - k) x h
+    count-at : (k x : ℕ) → x < k → k ≤ nodeCount b → count x ≡ getD (countsTo b τ e from k) x 0
+    count-at k x h u = let q : nodeCount b ≡ k + (nodeCount b - k) = omega arith in ap (λ z. getD (countsTo b τ e from z) x 0) q ∙ counts-stay k (nodeCount b - k) x h
 
     -- each count follows from those of the children
-    count-step : (x : ℕ) → x < nodeCount b → count x ≡ advance τ n count (from x) (viewOf (nodeAt b x))
+    count-step : (x : ℕ) → x < nodeCount b → count x ≡ advance τ e count (from x) (viewOf (nodeAt b x))
     count-step x o =
-        count-at (suc x) x (omega arith) o ∙ counts-new b τ n from x
-        ∙ advance-same τ n (from x) (λ y. getD (countsTo b τ n from x) y 0) (viewOf (nodeAt b x)) count (λ y m. sym (count-at x y (below x o y m) (omega arith)))
+        count-at (suc x) x (omega arith) o ∙ counts-new b τ e from x
+        ∙ advance-same τ e (from x) (λ y. getD (countsTo b τ e from x) y 0) (viewOf (nodeAt b x)) count (λ y m. sym (count-at x y (below x o y m) (omega arith)))
 
-    count-most : ((x : ℕ) → x < nodeCount b → from x ≤ n) → (x : ℕ) → x < nodeCount b → count x ≤ n
-    count-most h x o = rw (count-step x o) (advance-most τ n (from x) count (viewOf (nodeAt b x)) (h x o))
+    count-most : ((x : ℕ) → x < nodeCount b → from x ≤ e .points) → (x : ℕ) → x < nodeCount b → count x ≤ e .points
+    count-most h x o = rw (count-step x o) (advance-most τ e (from x) count (viewOf (nodeAt b x)) (h x o))
 
 -- ---- the first wanted point
 
@@ -165,25 +167,36 @@ module _ (b : List ℕ) (a : Accepted) (ok : checking b ≡ given a) where
         go (at-last e) = rw (e c) (omega (arith, h x o))
         go (with-parent p n e) = rw (e c) (omega (arith, h x o, h p n, wanted-near (viewOf (nodeAt b p) .times) (c p)))
 
+-- one point is added or none
+pub some-added : (w : List ℕ) → (pointsAdded w ≡ 0) ⊎ (pointsAdded w ≡ 1)
+some-added w = go (ltb 1 (length w))
+  where
+    go : (t : Bool) → (oneIf t ≡ 0) ⊎ (oneIf t ≡ 1)
+    go true = inr refl
+    go false = inl refl
+
+pub one-added : (w : List ℕ) → pointsAdded w ≤ 1
+one-added w = elim (some-added w) [ inl e ↦ omega (arith, e) | inr e ↦ omega (arith, e) ]
+
 -- ---- what is stored
 
 -- What is stored of an accepted rule, with the times that the counts ask for.
 module _ (s : Stored) (a : Accepted) (ok : checking (s .rule) ≡ given a)
     (few : length (s .times) ≤ mostTimes)
     (times : length (s .times) ≡ s .points - firstRetained (s .points) (countsStored s) .0) where
-  pub before-step : (x : ℕ) → x < nodeCount (s .rule) → countBefore s x ≡ advance (stampIn (baseOf s) (s .times)) (s .points) (countBefore s) (baseOf s .0) (viewOf (nodeAt (s .rule) x))
+  pub before-step : (x : ℕ) → x < nodeCount (s .rule) → countBefore s x ≡ advance (stampIn (baseOf s) (s .times)) (endOf s) (countBefore s) (baseOf s .0) (viewOf (nodeAt (s .rule) x))
   unfolding countBefore countsStored
-  before-step = count-step (s .rule) a ok (stampIn (baseOf s) (s .times)) (s .points) (λ y. baseOf s .0)
+  before-step = count-step (s .rule) a ok (stampIn (baseOf s) (s .times)) (endOf s) (λ y. baseOf s .0)
 
   pub before-most : (x : ℕ) → x < nodeCount (s .rule) → countBefore s x ≤ s .points
   unfolding countBefore countsStored
-  before-most = count-most (s .rule) a ok (stampIn (baseOf s) (s .times)) (s .points) (λ y. baseOf s .0) (λ y o. omega arith)
+  before-most = count-most (s .rule) a ok (stampIn (baseOf s) (s .times)) (endOf s) (λ y. baseOf s .0) (λ y o. omega arith)
 
   counts-are : countsStored s ≡ map (countBefore s) (range 0 (nodeCount (s .rule)))
   unfolding countBefore countsStored
   counts-are =
       from-getD (countsStored s) (nodeCount (s .rule)) (countBefore s)
-      (counts-length (s .rule) (stampIn (baseOf s) (s .times)) (s .points) (λ y. baseOf s .0) (nodeCount (s .rule))) (λ k o. refl)
+      (counts-length (s .rule) (stampIn (baseOf s) (s .times)) (endOf s) (λ y. baseOf s .0) (nodeCount (s .rule))) (λ k o. refl)
 
   -- the last point that a node has settled is no earlier than the first retained
   pub base-low : (x : ℕ) → x < nodeCount (s .rule) → baseOf s .0 ≤ countBefore s x - 1
@@ -206,25 +219,25 @@ module _ (s : Stored) (a : Accepted) (ok : checking (s .rule) ≡ given a)
   pub wanted-child : (x : ℕ) → x < nodeCount (s .rule) → (y : ℕ) → List·Memᴰ y (childrenOf (nodeAt (s .rule) x)) → wantedFrom (s .rule) (countBefore s) y .0 ≤ firstWanted (viewOf (nodeAt (s .rule) x) .times) (countBefore s x) .0
   wanted-child = wanted-under (s .rule) a ok (countBefore s)
 
-  -- one call, with the event's words
+  -- one call, with the words of what is fed
   module _ (w : List ℕ) where
-    pub after-step : (x : ℕ) → x < nodeCount (s .rule) → countAfter s w x ≡ advance (stampsNow s w) (s .points + 1) (countAfter s w) (countBefore s x) (viewOf (nodeAt (s .rule) x))
+    pub after-step : (x : ℕ) → x < nodeCount (s .rule) → countAfter s w x ≡ advance (stampsNow s w) (endNow s w) (countAfter s w) (countBefore s x) (viewOf (nodeAt (s .rule) x))
     unfolding countAfter countsAfter
-    after-step = count-step (s .rule) a ok (stampsNow s w) (s .points + 1) (countBefore s)
+    after-step = count-step (s .rule) a ok (stampsNow s w) (endNow s w) (countBefore s)
 
-    pub after-most : (x : ℕ) → x < nodeCount (s .rule) → countAfter s w x ≤ s .points + 1
+    pub after-most : (x : ℕ) → x < nodeCount (s .rule) → countAfter s w x ≤ s .points + pointsAdded w
     unfolding countAfter countsAfter
-    after-most = count-most (s .rule) a ok (stampsNow s w) (s .points + 1) (countBefore s) (λ y o. omega (arith, before-most y o))
+    after-most = count-most (s .rule) a ok (stampsNow s w) (endNow s w) (countBefore s) (λ y o. omega (arith, before-most y o))
 
     pub before-after : (x : ℕ) → x < nodeCount (s .rule) → countBefore s x ≤ countAfter s w x
     before-after =
         by-children (s .rule) a ok (λ x. countBefore s x ≤ countAfter s w x)
         (λ x o grown.
         rw (after-step x o, before-step x o)
-        (advance-grows (stampIn (baseOf s) (s .times)) (s .points) (baseOf s .0) (countBefore s) (viewOf (nodeAt (s .rule) x)) (stampsNow s w) (s .points + 1) (countAfter s w) (omega arith) grown))
+        (advance-grows (stampIn (baseOf s) (s .times)) (endOf s) (baseOf s .0) (countBefore s) (viewOf (nodeAt (s .rule) x)) (stampsNow s w) (endNow s w) (countAfter s w) (omega arith) grown))
 
     pub new-few : (x : ℕ) → x < nodeCount (s .rule) → countAfter s w x - countBefore s x ≤ 65
-    new-few x o = omega (arith, retained, base-low x o, after-most x o)
+    new-few x o = omega (arith, retained, base-low x o, after-most x o, one-added w)
 
     pub wanted-after : (x : ℕ) → wantedFrom (s .rule) (countAfter s w) x .0 ≤ countAfter s w x
     wanted-after = wanted-low (s .rule) (countAfter s w)
@@ -234,16 +247,16 @@ module _ (s : Stored) (a : Accepted) (ok : checking (s .rule) ≡ given a)
 
     -- a call looks at few points of a node: those it newly settles and those still wanted, none of them before the first retained
     pub span : (x : ℕ) → x < nodeCount (s .rule) → countAfter s w x - wantedFrom (s .rule) (countBefore s) x .0 ≤ length (s .times) + 1
-    span x o = omega (arith, wanted-retained x o, after-most x o)
+    span x o = omega (arith, wanted-retained x o, after-most x o, one-added w)
 
 -- ---- what a newly settled point consults is settled
 
-consults-by : (τ : Point → Stamp) (n m start d : ℕ) (t : Times) (i : Point) → start ≤ i .0 → i .0 < advanceBy τ n m start d t → (c : ℕ) → m ≤ c → ConsultsBy c i t
-consults-by τ n m start d Here i h u c k = omega arith
-consults-by τ n m start d Before i h u c k = omega arith
-consults-by τ n m start d After i h u c k = omega arith
-consults-by τ n m start d Past i h u c k = omega arith
-consults-by τ n m start d Future i h u c k = omega (arith, until-within τ n d m start)
+consults-by : (τ : Point → Stamp) (e : LogEnd) (m start d : ℕ) (t : Times) (i : Point) → start ≤ i .0 → i .0 < advanceBy τ e m start d t → (c : ℕ) → m ≤ c → ConsultsBy c i t
+consults-by τ e m start d Here i h u c k = omega arith
+consults-by τ e m start d Before i h u c k = omega arith
+consults-by τ e m start d After i h u c k = omega arith
+consults-by τ e m start d Past i h u c k = omega arith
+consults-by τ e m start d Future i h u c k = omega (arith, until-within τ e d m start)
 
-pub consults : (τ : Point → Stamp) (n : ℕ) (c : ℕ → ℕ) (start : ℕ) (v : View) (i : Point) → start ≤ i .0 → i .0 < advance τ n c start v → Consults c i v
-consults τ n c start v i h u y m = consults-by τ n (leastOf n (map c (childrenIn (v .children)))) start (v .window .end) (v .times) i h u (c y) (least-below n c (childrenIn (v .children)) y m)
+pub consults : (τ : Point → Stamp) (e : LogEnd) (c : ℕ → ℕ) (start : ℕ) (v : View) (i : Point) → start ≤ i .0 → i .0 < advance τ e c start v → Consults c i v
+consults τ e c start v i h u y m = consults-by τ e (leastOf (e .points) (map c (childrenIn (v .children)))) start (v .window .end) (v .times) i h u (c y) (least-below (e .points) c (childrenIn (v .children)) y m)

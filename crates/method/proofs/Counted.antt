@@ -19,6 +19,7 @@ use Rattle.meaning.specs.View.{viewOf, childrenIn}
 use Rattle.meaning.specs.RuleFile.{Accepted, checking, nodeCount, nodeAt, childrenOf, formulaOf, formulaAt}
 use Rattle.meaning.specs.declared.Point.{Point}
 use Rattle.meaning.specs.declared.Stamp.{Stamp}
+use Rattle.meaning.specs.declared.LogEnd.{LogEnd}
 use Rattle.meaning.specs.declared.Window.{Window}
 use Rattle.meaning.specs.declared.Node.{Node}
 use Rattle.meaning.specs.declared.Children.{Children}
@@ -27,7 +28,7 @@ use Rattle.meaning.specs.declared.Times.{Times}
 use Rattle.meaning.specs.declared.Times.the-variants.{Here, Before, After, Past, Future}
 use Rattle.meaning.proofs.Points.{both, first, second, orLeft, orRight, Tested, passed, failed, tested}
 use Rattle.meaning.proofs.Rows.{either, both-ways}
-use Rattle.meaning.proofs.Growth.{Extends, at-latest}
+use Rattle.meaning.proofs.Growth.{Extends}
 use Rattle.meaning.proofs.Fine.{Fine}
 use Rattle.meaning.proofs.Settles.{UntilSettled, until-parts, until-whole, since-each, since-all, present, prefix, stays}
 use Rattle.meaning.proofs.Tree.{ChildrenLower, formula-step}
@@ -143,53 +144,53 @@ scanned p down τ d bound from (suc steps) before each most =
     go true e rest = rest e
     go false e rest = upto-of p (from .0) (stops p (from .0) down e) before
 
--- the point by whose time a window has to end, where the children have settled m points and the test says whether there is a point m
-abbrev ending : Log → ℕ → Bool → Point
-ending l m t = point (cond t m (size l - 1))
+-- where a log ends
+abbrev pub endIn : Log → LogEnd
+endIn l = record { points = size l; latest = latest l }
+
+-- the time by which a window has to end, where the children have settled m points and the test says whether there is a point m
+abbrev ending : (Point → Stamp) → Log → ℕ → Bool → Stamp
+ending τ l m t = cond t (τ (point m)) (latest l)
 
 -- Until, over a test of the children that passes at the first m points.
 module _ (l : Log) (o : Ordered l) (w : Window) (pos : 0 < w .end) (p : Point → Bool) (m : ℕ) (h : Upto p m) (most : m ≤ size l) where
   until-below : (i : Point) → settledUntil l w p i ≡ true → i .0 < m
   until-below i e = let q : UntilSettled l w p i = until-parts l w p i e in upto-below p m h i (q .inner i (omega arith) (q .here) (omega arith))
 
-  until-ends : (t : Bool) → ltb m (size l) ≡ t → (i : Point) → i .0 < m → UntilSettled l w p i → time l i .0 + w .end ≤ time l (ending l m t) .0
-  unfolding latest
+  until-ends : (t : Bool) → ltb m (size l) ≡ t → (i : Point) → i .0 < m → UntilSettled l w p i → time l i .0 + w .end ≤ ending (time l) l m t .0
   until-ends true e i u q =
       let no : time l (point m) .0 < time l i .0 + w .end → ⊥ = λ v. omega (arith, upto-below p m h (point m) (q .inner (point m) (omega arith) (ltb-true m (size l) e) v)) in
       omega arith
   until-ends false e i u q = q .late
 
-  until-from : (t : Bool) → ltb m (size l) ≡ t → (i : Point) → i .0 < m → time l i .0 + w .end ≤ time l (ending l m t) .0 → UntilSettled l w p i
-  unfolding latest
+  until-from : (t : Bool) → ltb m (size l) ≡ t → (i : Point) → i .0 < m → time l i .0 + w .end ≤ ending (time l) l m t .0 → UntilSettled l w p i
   until-from true e i u v =
       let n : m < size l = ltb-true m (size l) e in
       record {
         here = omega arith;
-        late = omega (arith, at-latest l o (point m) n);
+        late = omega (arith, o .late (point m) n);
         inner = λ j a b c. upto-holds p m h j (lt-of-not-le (λ k. omega (arith, o .steps (point m) j k b)));
       }
   until-from false e i u v = record { here = omega arith; late = v; inner = λ j a b c. upto-holds p m h j (omega (arith, ltb-false m (size l) e)) }
 
-  until-at : (i : Point) → i .0 < m → settledUntil l w p i ≡ leb (time l i .0 + w .end) (time l (ending l m (ltb m (size l))) .0)
+  until-at : (i : Point) → i .0 < m → settledUntil l w p i ≡ leb (time l i .0 + w .end) (ending (time l) l m (ltb m (size l)) .0)
   until-at i u =
       both-ways _ _
       (λ s. le-leb _ _ (until-ends (ltb m (size l)) refl i u (until-parts l w p i s)))
       (λ s. until-whole l w p i (until-from (ltb m (size l)) refl i u (leb-true _ _ s)))
 
-  ending-within : (t : Bool) → ltb m (size l) ≡ t → 0 < m → (m ≤ suc (ending l m t .0)) × (ending l m t .0 < size l)
-  ending-within true e u = omega (arith, ltb-true m (size l) e)
-  ending-within false e u = omega arith
-
   upto-until : Down (settledUntil l w p) → (from : ℕ) → ((i : Point) → i .0 < from → settledUntil l w p i ≡ true)
       → (τ : Point → Stamp) → ((i : Point) → from ≤ i .0 → i .0 < size l → τ i ≡ time l i)
-      → Upto (settledUntil l w p) (untilCount τ (size l) (w .end) m from)
+      → Upto (settledUntil l w p) (untilCount τ (endIn l) (w .end) m from)
   unfolding untilCount
   upto-until down from known τ stamps =
-      scanned (settledUntil l w p) down τ (w .end) (τ (ending l m (ltb m (size l)))) (point from) (m - from) known
-      (λ i a b.
-      let (u, v) = ending-within (ltb m (size l)) refl (omega arith) in
-      rw (stamps i a (omega arith), stamps (ending l m (ltb m (size l))) (omega arith) v) (until-at i (omega arith)))
+      scanned (settledUntil l w p) down τ (w .end) (ending τ l m (ltb m (size l))) (point from) (m - from) known
+      (λ i a b. rw (stamps i a (omega arith), same (ltb m (size l)) refl (omega arith)) (until-at i (omega arith)))
       (λ i e. omega (arith, until-below i e))
+    where
+      same : (t : Bool) → ltb m (size l) ≡ t → from ≤ m → ending τ l m t ≡ ending (time l) l m t
+      same true e u = stamps (point m) u (ltb-true m (size l) e)
+      same false e u = refl
 
 module _ (l : Log) (o : Ordered l) (F : ℕ → Formula) (c : ℕ → ℕ) where
   -- the children of a node together
@@ -206,7 +207,7 @@ module _ (l : Log) (o : Ordered l) (F : ℕ → Formula) (c : ℕ → ℕ) where
   upto-times : (w : Window) (t : Times) → Ended w t → (p : Point → Bool) (m : ℕ) → Upto p m → m ≤ size l → Down (settledBy l p w t)
       → (from : ℕ) → ((i : Point) → i .0 < from → settledBy l p w t i ≡ true)
       → (τ : Point → Stamp) → ((i : Point) → from ≤ i .0 → i .0 < size l → τ i ≡ time l i)
-      → Upto (settledBy l p w t) (advanceBy τ (size l) m from (w .end) t)
+      → Upto (settledBy l p w t) (advanceBy τ (endIn l) m from (w .end) t)
   upto-times w Here f p m h most down from known τ stamps = h
   upto-times w Before f p m h most down from known τ stamps = upto-both (λ i. ltb (i .0) (size l)) (earlier p) (size l) (m + 1) (λ i. refl) (upto-earlier p m h)
   upto-times w After f p m h most down from known τ stamps = upto-next p m h
@@ -217,7 +218,7 @@ module _ (l : Log) (o : Ordered l) (F : ℕ → Formula) (c : ℕ → ℕ) where
   pub advance-counted : (n : Node) → Fine (formulaOf F n) → ((y : ℕ) → List·Memᴰ y (childrenOf n) → Counted l (F y) (c y))
       → (from : ℕ) → ((i : Point) → i .0 < from → settled l (formulaOf F n) i ≡ true)
       → (τ : Point → Stamp) → ((i : Point) → from ≤ i .0 → i .0 < size l → τ i ≡ time l i)
-      → Counted l (formulaOf F n) (advance τ (size l) c from (viewOf n))
+      → Counted l (formulaOf F n) (advance τ (endIn l) c from (viewOf n))
   advance-counted n f h from known τ stamps =
       λ i. is i
       ∙ upto-times (viewOf n .window) (viewOf n .times) (viewed F n .ended f) (childrenSettled l F (viewOf n .children)) (leastOf (size l) (map c (childrenIn (viewOf n .children)))) (upto-children (viewOf n .children) h)
@@ -227,40 +228,40 @@ module _ (l : Log) (o : Ordered l) (F : ℕ → Formula) (c : ℕ → ℕ) where
       is i = viewed F n .settles l i
 
 -- The counts of the first nodes: one more node leaves the others as they are and adds its own.
-module _ (b : List ℕ) (τ : Point → Stamp) (n : ℕ) (from : ℕ → ℕ) where
-  pub counts-length : (k : ℕ) → length (countsTo b τ n from k) ≡ k
+module _ (b : List ℕ) (τ : Point → Stamp) (e : LogEnd) (from : ℕ → ℕ) where
+  pub counts-length : (k : ℕ) → length (countsTo b τ e from k) ≡ k
   counts-length zero = refl
   counts-length (suc k) = simp length-append (omega (arith, counts-length k))
 
-  pub counts-old : (k x : ℕ) → x < k → getD (countsTo b τ n from (suc k)) x 0 ≡ getD (countsTo b τ n from k) x 0
-  counts-old k x u = List·getD-append (countsTo b τ n from k) _ 0 x (omega (arith, counts-length k))
+  pub counts-old : (k x : ℕ) → x < k → getD (countsTo b τ e from (suc k)) x 0 ≡ getD (countsTo b τ e from k) x 0
+  counts-old k x u = List·getD-append (countsTo b τ e from k) _ 0 x (omega (arith, counts-length k))
 
-  pub counts-new : (k : ℕ) → getD (countsTo b τ n from (suc k)) k 0 ≡ advance τ n (λ y. getD (countsTo b τ n from k) y 0) (from k) (viewOf (nodeAt b k))
-  counts-new k = getD-at (countsTo b τ n from k) _ [] 0 k (counts-length k)
+  pub counts-new : (k : ℕ) → getD (countsTo b τ e from (suc k)) k 0 ≡ advance τ e (λ y. getD (countsTo b τ e from k) y 0) (from k) (viewOf (nodeAt b k))
+  counts-new k = getD-at (countsTo b τ e from k) _ [] 0 k (counts-length k)
 
 -- the counts of the first k nodes are right
 abbrev pub RightTo : List ℕ → Log → (ℕ → ℕ) → (Point → Stamp) → ℕ → Type 0
-RightTo b l from τ k = (x : ℕ) → x < k → Counted l (formulaAt b x) (getD (countsTo b τ (size l) from k) x 0)
+RightTo b l from τ k = (x : ℕ) → x < k → Counted l (formulaAt b x) (getD (countsTo b τ (endIn l) from k) x 0)
 
 -- The counts of an accepted rule's nodes are right where no count to start from is too high and the stamps from that point on are the log's.
 module _ (b : List ℕ) (a : Accepted) (e : checking b ≡ given a) (l : Log) (o : Ordered l)
     (from : ℕ → ℕ) (known : (x : ℕ) → x < nodeCount b → (i : Point) → i .0 < from x → settled l (formulaAt b x) i ≡ true)
     (τ : Point → Stamp) (stamps : (x : ℕ) → x < nodeCount b → (i : Point) → from x ≤ i .0 → i .0 < size l → τ i ≡ time l i) where
-  count-right : (k : ℕ) → k < nodeCount b → RightTo b l from τ k → Counted l (formulaAt b k) (getD (countsTo b τ (size l) from (suc k)) k 0)
+  count-right : (k : ℕ) → k < nodeCount b → RightTo b l from τ k → Counted l (formulaAt b k) (getD (countsTo b τ (endIn l) from (suc k)) k 0)
   count-right k u below =
       let low : ChildrenLower b k = lower b (nodeCount b) (accepted b a e .each) k u in
       let step : formulaAt b k ≡ formulaOf (formulaAt b) (nodeAt b k) = formula-step b k low in
-      rw (counts-new b τ (size l) from k, step)
-      (advance-counted l o (formulaAt b) (λ y. getD (countsTo b τ (size l) from k) y 0) (nodeAt b k) (rw step at (fine b a e k u)) (λ y m. below y (low k (omega arith) y m))
+      rw (counts-new b τ (endIn l) from k, step)
+      (advance-counted l o (formulaAt b) (λ y. getD (countsTo b τ (endIn l) from k) y 0) (nodeAt b k) (rw step at (fine b a e k u)) (λ y m. below y (low k (omega arith) y m))
       (from k) (rw step at (known k u)) τ (stamps k u))
 
   counts-right-to : (k : ℕ) → k ≤ nodeCount b → RightTo b l from τ k
   counts-right-to zero u x v = absurd (omega arith)
   counts-right-to (suc k) u x v = go (counts-right-to k (omega arith)) (eq-or-lt-of-le v)
     where
-      go : RightTo b l from τ k → (suc x ≡ suc k) ⊎ (suc x < suc k) → Counted l (formulaAt b x) (getD (countsTo b τ (size l) from (suc k)) x 0)
+      go : RightTo b l from τ k → (suc x ≡ suc k) ⊎ (suc x < suc k) → Counted l (formulaAt b x) (getD (countsTo b τ (endIn l) from (suc k)) x 0)
       go below (inl s) = let q : x ≡ k = omega arith in rw q (count-right k u below)
-      go below (inr s) = rw (counts-old b τ (size l) from k x (omega arith)) (below x (omega arith))
+      go below (inr s) = rw (counts-old b τ (endIn l) from k x (omega arith)) (below x (omega arith))
 
   pub counts-right : RightTo b l from τ (nodeCount b)
   counts-right = counts-right-to (nodeCount b) (omega arith)

@@ -162,11 +162,11 @@ module _ (v : Inputs) (l : Log) (ordered : Ordered l) (F : ℕ → Formula) (sta
       }
 
   -- the valuations and the pairs of each kind
-  pub settle-right : (n : Node) → InputsAgree v l F n start → Fine (formulaOf F n) → settled l (formulaOf F n) i ≡ true → (childrenOf n ≡ [] → v .event ≡ rowsAt l i)
+  pub settle-right : (n : Node) → InputsAgree v l F n start → Fine (formulaOf F n) → settled l (formulaOf F n) i ≡ true → (childrenOf n ≡ [] → (r : ℕ) → v .event r ≡ rowsAt l r i)
       → (settle v (pairsBefore l (formulaOf F n) start) start i n ≡ vals l (formulaOf F n) i)
       × (pairsAfter v (pairsBefore l (formulaOf F n) start) start i (viewOf n) ≡ pairs l (formulaOf F n) i)
   unfolding settle
-  settle-right (Atom r t) s f e h = (ap (λ rows. setOf (atomRows r (termsOf t) rows)) (h refl), refl)
+  settle-right (Atom r t) s f e h = (ap (λ rows. setOf (atomRows (termsOf t) rows)) (h refl r), refl)
   settle-right (And a b) s f e h = (
     rw (s .variables, seen (And a b) s a one i (omega arith) (first (settled l (F a) i) (settled l (F b) i) e), seen (And a b) s b two i (omega arith) (second (settled l (F a) i) (settled l (F b) i) e)),
     refl,

@@ -14,12 +14,12 @@ use Rattle.meaning.specs.declared.Times.{Times}
 use Rattle.meaning.specs.declared.Times.the-variants.{Here, Before, After, Past, Future}
 use Rattle.meaning.specs.declared.View.{View}
 use Rattle.meaning.proofs.Points.{Tested, passed, failed, tested}
-use Rattle.method.specs.Stored.{Stored, baseOf, stampIn}
+use Rattle.method.specs.Stored.{Stored, endOf, baseOf, stampIn}
 use Rattle.method.specs.Counts.{advance, ConsultsBy}
 use Rattle.method.specs.Step.{countBefore, openStored}
 use Rattle.method.specs.WellFormed.{Formed}
 use Rattle.method.specs.Room.{isPrevious, previousAt, previousIn, SettlesAtMost}
-use Rattle.method.proofs.Bounds.{below, before-step, base-low, after-most, consults}
+use Rattle.method.proofs.Bounds.{one-added, below, before-step, base-low, after-most, consults}
 use Rattle.method.proofs.Parents.{has-parent}
 use Rattle.method.proofs.Sums.{sum, sum-after}
 use Rattle.method.proofs.Weights.{whole-weight}
@@ -66,9 +66,9 @@ module _ (s : Stored) (f : Formed s) where
       view : View
       view = viewOf (nodeAt (s .rule) x)
 
-      go : (k : ℕ) → baseOf s .0 ≤ k - 1 → k ≡ advance (stampIn (baseOf s) (s .times)) (s .points) (countBefore s) (baseOf s .0) view → k ≤ countBefore s y + oneIf (isPrevious (view .times))
+      go : (k : ℕ) → baseOf s .0 ≤ k - 1 → k ≡ advance (stampIn (baseOf s) (s .times)) (endOf s) (countBefore s) (baseOf s .0) view → k ≤ countBefore s y + oneIf (isPrevious (view .times))
       go zero u e = omega arith
-      go (suc i) u e = consulted (countBefore s y) i (view .times) (consults (stampIn (baseOf s) (s .times)) (s .points) (countBefore s) (baseOf s .0) view (point i) (omega arith) (rw (← e) (omega arith)) y m)
+      go (suc i) u e = consulted (countBefore s y) i (view .times) (consults (stampIn (baseOf s) (s .times)) (endOf s) (countBefore s) (baseOf s .0) view (point i) (omega arith) (rw (← e) (omega arith)) y m)
 
   -- how many "previous" nodes stand after node x in the file, where its parents are
   abbrev after : ℕ → ℕ
@@ -95,4 +95,5 @@ module _ (s : Stored) (f : Formed s) where
         rw all at (sum-after (previousAt (s .rule)) x 0 (nodeCount (s .rule)) (omega arith) (omega arith)),
         whole-weight (s .rule) a ok (previousAt (s .rule)),
         after-most s a ok (f .few-times) (f .times-many) w x o,
+        one-added w,
       )

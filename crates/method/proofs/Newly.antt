@@ -7,12 +7,12 @@ use mathlib.Core.List.{_++_}
 use lib.Dec.{ltb, leb}
 use borrow.Author.Tests.{ltb-true, ltb-false, le-leb, lt-leb}
 use Rattle.meaning.specs.Lists.{select}
-use Rattle.meaning.specs.Log.{Log, GoesOn, size, point, pointsFrom, pointsOf}
+use Rattle.meaning.specs.Log.{Log, size, point, pointsFrom, pointsOf}
 use Rattle.meaning.specs.Formula.{Formula}
 use Rattle.meaning.specs.Settled.{settled, settledCount}
 use Rattle.meaning.specs.Keeper.{newlySettled}
 use Rattle.meaning.proofs.Fine.{Fine}
-use Rattle.meaning.proofs.Growth.{extends, ordered-before}
+use Rattle.meaning.proofs.Growth.{Extends}
 use Rattle.meaning.proofs.Points.{Tested, passed, failed, tested, pointsFrom-append}
 use Rattle.method.proofs.Counted.{Counted, counted-most, count-counted, counts-grow}
 use Rattle.method.proofs.Lists.{select-run}
@@ -36,13 +36,13 @@ newly-run l l' φ c d u h k = select-run (λ i. settled l' φ i && not (settled 
         go (failed e) false = rw (le-leb c j (ltb-false j c e))
 
 -- each settled point of the longer log is settled in the shorter one or newly, and not both
-pub settled-then-newly : (l l' : Log) (φ : Formula) → Fine φ → GoesOn l l' → select (settled l φ) (pointsOf l) ++ newlySettled l l' φ ≡ select (settled l' φ) (pointsOf l')
-settled-then-newly l l' φ f g =
+pub settled-then-newly : (l l' : Log) (φ : Formula) → Fine φ → Extends l l' → select (settled l φ) (pointsOf l) ++ newlySettled l l' φ ≡ select (settled l' φ) (pointsOf l')
+settled-then-newly l l' φ f x =
     let c : ℕ = settledCount l φ in
     let d : ℕ = settledCount l' φ in
-    let h : Counted l φ c = count-counted l φ (ordered-before l l' (extends l l' g)) f in
-    let k : Counted l' φ d = count-counted l' φ (g .ordered) f in
-    let u : c ≤ d = counts-grow l l' (extends l l' g) φ c d h k in
+    let h : Counted l φ c = count-counted l φ (x .before) f in
+    let k : Counted l' φ d = count-counted l' φ (x .ordered) f in
+    let u : c ≤ d = counts-grow l l' x φ c d h k in
     ap₂ (λ xs ys. xs ++ ys) (settled-run l φ c h) (newly-run l l' φ c d u h k) ∙ join c d u ∙ sym (settled-run l' φ d k)
   where
     join : (c d : ℕ) → c ≤ d → pointsFrom (point 0) c ++ pointsFrom (point c) (d - c) ≡ pointsFrom (point 0) d

@@ -5,14 +5,13 @@ use mathlib.Core.Path.{_≡_, refl, sym, _∙_, ap, subst}
 use mathlib.Core.Bool.{Bool, true, false, not, cond, _&&_, true≢false}
 use mathlib.Core.Logic.{inl, inr}
 use mathlib.Core.List.{List, [], _∷_, _++_, map, List·Memᴰ, List·Memᴰ·not-nil, List·Memᴰ·cases-cons, List·Memᴰ·eq-of-singleton}
-use lib.ListN.{length, getD, drop, length-append, length-map}
-use Rattle.meaning.specs.Event.{pointOf}
+use lib.ListN.{length, getD, drop, length-map}
 use lib.Dec.{ltb, eqb}
 use borrow.Author.Tests.{ltb-true, ltb-false, le-leb, eq-eqb, ne-eqb}
 use Rattle.meaning.specs.Lists.{all, any, range, gather}
 use Rattle.meaning.specs.Outcome.{given, mostOpen, mostKept, mostPoints, mostRows}
 use Rattle.meaning.specs.Order.{ascending}
-use Rattle.meaning.specs.Log.{Log, Ordered, point, pointBefore, pointAfter, size, time, pointsFrom}
+use Rattle.meaning.specs.Log.{Log, Ordered, Taken, inOrder, point, stamp, pointBefore, pointAfter, size, time, latest, pointsFrom, logOf}
 use Rattle.meaning.specs.Formula.{Formula, free}
 use Rattle.meaning.specs.Definition2.{Valuation}
 use Rattle.meaning.specs.Evaluator.{cutTo, valuationOf, vals}
@@ -20,7 +19,7 @@ use Rattle.meaning.specs.Settled.{settled, settledCount}
 use Rattle.meaning.specs.View.{viewOf, childrenIn}
 use Rattle.meaning.specs.RuleFile.{Accepted, checking, nodeCount, nodeAt, childrenOf, formulaOf, formulaAt, lastNode, pattern, isAccepted}
 use Rattle.meaning.specs.Kept.{countedAge, pairs, lastPairs, Entry, entryOf, pointEntries, ageEntries, entriesOf, entries, kept, openPoints}
-use Rattle.meaning.specs.Keeper.{Taking, newlySettled, crowdedAt, grown, keeperLog}
+use Rattle.meaning.specs.Keeper.{Fed, event, notice, Taking, newlySettled, backlogOf, crowdedAt, grown, keeperLog}
 use Rattle.meaning.specs.declared.Point.{Point}
 use Rattle.meaning.specs.declared.Window.{Window}
 use Rattle.meaning.specs.declared.Node.{Node}
@@ -33,26 +32,26 @@ use Rattle.meaning.proofs.Fine.{Fine}
 use Rattle.meaning.proofs.Tree.{formula-step}
 use Rattle.meaning.proofs.Accepted.{accepted, lower, fine, nodes-most, last-is-node}
 use Rattle.meaning.proofs.Agreement.{ascends, rows-cut}
-use Rattle.meaning.proofs.Growth.{Extends, extends}
+use Rattle.meaning.proofs.Growth.{Extends, log-ordered}
 use Rattle.meaning.proofs.Steady.{steady-by}
 use Rattle.meaning.proofs.Settles.{UntilSettled, until-parts, since-each, present, prefix}
 use Rattle.meaning.proofs.Rows.{any-of, all-of, select-of, range-at, points-of, all-points, same-row, words-same, words-at}
 use Rattle.meaning.proofs.Points.{both, first, second, Tested, passed, failed, tested}
-use Rattle.meaning.proofs.Takings.{Accepts, every-log}
+use Rattle.meaning.proofs.Takings.{Accepts, accepts-ordered, every-log}
 use Rattle.method.specs.Stored.{Stored, leastOf, firstRetained, storedOf}
 use Rattle.method.specs.Settle.{hasPairs}
-use Rattle.method.specs.Step.{wantedFrom, countsStored, countBefore, openStored, storedRun}
+use Rattle.method.specs.Step.{wordsOf, pointsAdded, wantedFrom, countsStored, countBefore, openStored, storedRun}
 use Rattle.method.specs.WellFormed.{mostTimes, notFalling, rowOfNode, setFits, pairFits, pairsFit, ownEntries, nodeFits, wellFormed}
 use Rattle.method.proofs.Least.{least-most, least-above}
 use Rattle.method.proofs.Views.{childrenSettled, earlier, settledBy, Ended, AgedRows, PairsBy, viewed}
-use Rattle.method.proofs.Counted.{counted-most, counts-length, upto-holds, upto-below}
+use Rattle.method.proofs.Counted.{Counted, endIn, counted-most, counts-length, counts-grow, upto-holds, upto-below}
 use Rattle.method.proofs.Lists.{gather-each, gather-none}
 use Rattle.method.proofs.Formed.{same-entries}
 use Rattle.method.proofs.Parents.{has-parent}
 use Rattle.method.proofs.Keeps.{wanted-low, count-of, held-is, heldPairs-is, entries-run}
 use Rattle.method.proofs.Turns.{from-getD, gather-over, points-length}
-use Rattle.method.proofs.Stepped.{count-before, open-run, open-stored, wanted-same}
-use Rattle.method.proofs.Whole.{grown-ordered, no-points, whole-stored}
+use Rattle.method.proofs.Stepped.{Joins, count-before, open-run, open-stored, wanted-same}
+use Rattle.method.proofs.Whole.{joins, whole-stored}
 
 -- ---- what holds of every log that the keeper reaches
 
@@ -68,8 +67,8 @@ none-pass : {A : Type 0} (p : A → Bool) {x : A} {xs : List A} → any p xs ≡
 none-pass p {x} {xs} e m = elim (tested (p x)) [ passed t ↦ absurd (true≢false (sym (any-of p m t) ∙ e)) | failed t ↦ t ]
 
 -- an empty log has no entries
-pub empty-entries : (b : List ℕ) (x : ℕ) → entriesOf b [] x ≡ []
-unfolding entriesOf pointEntries ageEntries lastPairs
+pub empty-entries : (b : List ℕ) (x : ℕ) → entriesOf b (logOf []) x ≡ []
+unfolding logOf size entriesOf pointEntries ageEntries lastPairs
 empty-entries b x = go (eqb x (lastNode b))
   where
     go : (t : Bool) → _++_ {A = Entry} (cond t [] []) [] ≡ []
@@ -77,49 +76,77 @@ empty-entries b x = go (eqb x (lastNode b))
     go false = refl
 
 module _ (b : List ℕ) (a : Accepted) (ok : checking b ≡ given a) where
-  empty-kept : kept b [] ≤ mostKept
+  empty-kept : kept b (logOf []) ≤ mostKept
   unfolding kept entries
-  empty-kept = rw (gather-none (entriesOf b []) 0 (nodeCount b) (λ x u o. empty-entries b x)) (omega arith)
+  empty-kept = rw (gather-none (entriesOf b (logOf [])) 0 (nodeCount b) (λ x u o. empty-entries b x)) (omega arith)
 
-  empty-open : openPoints b [] ≤ mostOpen
-  unfolding openPoints
+  empty-open : openPoints b (logOf []) ≤ mostOpen
+  unfolding logOf size openPoints
   empty-open = omega arith
 
-  empty-reached : Reached b []
+  no-points : size (logOf []) ≡ 0
+  unfolding logOf size
+  no-points = refl
+
+  empty-reached : Reached b (logOf [])
   empty-reached =
-      record { ordered = no-points; few-points = omega arith; few-open = empty-open; few-kept = empty-kept; few-rows = λ x o j e. absurd (omega (arith, present [] (formulaAt b x) j e)) }
+      record { ordered = log-ordered [] refl; few-points = omega (arith, no-points); few-open = empty-open; few-kept = empty-kept; few-rows = λ x o j e. absurd (omega (arith, no-points, present (logOf []) (formulaAt b x) j e)) }
 
-  -- a point settled before has the rows that it had; one settled now passed 13
-  rows-stay : (l : Log) (t : Taking) (n : ℕ) → Reached b l → Accepts b l t n → (x : ℕ) → x < nodeCount b → (j : Point) → settled (grown b l (t .event)) (formulaAt b x) j ≡ true
-      → length (vals (grown b l (t .event)) (formulaAt b x) j) ≤ mostRows
-  unfolding crowdedAt newlySettled
-  rows-stay l t n r p x o j e = go (tested (settled l (formulaAt b x) j))
-    where
-      l' : Log
-      l' = grown b l (t .event)
+  -- no more points are open where a log goes on by a notice
+  open-falls : (l l' : Log) → Extends l l' → size l' ≡ size l → openPoints b l' ≤ openPoints b l
+  unfolding openPoints
+  open-falls l l' x z =
+      let p : ℕ = settledCount l (pattern b) in
+      let q : ℕ = settledCount l' (pattern b) in
+      let h : Counted l (pattern b) p = count-of b a ok l (x .before) (lastNode b) (last-is-node b a ok) in
+      let k : Counted l' (pattern b) q = count-of b a ok l' (x .ordered) (lastNode b) (last-is-node b a ok) in
+      omega (arith, counts-grow l l' x (pattern b) p q h k, open-run b a ok l (x .before) l p h, open-run b a ok l (x .before) l' q k)
 
-      grows : Extends l l'
-      grows = extends l l' (record { more = _; begins = refl; ordered = grown-ordered b l (t .event) (r .ordered) (p .later) })
+  module _ (es : List Taken) (t : Taking) (n : ℕ) (ordered : inOrder (stamp 0) es ≡ true) (r : Reached b (logOf es)) (p : Accepts b es t n) where
+    abbrev l : Log
+    l = logOf es
 
-      go : Tested (settled l (formulaAt b x) j) → length (vals l' (formulaAt b x) j) ≤ mostRows
-      go (passed s) = rw (← steady-by l l' grows (formulaAt b x) (fine b a ok x o) j s) (r .few-rows x o j s)
-      go (failed s) =
-          ltb-false mostRows (length (vals l' (formulaAt b x) j))
-          (none-pass (λ i. ltb mostRows (length (vals l' (formulaAt b x) i))) (p .figures .none-crowded x o)
-          (select-of (λ i. settled l' (formulaAt b x) i && not (settled l (formulaAt b x) i)) (points-of 0 (size l') (omega arith) (omega (arith, present l' (formulaAt b x) j e))) (both e (rw s))))
+    abbrev l' : Log
+    l' = logOf (grown b es (t .fed))
 
-  step-reached : (l : Log) (t : Taking) (n : ℕ) → Reached b l → Accepts b l t n → Reached b (grown b l (t .event))
-  step-reached l t n r p =
-      record {
-        ordered = grown-ordered b l (t .event) (r .ordered) (p .later);
-        few-points = omega (arith, p .room, length-append l (pointOf b (t .event) ∷ []));
-        few-open = p .figures .few-open;
-        few-kept = p .figures .few-kept;
-        few-rows = rows-stay l t n r p;
-      }
+    joined : Joins b l (wordsOf (t .fed)) l'
+    joined = joins b es (t .fed) (p .form) ordered (p .later)
 
-  pub reached : (ts : List Taking) → Reached b (keeperLog b [] ts)
-  reached ts = every-log b (Reached b) step-reached ts [] empty-reached
+    grows : Extends l l'
+    grows = joined .grows
+
+    -- a point settled before has the rows that it had; one settled now passed 13
+    rows-stay : (x : ℕ) → x < nodeCount b → (j : Point) → settled l' (formulaAt b x) j ≡ true → length (vals l' (formulaAt b x) j) ≤ mostRows
+    unfolding crowdedAt newlySettled
+    rows-stay x o j e = go (tested (settled l (formulaAt b x) j))
+      where
+        go : Tested (settled l (formulaAt b x) j) → length (vals l' (formulaAt b x) j) ≤ mostRows
+        go (passed s) = rw (← steady-by l l' grows (formulaAt b x) (fine b a ok x o) j s) (r .few-rows x o j s)
+        go (failed s) =
+            ltb-false mostRows (length (vals l' (formulaAt b x) j))
+            (none-pass (λ i. ltb mostRows (length (vals l' (formulaAt b x) i))) (p .figures .none-crowded x o)
+            (select-of (λ i. settled l' (formulaAt b x) i && not (settled l (formulaAt b x) i)) (points-of 0 (size l') (omega arith) (omega (arith, present l' (formulaAt b x) j e))) (both e (rw s))))
+
+    -- an event passed 14; a notice adds no point
+    open-stays : (f : Fed) → t .fed ≡ f → openPoints b l' ≤ mostOpen
+    open-stays (event w) e = subst (λ g. backlogOf g (openPoints b l') ≤ mostOpen) e (p .figures .few-open)
+    open-stays (notice u) e =
+        let z : size l' ≡ size l = joined .many ∙ ap (λ g. size l + pointsAdded (wordsOf g)) e ∙ omega arith in
+        omega (arith, open-falls l l' grows z, r .few-open)
+
+    step-reached : Reached b l'
+    step-reached =
+        record {
+          ordered = grows .ordered;
+          few-points = p .few-points (r .few-points);
+          few-open = open-stays (t .fed) refl;
+          few-kept = p .figures .few-kept;
+          few-rows = rows-stay;
+        }
+
+  pub reached : (ts : List Taking) → Reached b (logOf (keeperLog b [] ts))
+  reached ts =
+      every-log b (λ es. (inOrder (stamp 0) es ≡ true) × Reached b (logOf es)) (λ es t n r p. (accepts-ordered b es t (r .0) n p, step-reached es t n (r .0) (r .1) p)) ts [] (refl, empty-reached) .1
 
 -- ---- how far a node can lag behind the last
 
@@ -229,7 +256,7 @@ module _ (b : List ℕ) (a : Accepted) (ok : checking b ≡ given a) (l : Log) (
   -- the counts that are stored
   counts-many : length (countsStored s) ≡ nodeCount b
   unfolding countsStored storedOf
-  counts-many = counts-length b _ (size l) _ (nodeCount b)
+  counts-many = counts-length b _ (endIn l) _ (nodeCount b)
 
   count-entry : (x : ℕ) → x < nodeCount b → getD (countsStored s) x 0 ≡ was x
   unfolding countBefore
@@ -245,10 +272,10 @@ module _ (b : List ℕ) (a : Accepted) (ok : checking b ≡ given a) (l : Log) (
       (λ x m. let (u, o) = range-at 0 (nodeCount b) m in omega (arith, depth (lastNode b - x) x (omega arith) (omega arith), r .few-open, nodes-most b a ok)) in
       omega arith
 
-  -- the times don't fall
-  run-rises : (k n : ℕ) → k + n ≤ size l → notFalling (map (λ i. time l i .0) (pointsFrom (point k) n)) ≡ true
+  -- the times don't fall, nor is the latest known time below the last
+  run-rises : (k n : ℕ) → k + n ≤ size l → notFalling (map (λ i. time l i .0) (pointsFrom (point k) n) ++ latest l .0 ∷ []) ≡ true
   run-rises k zero h = refl
-  run-rises k (suc zero) h = refl
+  run-rises k (suc zero) h = both (le-leb (time l (point k) .0) (latest l .0) (r .ordered .late (point k) (omega arith))) refl
   run-rises k (suc (suc n)) h = both (le-leb (time l (point k) .0) (time l (point (suc k)) .0) (r .ordered .steps (point k) (point (suc k)) (omega arith) (omega arith))) (run-rises (suc k) (suc n) (omega arith))
 
   -- each node's rows and pairs
@@ -331,5 +358,5 @@ module _ (b : List ℕ) (a : Accepted) (ok : checking b ≡ given a) (l : Log) (
       (all-nodes-fit 0 (nodeCount b) (omega arith))
 
 -- No state reached from a start meets 8.
-pub always-well-formed : (b : List ℕ) (a : Accepted) → checking b ≡ given a → (ts : List Taking) → wellFormed (storedRun (storedOf b []) ts) ≡ true
-always-well-formed b a ok ts = rw (whole-stored b a ok ts) (stored-well-formed b a ok (keeperLog b [] ts) (reached b a ok ts))
+pub always-well-formed : (b : List ℕ) (a : Accepted) → checking b ≡ given a → (ts : List Taking) → wellFormed (storedRun (storedOf b (logOf [])) ts) ≡ true
+always-well-formed b a ok ts = rw (whole-stored b a ok ts) (stored-well-formed b a ok (logOf (keeperLog b [] ts)) (reached b a ok ts))

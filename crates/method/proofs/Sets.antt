@@ -16,7 +16,6 @@ use Rattle.meaning.specs.Evaluator.{cutTo, valuationOf, setOf, lasting, leading
 use Rattle.meaning.specs.Exact.{Exact}
 use Rattle.meaning.specs.View.{viewOf}
 use Rattle.meaning.specs.RuleFile.{nodeCount, nodeAt, childrenOf, formulaOf, formulaAt}
-use Rattle.meaning.specs.Event.{pointOf}
 use Rattle.meaning.specs.declared.Point.{Point}
 use Rattle.meaning.specs.declared.Window.{Window}
 use Rattle.meaning.specs.declared.Node.{Node}
@@ -30,7 +29,7 @@ use Rattle.meaning.proofs.Points.{first, second}
 use Rattle.meaning.proofs.Rows.{all-at, cond-at, select-at, gather-at, same-row, insertAll-at, setOf-ascends}
 use Rattle.method.specs.Stored.{Stored, held, heldPairs}
 use Rattle.method.specs.Settle.{Inputs, fresh, rowsSince, candidates, settle, hasPairs, rowsOfTurn}
-use Rattle.method.specs.Step.{wantedFrom, newRows, turnOf, inputsOf, turnsTo, stampsNow, countBefore, countAfter, turn}
+use Rattle.method.specs.Step.{wantedFrom, newRows, turnOf, inputsOf, turnsTo, rowsTaken, stampsNow, countBefore, countAfter, turn}
 use Rattle.method.specs.WellFormed.{rowOfNode, setFits, pairFits, pairsFit, nodeFits, Formed}
 use Rattle.method.proofs.Rowed.{pairs-each}
 use Rattle.method.proofs.Bounds.{by-children}
@@ -92,7 +91,7 @@ module _ (F : ℕ → Formula) (v : Inputs) (same : v .free ≡ (λ y. free (F y
   Children n = (y : ℕ) → List·Memᴰ y (childrenOf n) → (j : Point) → RowsOf (free (F y)) (v .rows y j)
 
   candidates-cut : (n : Node) → Fine (formulaOf F n) → Children n → (ps : List (List ℕ)) → PairsOf (free (formulaOf F n)) ps → (start i : Point) (u : List ℕ) → List·Memᴰ u (candidates v ps start i n) → Cut (free (formulaOf F n)) u
-  candidates-cut (Atom r t) f s ps c start i u m = gives-atom r (termsOf t) f (v .event) .cut u m
+  candidates-cut (Atom r t) f s ps c start i u m = gives-atom (termsOf t) f (v .event r) .cut u m
   candidates-cut (And a b) f s ps c start i u m = gives-and (exactly (s a one i)) (exactly (s b two i)) .cut u (rw same at m)
   candidates-cut (AndNot a b) f s ps c start i u m = s a one i .cut u (select-at _ (v .rows a i) m .0)
   candidates-cut (Keep a k t) f s ps c start i u m = s a one i .cut u (select-at _ (v .rows a i) m .0)
@@ -133,15 +132,15 @@ module _ (s : Stored) (f : Formed s) (w : List ℕ) where
   Own x rows = RowsOf (free (formulaAt b x)) rows
 
   abbrev sight : ℕ → Inputs
-  sight x = inputsOf b (stampsNow s w) (countAfter s w) (pointOf b w .rows) (turnsTo b (s .entries) (stampsNow s w) (countBefore s) (countAfter s w) (pointOf b w .rows) x)
+  sight x = inputsOf b (stampsNow s w) (countAfter s w) (rowsTaken b w) (turnsTo b (s .entries) (stampsNow s w) (countBefore s) (countAfter s w) (rowsTaken b w) x)
 
   turn-is : (x : ℕ) → x < nodeCount b → turn s w x ≡ turnOf b (s .entries) (countBefore s) (countAfter s w) (sight x) x
   unfolding turn
-  turn-is x o = turns-at b (s .entries) (stampsNow s w) (countBefore s) (countAfter s w) (pointOf b w .rows) (nodeCount b) x o
+  turn-is x o = turns-at b (s .entries) (stampsNow s w) (countBefore s) (countAfter s w) (rowsTaken b w) (nodeCount b) x o
 
   seen : (x y : ℕ) → y < x → x < nodeCount b → sight x .rows y ≡ rowsOfTurn (turn s w y)
   unfolding turn
-  seen x y h o = turns-seen b (s .entries) (stampsNow s w) (countBefore s) (countAfter s w) (pointOf b w .rows) (nodeCount b) x y h (omega arith)
+  seen x y h o = turns-seen b (s .entries) (stampsNow s w) (countBefore s) (countAfter s w) (rowsTaken b w) (nodeCount b) x y h (omega arith)
 
   -- the rows of node x that are held, and those of its newly settled points
   module _ (x : ℕ) (o : x < nodeCount b) where

@@ -1,52 +1,55 @@
--- From what is stored of a log, with an event that may join it: stamps, counts, turns and entries are those of the grown log.
+-- From what is stored of a log, with an event or a notice that may join it: stamps, counts, turns and entries are those of the log then.
 use Prim.Native.Nat.{ℕ, zero, suc, _+_, _-_, _≤_, _<_}
 use native.Mathlib.Omega.{arith}
 use mathlib.Core.Path.{_≡_, refl, sym, _∙_, ap, ap₂, subst}
-use mathlib.Core.Bool.{true, not, cond, _&&_}
-use mathlib.Core.List.{List, [], _∷_, _++_, map, List·Memᴰ}
-use lib.ListN.{length, getD, drop, length-append, length-map, List·getD-append, List·getD-eq-default}
+use mathlib.Core.Bool.{Bool, true, false, not, cond, _&&_}
+use mathlib.Core.List.{List, [], _∷_, _++_, map, append-nil, List·Memᴰ}
+use lib.ListN.{length, getD, drop, length-map, List·getD-append}
 use lib.Seq.{getD-append-seam}
 use lib.Dec.{ltb, leb, eqb}
 use borrow.Author.Tests.{ltb-true, ltb-false, lt-ltb, le-leb, lt-leb, eqb-false}
 use Rattle.meaning.specs.Lists.{range, select, gather}
 use Rattle.meaning.specs.Outcome.{given, mostRows}
-use Rattle.meaning.specs.Log.{Log, LogPoint, Ordered, beyond, point, stamp, size, time, rowsAt, latest, pointsFrom}
+use Rattle.meaning.specs.Log.{Log, Ordered, point, stamp, size, time, rowsAt, latest, pointsFrom}
 use Rattle.meaning.specs.Formula.{free, variables}
 use Rattle.meaning.specs.Evaluator.{vals}
 use Rattle.meaning.specs.Settled.{settled, settledCount}
-use Rattle.meaning.specs.RuleFile.{Accepted, checking, nodeCount, nodeAt, childrenOf, formulaOf, formulaAt, lastNode, pattern}
+use Rattle.meaning.specs.RuleFile.{Accepted, checking, nodeCount, nodeAt, childrenOf, formulaOf, formulaAt, lastNode, pattern, oneIf}
 use Rattle.meaning.specs.Kept.{pairs, lastPairs, Entry, entryOf, entries, entriesOf, kept, openPoints}
-use Rattle.meaning.specs.Event.{pointOf}
 use Rattle.meaning.specs.Report.{Reported, reportWords}
-use Rattle.meaning.specs.Keeper.{newlySettled, reportRow, reported, report, crowdedAt, grown}
+use Rattle.meaning.specs.Keeper.{newlySettled, reportRow, reported, report, crowdedAt}
 use Rattle.meaning.specs.declared.Point.{Point}
 use Rattle.meaning.specs.declared.Stamp.{Stamp}
+use Rattle.meaning.specs.declared.LogEnd.{LogEnd}
 use Rattle.meaning.specs.declared.Node.{Node}
 use Rattle.meaning.proofs.Fine.{Fine}
 use Rattle.meaning.proofs.Tree.{formula-step}
 use Rattle.meaning.proofs.Accepted.{accepted, lower, fine, last-is-node}
 use Rattle.meaning.proofs.Rows.{range-at, range-of}
-use Rattle.meaning.proofs.Growth.{Extends, extends}
+use Rattle.meaning.proofs.Growth.{Extends}
 use Rattle.meaning.proofs.Settles.{stays}
 use Rattle.meaning.proofs.Steady.{steady-by, pairs-by}
 use Rattle.meaning.proofs.Points.{pointsFrom-append, Tested, passed, failed, tested}
 use Rattle.method.specs.Stored.{Stored, baseOf, stampIn, held, heldPairs, leastOf, firstRetained, storedOf}
 use Rattle.method.specs.Counts.{countsTo}
 use Rattle.method.specs.Settle.{Inputs, Turn, rowsOfTurn}
-use Rattle.method.specs.Step.{wantedFrom, newRows, newPairs, turnOf, inputsOf, turnsTo, stampsNow, countsStored, countBefore, keptStored, openStored, countAfter, countsAfter, turn, entriesNow, storedNow, crowdedNow, reportedNow, reportNow, latestStored}
+use Rattle.method.specs.Step.{wantedFrom, newRows, newPairs, turnOf, inputsOf, turnsTo, pointsAdded, timesAdded, rowsTaken, stampsNow, endNow, countsStored, countBefore, keptStored, openStored, countAfter, countsAfter, turn, entriesNow, storedNow, crowdedNow, reportedNow, reportNow}
 use Rattle.method.proofs.Least.{least-most, least-below, least-grows}
-use Rattle.method.proofs.Counted.{Counted, counted-most, counted-is, count-counted, counts-length, counts-right, counts-grow, upto-holds}
+use Rattle.method.proofs.Counted.{Counted, endIn, counted-most, counted-is, count-counted, counts-length, counts-right, counts-grow, upto-holds}
 use Rattle.method.proofs.Lists.{gather-each, select-run}
 use Rattle.method.proofs.Keeps.{wanted-low, count-of, held-is, heldPairs-is, entries-run}
 use Rattle.method.proofs.Inputs.{InputsAgree, pairsBefore}
-use Rattle.method.proofs.Bounds.{below, Placed, at-last, with-parent, placed, wanted-under, wanted-moves}
+use Rattle.method.proofs.Bounds.{one-added, below, Placed, at-last, with-parent, placed, wanted-under, wanted-moves}
 use Rattle.method.proofs.Turns.{any-over, drop-points, gather-over, from-getD, points-length, getD-points, map-points, map-append, Ready, new-rows, new-pairs, atom-counted, turns-at, turns-seen}
 use Rattle.method.proofs.Newly.{newly-run}
 
--- no point, no time
-no-time : (l : Log) (i : Point) → size l ≤ i .0 → time l i .0 ≡ 0
-unfolding time
-no-time l i h = ap (λ (p : LogPoint). p .time .0) (List·getD-eq-default l beyond h)
+-- The log l' is l with what is fed in the words w: it goes on from l and ends with its time; a point that is added has that time and its rows.
+pub record Joins (b : List ℕ) (l : Log) (w : List ℕ) (l' : Log) : Type 0 where
+  pub grows : Extends l l'
+  pub many : size l' ≡ size l + pointsAdded w
+  pub clock : latest l' ≡ stamp (getD w 0 0)
+  pub new-time : pointsAdded w ≡ 1 → time l' (point (size l)) ≡ stamp (getD w 0 0)
+  pub new-rows : pointsAdded w ≡ 1 → (r : ℕ) → rowsTaken b w r ≡ rowsAt l' r (point (size l))
 
 module _ (b : List ℕ) (a : Accepted) (ok : checking b ≡ given a) (l : Log) (ordered : Ordered l) where
   abbrev s : Stored
@@ -74,21 +77,6 @@ module _ (b : List ℕ) (a : Accepted) (ok : checking b ≡ given a) (l : Log) (
   unfolding storedOf
   base-is = let h : length timesOf ≡ size l - base .0 = times-length in ap point (omega (arith, base-size))
 
-  pub latest-now : (w : List ℕ) → latestStored s w ≡ latest l
-  unfolding latest storedOf
-  latest-now w = ap stamp (go (tested (ltb 0 (size l))))
-    where
-      go : Tested (ltb 0 (size l)) → getD timesOf (length timesOf - 1) 0 ≡ time l (point (size l - 1)) .0
-      go (passed e) =
-          let n : 0 < size l = ltb-true 0 (size l) e in
-          let h : leastOf (size l) (map was (range 0 (nodeCount b))) ≤ size l = least-most (size l) (map was (range 0 (nodeCount b))) in
-          let z : length timesOf - 1 ≡ size l - base .0 - 1 = omega (arith, times-length) in
-          let q : base .0 + (size l - base .0 - 1) ≡ size l - 1 = omega arith in
-          ap (λ k. getD timesOf k 0) z ∙ getD-points (λ i. time l i .0) 0 (base .0) (size l - base .0) (size l - base .0 - 1) (omega arith) ∙ ap (λ k. time l (point k) .0) q
-      go (failed e) =
-          let n : size l ≤ 0 = ltb-false 0 (size l) e in
-          List·getD-eq-default timesOf 0 (omega (arith, times-length)) ∙ sym (no-time l (point (size l - 1)) (omega arith))
-
   -- ---- the counts and figures of what is stored
 
   stored-stamp : (j : Point) → base .0 ≤ j .0 → j .0 < size l → stampIn base timesOf j ≡ time l j
@@ -99,9 +87,9 @@ module _ (b : List ℕ) (a : Accepted) (ok : checking b ≡ given a) (l : Log) (
   pub count-before : (x : ℕ) → x < nodeCount b → countBefore s x ≡ was x
   unfolding countBefore countsStored storedOf
   count-before x o =
-      ap (λ (k : Point). getD (countsTo b (stampIn k timesOf) (size l) (λ y. k .0) (nodeCount b)) x 0) base-is
+      ap (λ (k : Point). getD (countsTo b (stampIn k timesOf) (endIn l) (λ y. k .0) (nodeCount b)) x 0) base-is
       ∙ sym
-      (counted-is l (formulaAt b x) (getD (countsTo b (stampIn base timesOf) (size l) (λ y. base .0) (nodeCount b)) x 0)
+      (counted-is l (formulaAt b x) (getD (countsTo b (stampIn base timesOf) (endIn l) (λ y. base .0) (nodeCount b)) x 0)
       (counts-right b a ok l ordered (λ y. base .0)
       (λ y q i u. upto-holds (settled l (formulaAt b y)) (was y) (count-of b a ok l ordered y q) i (omega (arith, base-low y q)))
       (stampIn base timesOf) (λ y q i u v. stored-stamp i u v) x o))
@@ -138,33 +126,31 @@ module _ (b : List ℕ) (a : Accepted) (ok : checking b ≡ given a) (l : Log) (
       go (at-last e) = rw (e c, e d, h x o)
       go (with-parent p n e) = rw (e c, e d, h x o, h p n)
 
-  -- an event that may join the log: its time is no earlier than the last
-  module _ (w : List ℕ) (ordered' : Ordered (grown b l w)) where
-    abbrev l' : Log
-    l' = grown b l w
-
+  -- what is fed may join the log
+  module _ (w : List ℕ) (l' : Log) (joins : Joins b l w l') where
     abbrev is : ℕ → ℕ
     is x = settledCount l' (formulaAt b x)
 
-    grows : Extends l l'
-    grows = extends l l' (record { more = pointOf b w ∷ []; begins = refl; ordered = ordered' })
+    abbrev grows : Extends l l'
+    grows = joins .grows
 
-    size-grown : size l' ≡ size l + 1
-    size-grown = length-append l (pointOf b w ∷ [])
+    abbrev ordered' : Ordered l'
+    ordered' = grows .ordered
+
+    size-grown : size l' ≡ size l + pointsAdded w
+    size-grown = joins .many
+
+    end-now : record { points = size l + pointsAdded w; latest = stamp (getD w 0 0) } ≡ endIn l'
+    end-now = ap₂ (λ (n : ℕ) (t : Stamp). ended n t) (sym size-grown) (sym (joins .clock))
+      where
+        ended : ℕ → Stamp → LogEnd
+        ended n t = record { points = n; latest = t }
 
     is-counted : (x : ℕ) → x < nodeCount b → Counted l' (formulaAt b x) (is x)
     is-counted x o = count-counted l' (formulaAt b x) ordered' (fine b a ok x o)
 
     was-is : (x : ℕ) → x < nodeCount b → was x ≤ is x
     was-is x o = counts-grow l l' grows (formulaAt b x) (was x) (is x) (count-of b a ok l ordered x o) (is-counted x o)
-
-    -- the new point's time and rows
-    new-point : getD l' (size l) beyond ≡ pointOf b w
-    new-point = getD-append-seam l (pointOf b w) [] beyond
-
-    last-time : (j : Point) → j .0 ≡ size l → stamp (getD w 0 0) ≡ time l' j
-    unfolding time pointOf
-    last-time j e = ap (λ (p : LogPoint). p .time) (sym new-point) ∙ ap (λ k. getD l' k beyond .time) (sym e)
 
     pub stamps-right : (j : Point) → base .0 ≤ j .0 → j .0 < size l' → stampsNow s w j ≡ time l' j
     unfolding stampsNow storedOf
@@ -178,19 +164,19 @@ module _ (b : List ℕ) (a : Accepted) (ok : checking b ≡ given a) (l : Log) (
             let n : j .0 < size l = ltb-true (j .0) (size l) e in
             ap stamp (List·getD-append timesOf (getD w 0 0 ∷ []) 0 (j .0 - base .0) (omega (arith, z))) ∙ stored-stamp j u n ∙ grows .times j n
         go (failed e) =
-            let n : j .0 ≡ size l = omega (arith, ltb-false (j .0) (size l) e, size-grown) in
+            let n : size l ≡ j .0 = omega (arith, ltb-false (j .0) (size l) e, size-grown, one-added w) in
             let q : j .0 - base .0 ≡ length timesOf = omega (arith, z) in
-            ap (λ k. stamp (getD (timesOf ++ getD w 0 0 ∷ []) k 0)) q ∙ ap stamp (getD-append-seam timesOf (getD w 0 0) [] 0) ∙ last-time j n
+            ap (λ k. stamp (getD (timesOf ++ getD w 0 0 ∷ []) k 0)) q ∙ ap stamp (getD-append-seam timesOf (getD w 0 0) [] 0)
+            ∙ sym (joins .new-time (omega (arith, size-grown, one-added w))) ∙ ap (λ k. time l' (point k)) n
 
     -- ---- the counts
 
     pub count-after : (x : ℕ) → x < nodeCount b → countAfter s w x ≡ is x
     unfolding countAfter countsAfter storedOf
     count-after x o =
-        let z : size l + 1 ≡ size l' = sym size-grown in
-        rw z
+        rw end-now
         (sym
-        (counted-is l' (formulaAt b x) (getD (countsTo b (stampsNow s w) (size l') (countBefore s) (nodeCount b)) x 0)
+        (counted-is l' (formulaAt b x) (getD (countsTo b (stampsNow s w) (endIn l') (countBefore s) (nodeCount b)) x 0)
         (counts-right b a ok l' ordered' (countBefore s)
         (λ y q i u. stays l l' grows (formulaAt b y) i (upto-holds (settled l (formulaAt b y)) (was y) (count-of b a ok l ordered y q) i (omega (arith, count-before y q))))
         (stampsNow s w)
@@ -199,15 +185,15 @@ module _ (b : List ℕ) (a : Accepted) (ok : checking b ≡ given a) (l : Log) (
     -- ---- the turns
 
     abbrev sight : ℕ → Inputs
-    sight x = inputsOf b (stampsNow s w) (countAfter s w) (pointOf b w .rows) (turnsTo b (entries b l) (stampsNow s w) (countBefore s) (countAfter s w) (pointOf b w .rows) x)
+    sight x = inputsOf b (stampsNow s w) (countAfter s w) (rowsTaken b w) (turnsTo b (entries b l) (stampsNow s w) (countBefore s) (countAfter s w) (rowsTaken b w) x)
 
     turn-is : (x : ℕ) → x < nodeCount b → turn s w x ≡ turnOf b (entries b l) (countBefore s) (countAfter s w) (sight x) x
     unfolding turn storedOf
-    turn-is x o = turns-at b (entries b l) (stampsNow s w) (countBefore s) (countAfter s w) (pointOf b w .rows) (nodeCount b) x o
+    turn-is x o = turns-at b (entries b l) (stampsNow s w) (countBefore s) (countAfter s w) (rowsTaken b w) (nodeCount b) x o
 
     sight-rows : (x y : ℕ) → y < x → x < nodeCount b → sight x .rows y ≡ rowsOfTurn (turn s w y)
     unfolding turn storedOf
-    sight-rows x y h o = turns-seen b (entries b l) (stampsNow s w) (countBefore s) (countAfter s w) (pointOf b w .rows) (nodeCount b) x y h (omega arith)
+    sight-rows x y h o = turns-seen b (entries b l) (stampsNow s w) (countBefore s) (countAfter s w) (rowsTaken b w) (nodeCount b) x y h (omega arith)
 
     -- a node's turn gives the evaluator's rows from the first wanted point on, and its pairs
     pub record TurnRight (x : ℕ) : Type 0 where
@@ -220,23 +206,18 @@ module _ (b : List ℕ) (a : Accepted) (ok : checking b ≡ given a) (l : Log) (
     fine-node : (x : ℕ) → x < nodeCount b → Fine (formulaOf (formulaAt b) (nodeAt b x))
     fine-node x o = subst Fine (stepped x o) (fine b a ok x o)
 
-    -- the new point's rows are what an atom sees
-    new-rows-are : pointOf b w .rows ≡ rowsAt l' (point (size l))
-    unfolding rowsAt
-    new-rows-are = ap (λ (p : LogPoint). p .rows) (sym new-point)
-
     ready : (x : ℕ) (o : x < nodeCount b) → (i : Point) → was x ≤ i .0 → i .0 < is x → Ready (sight x) l' ordered' (formulaAt b) (nodeAt b x) (fine-node x o) i
     ready x o i u v = (holds, event)
       where
         holds : settled l' (formulaOf (formulaAt b) (nodeAt b x)) i ≡ true
         holds = subst (λ φ. settled l' φ i ≡ true) (stepped x o) (upto-holds (settled l' (formulaAt b x)) (is x) (is-counted x o) i v)
 
-        event : childrenOf (nodeAt b x) ≡ [] → pointOf b w .rows ≡ rowsAt l' i
-        event e =
+        event : childrenOf (nodeAt b x) ≡ [] → (r : ℕ) → rowsTaken b w r ≡ rowsAt l' r i
+        event e r =
             let c : was x ≡ size l = ap (settledCount l) (stepped x o) ∙ counted-is l (formulaOf (formulaAt b) (nodeAt b x)) (size l) (atom-counted l (formulaAt b) (nodeAt b x) e) in
             let k : is x ≤ size l' = counted-most l' (formulaAt b x) (is x) (is-counted x o) in
-            let z : size l ≡ i .0 = omega (arith, size-grown) in
-            new-rows-are ∙ ap (λ j. rowsAt l' (point j)) z
+            let z : size l ≡ i .0 = omega (arith, size-grown, one-added w) in
+            joins .new-rows (omega (arith, size-grown, one-added w)) r ∙ ap (λ j. rowsAt l' r (point j)) z
 
     sees : (x : ℕ) → x < nodeCount b → ((y : ℕ) → y < x → TurnRight y) → InputsAgree (sight x) l' (formulaAt b) (nodeAt b x) (point (was x))
     sees x o under =
@@ -347,7 +328,7 @@ module _ (b : List ℕ) (a : Accepted) (ok : checking b ≡ given a) (l : Log) (
 
     counts-many : length (countsAfter s w) ≡ nodeCount b
     unfolding countsAfter storedOf
-    counts-many = counts-length b (stampsNow s w) (size l + 1) (countBefore s) (nodeCount b)
+    counts-many = counts-length b (stampsNow s w) (endNow s w) (countBefore s) (nodeCount b)
 
     count-entry : (x : ℕ) → x < nodeCount b → getD (countsAfter s w) x 0 ≡ is x
     unfolding countAfter
@@ -359,15 +340,22 @@ module _ (b : List ℕ) (a : Accepted) (ok : checking b ≡ given a) (l : Log) (
     base-grows : base .0 ≤ firstRetained (size l') (map is (range 0 (nodeCount b))) .0
     base-grows = let h : leastOf (size l) (map was (range 0 (nodeCount b))) ≤ leastOf (size l') (map is (range 0 (nodeCount b))) = least-grows (size l) (size l') was is (range 0 (nodeCount b)) (omega (arith, size-grown)) (λ x m. was-is x (omega (arith, range-at 0 (nodeCount b) m))) in omega arith
 
-    times-now : timesOf ++ getD w 0 0 ∷ [] ≡ map (λ i. time l' i .0) (pointsFrom base (size l' - base .0))
-    times-now =
-        let z : size l' - base .0 ≡ (size l - base .0) + 1 = omega (arith, size-grown, base-size) in
-        let q : base .0 + (size l - base .0) ≡ size l = omega (arith, base-size) in
-        ap₂ (λ r p. r ++ p)
-        (map-points (λ i. time l i .0) (λ i. time l' i .0) (base .0) (size l - base .0) (λ j u v. ap (λ (t : Stamp). t .0) (grows .times j (omega (arith, base-size)))))
-        (ap (λ k. k ∷ []) (ap (λ (t : Stamp). t .0) (last-time (point (size l)) refl)))
-        ∙ sym (map-append (λ i. time l' i .0) (pointsFrom base (size l - base .0)) (point (size l) ∷ []))
-        ∙ ap (map (λ i. time l' i .0)) (ap (λ k. pointsFrom base (size l - base .0) ++ pointsFrom (point k) 1) (sym q) ∙ sym (pointsFrom-append base (size l - base .0) 1) ∙ ap (pointsFrom base) (sym z))
+    old-times : timesOf ≡ map (λ i. time l' i .0) (pointsFrom base (size l - base .0))
+    old-times = map-points (λ i. time l i .0) (λ i. time l' i .0) (base .0) (size l - base .0) (λ j u v. ap (λ (t : Stamp). t .0) (grows .times j (omega (arith, base-size))))
+
+    times-now : timesOf ++ timesAdded w ≡ map (λ i. time l' i .0) (pointsFrom base (size l' - base .0))
+    times-now = go (ltb 1 (length w)) refl
+      where
+        go : (t : Bool) → ltb 1 (length w) ≡ t → timesOf ++ cond t (getD w 0 0 ∷ []) [] ≡ map (λ i. time l' i .0) (pointsFrom base (size l' - base .0))
+        go false e =
+            let z : size l - base .0 ≡ size l' - base .0 = omega (arith, size-grown, ap oneIf e) in
+            append-nil timesOf ∙ old-times ∙ ap (λ n. map (λ i. time l' i .0) (pointsFrom base n)) z
+        go true e =
+            let z : size l' - base .0 ≡ (size l - base .0) + 1 = omega (arith, size-grown, base-size, ap oneIf e) in
+            let q : base .0 + (size l - base .0) ≡ size l = omega (arith, base-size) in
+            ap₂ (λ r p. r ++ p) old-times (ap (λ (t : Stamp). t .0 ∷ []) (sym (joins .new-time (ap oneIf e))))
+            ∙ sym (map-append (λ i. time l' i .0) (pointsFrom base (size l - base .0)) (point (size l) ∷ []))
+            ∙ ap (map (λ i. time l' i .0)) (ap (λ k. pointsFrom base (size l - base .0) ++ pointsFrom (point k) 1) (sym q) ∙ sym (pointsFrom-append base (size l - base .0) 1) ∙ ap (pointsFrom base) (sym z))
 
     abbrev base' : Point
     base' = firstRetained (size l') (map is (range 0 (nodeCount b)))
@@ -375,10 +363,10 @@ module _ (b : List ℕ) (a : Accepted) (ok : checking b ≡ given a) (l : Log) (
     base'-size : base' .0 ≤ size l'
     base'-size = let h : leastOf (size l') (map is (range 0 (nodeCount b))) ≤ size l' = least-most (size l') (map is (range 0 (nodeCount b))) in omega arith
 
-    first-now : firstRetained (size l + 1) (countsAfter s w) .0 - baseOf s .0 ≡ base' .0 - base .0
+    first-now : firstRetained (size l + pointsAdded w) (countsAfter s w) .0 - baseOf s .0 ≡ base' .0 - base .0
     first-now = ap₂ (λ (r p : Point). r .0 - p .0) (ap₂ (λ n cs. firstRetained n cs) (sym size-grown) counts-now) base-is
 
-    times-kept : drop (base' .0 - base .0) (timesOf ++ getD w 0 0 ∷ []) ≡ map (λ i. time l' i .0) (pointsFrom base' (size l' - base' .0))
+    times-kept : drop (base' .0 - base .0) (timesOf ++ timesAdded w) ≡ map (λ i. time l' i .0) (pointsFrom base' (size l' - base' .0))
     times-kept =
         let z : base .0 + (base' .0 - base .0) ≡ base' .0 = omega (arith, base-grows) in
         let y : size l' - base .0 - (base' .0 - base .0) ≡ size l' - base' .0 = omega (arith, base-grows, base'-size) in
@@ -389,14 +377,14 @@ module _ (b : List ℕ) (a : Accepted) (ok : checking b ≡ given a) (l : Log) (
     unfolding entries
     entries-all = gather-each (entriesNow s w) (entriesOf b l') 0 (nodeCount b) (λ x u o. entries-now x (omega arith))
 
-    abbrev stored : ℕ → List ℕ → List Entry → Stored
-    stored n ts es = record { rule = b; points = n; times = ts; entries = es }
+    abbrev stored : LogEnd → List ℕ → List Entry → Stored
+    stored e ts es = record { rule = b; points = e .points; latest = e .latest; times = ts; entries = es }
 
     pub stored-now : storedNow s w ≡ storedOf b l'
     unfolding storedNow storedOf
     stored-now =
-        ap (λ n. stored n (drop (firstRetained (size l + 1) (countsAfter s w) .0 - baseOf s .0) (timesOf ++ getD w 0 0 ∷ [])) (gather (entriesNow s w) (range 0 (nodeCount b)))) (sym size-grown)
-        ∙ ap₂ (stored (size l')) (ap (λ k. drop k (timesOf ++ getD w 0 0 ∷ [])) first-now ∙ times-kept) entries-all
+        ap (λ (e : LogEnd). stored e (drop (firstRetained (size l + pointsAdded w) (countsAfter s w) .0 - baseOf s .0) (timesOf ++ timesAdded w)) (gather (entriesNow s w) (range 0 (nodeCount b)))) end-now
+        ∙ ap₂ (stored (endIn l')) (ap (λ k. drop k (timesOf ++ timesAdded w)) first-now ∙ times-kept) entries-all
 
     -- ---- the figures
 
@@ -413,7 +401,7 @@ module _ (b : List ℕ) (a : Accepted) (ok : checking b ≡ given a) (l : Log) (
         (any-over (λ j. ltb mostRows (length (rowsOfTurn (turn s w x) j))) (λ j. ltb mostRows (length (vals l' (formulaAt b x) j))) (was x) (is x - was x)
         (λ j u v. ap (λ rows. ltb mostRows (length rows)) (new-rows-right x o j u v)))
 
-    pub open-now : s .points + 1 - countAfter s w (lastNode (s .rule)) ≡ openPoints b l'
+    pub open-now : s .points + pointsAdded w - countAfter s w (lastNode (s .rule)) ≡ openPoints b l'
     unfolding openPoints storedOf
     open-now = ap₂ (λ r p. r - p) (sym size-grown) (count-after (lastNode b) last-node) ∙ open-run l' (is (lastNode b)) (is-counted (lastNode b) last-node)
 

@@ -9,7 +9,7 @@ use lib.Seq.{getD-append-seam, ext-getD}
 use lib.Dec.{ltb}
 use borrow.Author.Tests.{ne-eqb}
 use Rattle.meaning.specs.Lists.{any, range, gather}
-use Rattle.meaning.specs.Log.{Log, Row, Ordered, point, size, rowsAt, pointsFrom}
+use Rattle.meaning.specs.Log.{Log, Ordered, point, size, rowsAt, pointsFrom}
 use Rattle.meaning.specs.Formula.{Formula}
 use Rattle.meaning.specs.Evaluator.{vals}
 use Rattle.meaning.specs.Settled.{settled}
@@ -81,7 +81,7 @@ module _ (v : Inputs) (node : Node) (start : Point) (count : ℕ) (held : List (
 
 module _ (v : Inputs) (l : Log) (ordered : Ordered l) (F : ℕ → Formula) (n : Node) (f : Fine (formulaOf F n)) where
   abbrev pub Ready : Point → Type 0
-  Ready i = (settled l (formulaOf F n) i ≡ true) × (childrenOf n ≡ [] → v .event ≡ rowsAt l i)
+  Ready i = (settled l (formulaOf F n) i ≡ true) × (childrenOf n ≡ [] → (r : ℕ) → v .event r ≡ rowsAt l r i)
 
   pub new-rows : (start : Point) (count : ℕ) → InputsAgree v l F n start → ((j : Point) → start .0 ≤ j .0 → j .0 < start .0 + count → Ready j)
       → newRows v n start count (pairsBefore l (formulaOf F n) start) ≡ map (vals l (formulaOf F n)) (pointsFrom start count)
@@ -114,7 +114,7 @@ wanted-on Future p q h = h
 
 -- ---- the turns, one after the other
 
-module _ (b : List ℕ) (es : List Entry) (τ : Point → Stamp) (before after : ℕ → ℕ) (event : List Row) where
+module _ (b : List ℕ) (es : List Entry) (τ : Point → Stamp) (before after : ℕ → ℕ) (event : ℕ → List (List ℕ)) where
   abbrev pub turnsUp : ℕ → List Turn
   turnsUp = turnsTo b es τ before after event
 

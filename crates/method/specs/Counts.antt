@@ -1,4 +1,4 @@
--- How many points each node has settled, from the time stamps alone.
+-- How many points each node has settled, from the time stamps and the latest known time alone.
 use Prim.Native.Nat.{ℕ, zero, suc, _+_, _-_, _<_, min}
 use mathlib.Core.Bool.{cond}
 use mathlib.Core.List.{List, [], _∷_, _++_, map, List·Memᴰ}
@@ -9,6 +9,7 @@ use Rattle.meaning.specs.View.{viewOf, childrenIn}
 use Rattle.meaning.specs.RuleFile.{nodeAt}
 use Rattle.meaning.specs.declared.Point.{Point}
 use Rattle.meaning.specs.declared.Stamp.{Stamp}
+use Rattle.meaning.specs.declared.LogEnd.{LogEnd}
 use Rattle.meaning.specs.declared.Times.{Times}
 use Rattle.meaning.specs.declared.Times.the-variants.{Here, Before, After, Past, Future}
 use Rattle.meaning.specs.declared.View.{View}
@@ -19,26 +20,26 @@ abbrev pub scan : (Point → Stamp) → ℕ → Stamp → Point → ℕ → Poin
 scan τ d bound i zero = i
 scan τ d bound i (suc steps) = cond (leb (τ i .0 + d) (bound .0)) (scan τ d bound (pointAfter i) steps) i
 
--- for until: the children have settled m of n points; a point is settled once its window ends by the time of point m, or by the latest time where the children have settled all
-unfoldable pub untilCount : (Point → Stamp) → ℕ → ℕ → ℕ → ℕ → ℕ
-untilCount τ n d m from = scan τ d (τ (point (cond (ltb m n) m (n - 1)))) (point from) (m - from) .0
+-- for until: the children have settled m points; a point is settled once its window ends by the time of point m, or by the latest known time where the children have settled all
+unfoldable pub untilCount : (Point → Stamp) → LogEnd → ℕ → ℕ → ℕ → ℕ
+untilCount τ e d m from = scan τ d (cond (ltb m (e .points)) (τ (point m)) (e .latest)) (point from) (m - from) .0
 
--- the count of a node with a window's end d, where its children have settled m of n points, from a count that is not too high
-abbrev pub advanceBy : (Point → Stamp) → ℕ → ℕ → ℕ → ℕ → Times → ℕ
-advanceBy τ n m from d Here = m
-advanceBy τ n m from d Before = min n (m + 1)
-advanceBy τ n m from d After = m - 1
-advanceBy τ n m from d Past = m
-advanceBy τ n m from d Future = untilCount τ n d m from
+-- the count of a node with a window's end d, where its children have settled m points of a log that ends so, from a count that is not too high
+abbrev pub advanceBy : (Point → Stamp) → LogEnd → ℕ → ℕ → ℕ → Times → ℕ
+advanceBy τ e m from d Here = m
+advanceBy τ e m from d Before = min (e .points) (m + 1)
+advanceBy τ e m from d After = m - 1
+advanceBy τ e m from d Past = m
+advanceBy τ e m from d Future = untilCount τ e d m from
 
--- the same from its children's counts: the least of them, and n where there are none
-abbrev pub advance : (Point → Stamp) → ℕ → (ℕ → ℕ) → ℕ → View → ℕ
-advance τ n count from v = advanceBy τ n (leastOf n (map count (childrenIn (v .children)))) from (v .window .end) (v .times)
+-- the same from its children's counts: the least of them, and all points where there are none
+abbrev pub advance : (Point → Stamp) → LogEnd → (ℕ → ℕ) → ℕ → View → ℕ
+advance τ e count from v = advanceBy τ e (leastOf (e .points) (map count (childrenIn (v .children)))) from (v .window .end) (v .times)
 
 -- the counts of the first nodes, as many as the last argument says
-abbrev pub countsTo : List ℕ → (Point → Stamp) → ℕ → (ℕ → ℕ) → ℕ → List ℕ
-countsTo b τ n from zero = []
-countsTo b τ n from (suc x) = countsTo b τ n from x ++ advance τ n (λ y. getD (countsTo b τ n from x) y 0) (from x) (viewOf (nodeAt b x)) ∷ []
+abbrev pub countsTo : List ℕ → (Point → Stamp) → LogEnd → (ℕ → ℕ) → ℕ → List ℕ
+countsTo b τ e from zero = []
+countsTo b τ e from (suc x) = countsTo b τ e from x ++ advance τ e (λ y. getD (countsTo b τ e from x) y 0) (from x) (viewOf (nodeAt b x)) ∷ []
 
 -- what a node that settles point i asks of a child's count c
 abbrev pub ConsultsBy : ℕ → Point → Times → Type 0

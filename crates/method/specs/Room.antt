@@ -69,7 +69,7 @@ module _ (b : List ℕ) (size : ℕ → ℕ) where
   unfoldable pub need : ℕ → ℕ
   need x = madeWithin (λ below y. needOf below y (childrenOf (nodeAt b y))) (suc x) x
 
--- One call on what is stored, with the event's words. "How much room a call needs is known from times alone, before any valuation"
+-- One call on what is stored, with the words of what is fed. "How much room a call needs is known from times alone, before any valuation"
 module _ (s : Stored) (w : List ℕ) where
   -- how many points node x newly settles, and so has new sets
   abbrev pub newPoints : ℕ → ℕ

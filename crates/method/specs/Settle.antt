@@ -5,7 +5,7 @@ use mathlib.Core.List.{List, [], _∷_, _++_, map}
 use lib.ListN.{getD, drop}
 use lib.Dec.{ltb, eqb}
 use Rattle.meaning.specs.Lists.{all, select, gather}
-use Rattle.meaning.specs.Log.{Row, elapsed, pointBefore, pointAfter, pointsFrom}
+use Rattle.meaning.specs.Log.{elapsed, pointBefore, pointAfter, pointsFrom}
 use Rattle.meaning.specs.Formula.{termsOf, inWindow, compares}
 use Rattle.meaning.specs.Definition2.{value}
 use Rattle.meaning.specs.Evaluator.{cutTo, valuationOf, setOf, atomRows, andRows, lasting, untilRows, lookUp}
@@ -22,13 +22,13 @@ use Rattle.meaning.specs.declared.View.{View}
 use Rattle.meaning.specs.declared.Node.{Node}
 use Rattle.meaning.specs.declared.Node.the-variants.{Atom, And, AndNot, Keep, Or, Exists, Previous, Next, Since, NotSince, Until, NotUntil, Once, Eventually}
 
--- What a node's turn can look at: the free variables, counts and rows of lower nodes, the time stamps, and the rows of the event.
+-- What a node's turn can look at: the free variables, counts and rows of lower nodes, the time stamps, and the rows of the event by relation.
 pub record Inputs : Type 0 where
   pub stamps : Point → Stamp
   pub free : ℕ → ℕ → Bool
   pub count : ℕ → ℕ
   pub rows : ℕ → Point → List (List ℕ)
-  pub event : List Row
+  pub event : ℕ → List (List ℕ)
 
 -- a child's rows at a point, asked for a row cut down to the child's variables
 abbrev pub found : Inputs → ℕ → List ℕ → Point → Bool
@@ -66,7 +66,7 @@ module _ (τ : Point → Stamp) (w : Window) (left : List ℕ → Point → Bool
 
 -- the rows that node's kind gives at a newly settled point i; the first such point is start, and held are the node's pairs at the point before it
 abbrev pub candidates : Inputs → List (List ℕ) → Point → Point → Node → List (List ℕ)
-candidates v held start i (Atom r t) = atomRows r (termsOf t) (v .event)
+candidates v held start i (Atom r t) = atomRows (termsOf t) (v .event r)
 candidates v held start i (And a b) = andRows (v .free a) (v .free b) (v .rows a i) (v .rows b i)
 candidates v held start i (AndNot a b) = select (λ u. not (found v b u i)) (v .rows a i)
 candidates v held start i (Keep a c s) = select (λ u. compares c (value (valuationOf u) (s .first)) (value (valuationOf u) (s .second))) (v .rows a i)

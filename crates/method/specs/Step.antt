@@ -6,20 +6,21 @@ use lib.ListN.{length, getD, drop}
 use lib.Dec.{ltb, eqb}
 use Rattle.meaning.specs.Lists.{any, range, select, gather}
 use Rattle.meaning.specs.Outcome.{Outcome, refused, given, mostRows}
-use Rattle.meaning.specs.Log.{Row, point, stamp, pointsFrom}
+use Rattle.meaning.specs.Log.{point, stamp, relationIn, pointsFrom}
 use Rattle.meaning.specs.Formula.{free, variables}
 use Rattle.meaning.specs.View.{viewOf}
-use Rattle.meaning.specs.RuleFile.{nodeCount, nodeAt, formulaAt, lastNode, pattern}
+use Rattle.meaning.specs.RuleFile.{nodeCount, nodeAt, formulaAt, lastNode, pattern, oneIf}
 use Rattle.meaning.specs.Kept.{Entry, entryOf, parentOf}
 use Rattle.meaning.specs.Event.{pointOf}
 use Rattle.meaning.specs.Report.{Reported, reportWords}
-use Rattle.meaning.specs.Keeper.{Taking, Given, reportRow, admitted, weighed, bufferAfter}
+use Rattle.meaning.specs.Keeper.{Fed, event, notice, Taking, Given, reportRow, admits, weighed, backlogOf, bufferAfter}
 use Rattle.meaning.specs.declared.Point.{Point}
 use Rattle.meaning.specs.declared.Stamp.{Stamp}
+use Rattle.meaning.specs.declared.LogEnd.{LogEnd}
 use Rattle.meaning.specs.declared.Node.{Node}
 use Rattle.meaning.specs.declared.Times.{Times}
 use Rattle.meaning.specs.declared.Times.the-variants.{Here, Before, After, Past, Future}
-use Rattle.method.specs.Stored.{Stored, baseOf, stampIn, held, heldPairs, firstRetained}
+use Rattle.method.specs.Stored.{Stored, endOf, baseOf, stampIn, held, heldPairs, firstRetained}
 use Rattle.method.specs.Counts.{countsTo}
 use Rattle.method.specs.Settle.{Inputs, settle, pairsAfter, Turn, rowsOfTurn}
 
@@ -56,18 +57,18 @@ abbrev pub noTurn : Turn
 noTurn = record { low = point 0; rows = []; pairs = [] }
 
 -- what node x can look at, after the turns of the nodes below it
-abbrev pub inputsOf : List ℕ → (Point → Stamp) → (ℕ → ℕ) → List Row → List Turn → Inputs
-inputsOf b τ after event turns = record { stamps = τ; free = λ y. free (formulaAt b y); count = after; rows = λ y. rowsOfTurn (getD turns y noTurn); event = event }
+abbrev pub inputsOf : List ℕ → (Point → Stamp) → (ℕ → ℕ) → (ℕ → List (List ℕ)) → List Turn → Inputs
+inputsOf b τ after read turns = record { stamps = τ; free = λ y. free (formulaAt b y); count = after; rows = λ y. rowsOfTurn (getD turns y noTurn); event = read }
 
 -- the turns of the first nodes, as many as the last argument says
-abbrev pub turnsTo : List ℕ → List Entry → (Point → Stamp) → (ℕ → ℕ) → (ℕ → ℕ) → List Row → ℕ → List Turn
-turnsTo b es τ before after event zero = []
-turnsTo b es τ before after event (suc x) =
-    turnsTo b es τ before after event x ++ turnOf b es before after (inputsOf b τ after event (turnsTo b es τ before after event x)) x ∷ []
+abbrev pub turnsTo : List ℕ → List Entry → (Point → Stamp) → (ℕ → ℕ) → (ℕ → ℕ) → (ℕ → List (List ℕ)) → ℕ → List Turn
+turnsTo b es τ before after read zero = []
+turnsTo b es τ before after read (suc x) =
+    turnsTo b es τ before after read x ++ turnOf b es before after (inputsOf b τ after read (turnsTo b es τ before after read x)) x ∷ []
 
 -- how many points each node has settled
 unfoldable pub countsStored : Stored → List ℕ
-countsStored s = countsTo (s .rule) (stampIn (baseOf s) (s .times)) (s .points) (λ x. baseOf s .0) (nodeCount (s .rule))
+countsStored s = countsTo (s .rule) (stampIn (baseOf s) (s .times)) (endOf s) (λ x. baseOf s .0) (nodeCount (s .rule))
 
 unfoldable pub countBefore : Stored → ℕ → ℕ
 countBefore s x = getD (countsStored s) x 0
@@ -79,14 +80,36 @@ keptStored s = length (s .entries)
 unfoldable pub openStored : Stored → ℕ
 openStored s = s .points - countBefore s (lastNode (s .rule))
 
--- One call, with the event's words.
+-- the words of what is fed: an event's, or of a notice its time alone
+abbrev pub wordsOf : Fed → List ℕ
+wordsOf (event w) = w
+wordsOf (notice t) = t ∷ []
+
+-- whether a point is added, told by the words: an event has two or more, a notice one
+abbrev pub pointsAdded : List ℕ → ℕ
+pointsAdded w = oneIf (ltb 1 (length w))
+
+-- the time of the point that is added
+abbrev pub timesAdded : List ℕ → List ℕ
+timesAdded w = cond (ltb 1 (length w)) (getD w 0 0 ∷ []) []
+
+-- the rows of the event by relation; a notice has none
+abbrev pub rowsTaken : List ℕ → List ℕ → ℕ → List (List ℕ)
+rowsTaken b w r = relationIn r (pointOf b w .rows)
+
+-- One call, with the words of what is fed.
 module _ (s : Stored) (w : List ℕ) where
+  -- the retained times, and behind them the time of what is fed: of the point that is added, or of the notice
   unfoldable pub stampsNow : Point → Stamp
   stampsNow = stampIn (baseOf s) (s .times ++ getD w 0 0 ∷ [])
 
+  -- where the log then ends
+  abbrev pub endNow : LogEnd
+  endNow = record { points = s .points + pointsAdded w; latest = stamp (getD w 0 0) }
+
   unfoldable pub countsAfter : List ℕ
   unfolding stampsNow
-  countsAfter = countsTo (s .rule) stampsNow (s .points + 1) (countBefore s) (nodeCount (s .rule))
+  countsAfter = countsTo (s .rule) stampsNow endNow (countBefore s) (nodeCount (s .rule))
 
   unfoldable pub countAfter : ℕ → ℕ
   unfolding countsAfter
@@ -94,7 +117,7 @@ module _ (s : Stored) (w : List ℕ) where
 
   unfoldable pub turn : ℕ → Turn
   unfolding stampsNow countAfter
-  turn x = getD (turnsTo (s .rule) (s .entries) stampsNow (countBefore s) countAfter (pointOf (s .rule) w .rows) (nodeCount (s .rule))) x noTurn
+  turn x = getD (turnsTo (s .rule) (s .entries) stampsNow (countBefore s) countAfter (rowsTaken (s .rule) w) (nodeCount (s .rule))) x noTurn
 
   -- what node x keeps
   unfoldable pub entriesNow : ℕ → List Entry
@@ -108,8 +131,9 @@ module _ (s : Stored) (w : List ℕ) where
   storedNow =
       record {
         rule = s .rule;
-        points = s .points + 1;
-        times = drop (firstRetained (s .points + 1) countsAfter .0 - baseOf s .0) (s .times ++ getD w 0 0 ∷ []);
+        points = s .points + pointsAdded w;
+        latest = stamp (getD w 0 0);
+        times = drop (firstRetained (s .points + pointsAdded w) countsAfter .0 - baseOf s .0) (s .times ++ timesAdded w);
         entries = gather entriesNow (range 0 (nodeCount (s .rule)));
       }
 
@@ -128,32 +152,30 @@ module _ (s : Stored) (w : List ℕ) where
   unfolding stampsNow countAfter turn
   reportNow = reportWords (length (select (free (pattern (s .rule))) variables)) reportedNow
 
-  -- the latest time, 0 before any point
-  abbrev pub latestStored : Stamp
-  latestStored = stamp (getD (s .times) (length (s .times) - 1) 0)
-
-  unfoldable pub answerNow : ℕ → Outcome ℕ
-  unfolding countAfter storedNow crowdedNow reportNow
-  answerNow room =
-      admitted (s .rule) w latestStored (s .points)
-      (weighed crowdedNow (nodeCount (s .rule)) (s .points + 1 - countAfter (lastNode (s .rule))) (length (storedNow .entries)) (length reportNow) room)
-
   -- the state after the call: kept on a refusal
   unfoldable abbrev pub storedAfter : Outcome ℕ → Stored
   unfolding storedNow
   storedAfter (refused number place) = s
   storedAfter (given words) = storedNow
 
+-- what is fed, answered: 13 to 16 are reckoned from what is stored
+unfoldable pub answerNow : Stored → Fed → ℕ → Outcome ℕ
+unfolding countAfter storedNow crowdedNow reportNow
+answerNow s f room =
+    let w = wordsOf f in
+    admits (s .rule) f (s .latest) (s .points)
+    (weighed (crowdedNow s w) (nodeCount (s .rule)) (backlogOf f (s .points + pointsAdded w - countAfter s w (lastNode (s .rule)))) (length (storedNow s w .entries)) (length (reportNow s w)) room)
+
 -- What a taking gives back, and what is then stored.
 unfoldable pub givenBy : Stored → Taking → Given
 givenBy s t =
     record {
-      answer = answerNow s (t .event) (length (t .buffer));
-      buffer = bufferAfter (answerNow s (t .event) (length (t .buffer))) (reportNow s (t .event)) (t .buffer);
+      answer = answerNow s (t .fed) (length (t .buffer));
+      buffer = bufferAfter (answerNow s (t .fed) (length (t .buffer))) (reportNow s (wordsOf (t .fed))) (t .buffer);
     }
 
 unfoldable pub storedBy : Stored → Taking → Stored
-storedBy s t = storedAfter s (t .event) (answerNow s (t .event) (length (t .buffer)))
+storedBy s t = storedAfter s (wordsOf (t .fed)) (answerNow s (t .fed) (length (t .buffer)))
 
 -- over a list of takings, each given what the last handed back
 abbrev pub givenRun : Stored → List Taking → List Given

@@ -1,22 +1,28 @@
--- What is stored between calls: the rule, the number of points, the retained times and the kept entries. Nothing else is needed: how many points each node has settled follows from the rule and the times.
+-- What is stored between calls: the rule, the number of points, the latest known time, the retained times and the kept entries. Nothing else is needed: how many points each node has settled follows from the rule, the times and the latest.
 use Prim.Native.Nat.{ℕ, _-_, min}
 use mathlib.Core.Bool.{_&&_}
 use mathlib.Core.List.{List, [], _∷_, map}
 use lib.ListN.{length, getD}
 use lib.Dec.{eqb}
 use Rattle.meaning.specs.Lists.{range, select}
-use Rattle.meaning.specs.Log.{Log, point, stamp, size, time, pointsFrom}
+use Rattle.meaning.specs.Log.{Log, point, stamp, size, time, latest, pointsFrom}
 use Rattle.meaning.specs.Settled.{settledCount}
 use Rattle.meaning.specs.RuleFile.{nodeCount, formulaAt}
 use Rattle.meaning.specs.Kept.{Entry, entries}
 use Rattle.meaning.specs.declared.Point.{Point}
 use Rattle.meaning.specs.declared.Stamp.{Stamp}
+use Rattle.meaning.specs.declared.LogEnd.{LogEnd}
 
 pub record Stored : Type 0 where
   pub rule : List ℕ
   pub points : ℕ
+  pub latest : Stamp
   pub times : List ℕ
   pub entries : List Entry
+
+-- where its log ends
+abbrev pub endOf : Stored → LogEnd
+endOf s = record { points = s .points; latest = s .latest }
 
 -- the first point whose time is retained
 abbrev pub baseOf : Stored → Point
@@ -49,6 +55,7 @@ storedOf b l =
     record {
       rule = b;
       points = size l;
+      latest = latest l;
       times = map (λ i. time l i .0) (pointsFrom (firstRetained (size l) (map (λ x. settledCount l (formulaAt b x)) (range 0 (nodeCount b)))) (size l - firstRetained (size l) (map (λ x. settledCount l (formulaAt b x)) (range 0 (nodeCount b))) .0));
       entries = entries b l;
     }

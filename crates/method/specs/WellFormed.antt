@@ -80,7 +80,7 @@ module _ (s : Stored) where
       && leb (length (s .times)) mostTimes
       && leb (openStored s) mostOpen
       && eqb (length (s .times)) (s .points - firstRetained (s .points) (countsStored s) .0)
-      && notFalling (s .times)
+      && notFalling (s .times ++ s .latest .0 ∷ [])
       && leb (length (s .entries)) mostKept
       && sameEntries (s .entries) (gather ownEntries (range 0 (nodeCount (s .rule))))
       && all nodeFits (range 0 (nodeCount (s .rule)))
@@ -92,7 +92,7 @@ pub record Formed (s : Stored) : Type 0 where
   pub few-times : length (s .times) ≤ mostTimes
   pub few-open : openStored s ≤ mostOpen
   pub times-many : length (s .times) ≡ s .points - firstRetained (s .points) (countsStored s) .0
-  pub rising : notFalling (s .times) ≡ true
+  pub rising : notFalling (s .times ++ s .latest .0 ∷ []) ≡ true
   pub few-kept : length (s .entries) ≤ mostKept
   pub entries-own : s .entries ≡ gather (ownEntries s) (range 0 (nodeCount (s .rule)))
   pub nodes-fit : (x : ℕ) → x < nodeCount (s .rule) → nodeFits s x ≡ true
