@@ -20,9 +20,10 @@ use Rattle.meaning.specs.declared.Point.{Point}
 use Rattle.meaning.specs.declared.Stamp.{Stamp}
 use Rattle.meaning.proofs.Points.{Tested, passed, failed, tested}
 use Rattle.meaning.proofs.Accepted.{accepted, nodes-most, last-is-node}
+use Rattle.meaning.specs.declared.LogEnd.{LogEnd}
 use Rattle.method.specs.Stored.{Stored, baseOf, stampIn}
 use Rattle.method.specs.Settle.{Turn, rowsOfTurn}
-use Rattle.method.specs.Step.{wantedFrom, countBefore, countAfter, stampsNow, turnOf, turn, entriesNow, storedNow, crowdedNow, reportNow}
+use Rattle.method.specs.Step.{pointsAdded, wantedFrom, countBefore, countAfter, stampsNow, turnOf, turn, entriesNow, storedNow, crowdedNow, reportNow}
 use Rattle.method.specs.WellFormed.{Formed}
 use Rattle.method.specs.Room.{rowsNeeded, marksNeeded}
 use Rattle.method.proofs.Bounds.{before-after, after-most, new-few, wanted-before}
@@ -116,9 +117,9 @@ first-figure f x = ap (λ i. getD f i 0) (sym (add-zero (x * 9)))
 
 -- ---- a call that is ready
 
-module _ {b : List ℕ} {points : ℕ} {stamps os ns vs : List ℕ} {count : ℕ} {w f : List ℕ} (h : ReadyIn b points stamps os ns vs count w f) where
+module _ {b : List ℕ} {log : LogEnd} {stamps os ns vs : List ℕ} {count : ℕ} {w f : List ℕ} (h : ReadyIn b log stamps os ns vs count w f) where
   abbrev s : Stored
-  s = callIn b points stamps os ns vs count
+  s = callIn b log stamps os ns vs count
 
   abbrev x : ℕ
   x = lastNode b
@@ -148,25 +149,25 @@ module _ {b : List ℕ} {points : ℕ} {stamps os ns vs : List ℕ} {count : ℕ
   pub walk-asks : {os' ns' vs' : List ℕ} (rows at on ov bl : List ℕ) → os' ≡ take count os → ns' ≡ take count ns → vs' ≡ take (count * 4) vs
       → (rowsNeeded s w * 4 ≤ length rows) × (marksNeeded s w < length at)
       → RoomToKeep b on ov bl
-      → CallReady (called b points stamps os' ns' vs') w os' ns' vs' stamps f
-      × (((rowsNeeded (called b points stamps os' ns' vs') w * 4 ≤ length rows) × (marksNeeded (called b points stamps os' ns' vs') w < length at))
-      × OutThere (called b points stamps os' ns' vs') w on ov bl 0)
+      → CallReady (called b log stamps os' ns' vs') w os' ns' vs' stamps f
+      × (((rowsNeeded (called b log stamps os' ns' vs') w * 4 ≤ length rows) × (marksNeeded (called b log stamps os' ns' vs') w < length at))
+      × OutThere (called b log stamps os' ns' vs') w on ov bl 0)
   walk-asks rows at on ov bl d e g room out = rw (d, e, g) (h .ready, (room, record { few = out .0; rows = out .1; table = out .2; counted = omega arith }))
 
   -- what it leaves then
   pub walked-is : {os' ns' vs' rows at on ov bl : List ℕ} {room : ℕ} {r : Place} → os' ≡ take count os → ns' ≡ take count ns → vs' ≡ take (count * 4) vs
-      → Walked (called b points stamps os' ns' vs') w rows at on ov bl room r → Walked s w rows at on ov bl room r
+      → Walked (called b log stamps os' ns' vs') w rows at on ov bl room r → Walked s w rows at on ov bl room r
   walked-is d e g t = rw (d, e, g) at t
 
   -- a call that is tried again, where every word is as it was
   module _ {os' ns' vs' : List ℕ} (d : os' ≡ os) (e : ns' ≡ ns) (g : vs' ≡ vs) where
-    pub again-ready : ReadyIn b points stamps os' ns' vs' count w f
+    pub again-ready : ReadyIn b log stamps os' ns' vs' count w f
     again-ready = rw (d, e, g) h
 
-    pub again-so : (P : Stored → Type 0) → P s → P (callIn b points stamps os' ns' vs' count)
+    pub again-so : (P : Stored → Type 0) → P s → P (callIn b log stamps os' ns' vs' count)
     again-so P u = rw (d, e, g) u
 
-    pub again-settled : {buffer buffer₁ buffer₂ os₂ ns₂ vs₂ : List ℕ} {r : Weighed} → buffer₁ ≡ buffer → SettledCall (callIn b points stamps os' ns' vs' count) w buffer₁ buffer₂ os' ns' vs' os₂ ns₂ vs₂ r
+    pub again-settled : {buffer buffer₁ buffer₂ os₂ ns₂ vs₂ : List ℕ} {r : Weighed} → buffer₁ ≡ buffer → SettledCall (callIn b log stamps os' ns' vs' count) w buffer₁ buffer₂ os' ns' vs' os₂ ns₂ vs₂ r
         → SettledCall s w buffer buffer₂ os ns vs os₂ ns₂ vs₂ r
     again-settled k u = rw (k, d, e, g) at u
 
@@ -174,17 +175,17 @@ module _ {b : List ℕ} {points : ℕ} {stamps os ns vs : List ℕ} {count : ℕ
   stamps-long = ap length (h .ready .stamps-now) ∙ length-append (s .times) (getD w 0 0 ∷ [])
 
   -- the base of the stamps is that of the state
-  base-is : points + 1 - length stamps ≡ baseOf s .0
+  base-is : log .points + 1 - length stamps ≡ baseOf s .0
   base-is = omega (arith, stamps-long)
 
-  stamps-are : stampIn (point (points + 1 - length stamps)) stamps ≡ stampsNow s w
+  stamps-are : stampIn (point (log .points + 1 - length stamps)) stamps ≡ stampsNow s w
   unfolding stampsNow
   stamps-are = ap₂ stampIn (ap point base-is) (h .ready .stamps-now)
 
   grown : countBefore s x ≤ countAfter s w x
   grown = before-after s a ok (formed .few-times) (formed .times-many) w x last-node
 
-  settled : countAfter s w x ≤ points + 1
+  settled : countAfter s w x ≤ log .points + pointsAdded w
   settled = after-most s a ok (formed .few-times) (formed .times-many) w x last-node
 
   low-before : wantedFrom b (countBefore s) x .0 ≤ countBefore s x
@@ -203,10 +204,10 @@ module _ {b : List ℕ} {points : ℕ} {stamps os ns vs : List ℕ} {count : ℕ
         }
 
     module _ (none : r .low ≡ 32) where
-      pub last-ready : LastReady b f points stamps rows at
+      pub last-ready : LastReady b f (log .points) w stamps rows at
       last-ready =
           let i : lastNode b < nodeCount b = last-node in
-          let sets : Reportable rows at (lastPoints b f points stamps)
+          let sets : Reportable rows at (lastPoints b f (log .points) stamps)
           = reportable (omega (arith, figures .low, figures .before, low-before)) (t .stand none .laid) (omega (arith, figures .low, figures .before, figures .after, low-before, grown)) (omega (arith, figures .before, figures .after, grown, settled, h .ready .not-full)) in
           record {
             byte = rule-long;
@@ -241,11 +242,11 @@ module _ {b : List ℕ} {points : ℕ} {stamps os ns vs : List ℕ} {count : ℕ
       points-are : pointsFrom (point (beforeIn f x)) (afterIn f x - beforeIn f x) ≡ pointsFrom (point (countBefore s x)) (countAfter s w x - countBefore s x)
       points-are = rw (figures .before, figures .after)
 
-      pub report-same : words rows at stamps (lastPoints b f points stamps) ≡ reportNow s w
+      pub report-same : words rows at stamps (lastPoints b f (log .points) stamps) ≡ reportNow s w
       unfolding words reportedFrom reportNow reportedAt
       report-same =
           ap₂ reportWords (count-same (inMask (maskIn f x)) (free (pattern b)) (figures .mask))
-          (ap (map (reportedAt (stampIn (point (points + 1 - length stamps)) stamps) (reportRow (inMask (maskIn f x))) (setAt rows at 0 (point (lowIn f x))))) points-are
+          (ap (map (reportedAt (stampIn (point (log .points + 1 - length stamps)) stamps) (reportRow (inMask (maskIn f x))) (setAt rows at 0 (point (lowIn f x))))) points-are
           ∙ map-points _ _ (countBefore s x) (countAfter s w x - countBefore s x)
           (λ j u o.
           ap₂ (λ τ us. record { at = j; time = τ j; rows = us }) stamps-are
@@ -276,13 +277,13 @@ module _ {b : List ℕ} {points : ℕ} {stamps os ns vs : List ℕ} {count : ℕ
 
       -- the last node's report weighed
       abbrev WeighsLast : List ℕ → List ℕ → Weighed → Type 0
-      WeighsLast = Weighs (points + 1 - afterIn f x) (r .kept) (words rows at stamps (lastPoints b f points stamps))
+      WeighsLast = Weighs (log .points + pointsAdded w - afterIn f x) (r .kept) (words rows at stamps (lastPoints b f (log .points) stamps))
 
       module _ (enough : (mostKept ≤ room) ⊎ (r .kept ≤ room)) {buffer buffer' : List ℕ} where
         outcome-so : {q : Weighed} → WeighsLast buffer buffer' q → weighedOf q ≡ weighedNow s w (length buffer)
         unfolding weighedNow weighed
         outcome-so g =
-            g .outcome ∙ after-same (r .kept) (length (storedNow s w .entries)) (length buffer) (ap (λ k. points + 1 - k) (figures .after)) (over-same room (r .kept) (length (storedNow s w .entries)) (t .counted none) enough) (ap length report-same)
+            g .outcome ∙ after-same (r .kept) (length (storedNow s w .entries)) (length buffer) (ap (λ k. log .points + pointsAdded w - k) (figures .after)) (over-same room (r .kept) (length (storedNow s w .entries)) (t .counted none) enough) (ap length report-same)
             ∙ sym (crowds-none (crowdedNow s w) 0 (nodeCount b) _ (λ y u o. t .calm y (omega arith) (omega (arith, nodes-few))))
 
         written-so : {q : Weighed} → WeighsLast buffer buffer' q → buffer' ≡ bufferAfter (weighedOf q) (reportNow s w) buffer

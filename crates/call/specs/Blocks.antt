@@ -8,6 +8,7 @@ use Rattle.meaning.specs.Kept.{Entry}
 use Rattle.meaning.specs.Log.{point}
 use Rattle.meaning.specs.Outcome.{mostPoints, mostNodes}
 use Rattle.meaning.specs.RuleFile.{nodeCount, lastNode}
+use Rattle.method.specs.Step.{pointsAdded}
 use Rattle.entries.specs.Appended.{WordsPut}
 use Rattle.writer.specs.declared.Points.{Points}
 use Rattle.writer.specs.Words.{words, Reportable}
@@ -49,14 +50,14 @@ lastPoints b f points stamps =
     record { from = point (beforeIn f x); count = afterIn f x - beforeIn f x; first = 0; low = point (lowIn f x); base = point (points + 1 - length stamps); mask = maskIn f x }
 
 -- the report on them can be written
-pub record LastReady (b f : List ℕ) (points : ℕ) (stamps rows at : List ℕ) : Type 0 where
+pub record LastReady (b f : List ℕ) (points : ℕ) (w stamps rows at : List ℕ) : Type 0 where
   pub byte : 2 < length b
   pub some : 0 < nodeCount b
   pub nodes : nodeCount b ≤ mostNodes
   pub figures-there : nodeCount b * nodeWords ≤ length f
   pub grown : beforeIn f (lastNode b) ≤ afterIn f (lastNode b)
-  pub settled : afterIn f (lastNode b) ≤ points + 1
-  pub not-full : points < mostPoints
+  pub settled : afterIn f (lastNode b) ≤ points + pointsAdded w
+  pub not-full : points + pointsAdded w ≤ mostPoints
   pub retained : length stamps ≤ points + 1
   pub mask-small : maskIn f (lastNode b) < 256
   pub sets : Reportable rows at (lastPoints b f points stamps)

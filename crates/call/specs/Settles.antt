@@ -1,4 +1,4 @@
--- A call from a well-formed state and an admitted event on: what 13 to 16 answer, and what is left of the buffer and the state's words.
+-- A call from a well-formed state and an admitted event or notice on: what 13 to 16 answer, and what is left of the buffer and the state's words.
 use Prim.Native.Nat.{ℕ, _+_, _-_, _*_, _≤_, _<_}
 use mathlib.Core.Path.{_≡_}
 use mathlib.Core.List.{List}
@@ -6,8 +6,9 @@ use lib.ListN.{length, take}
 use Rattle.meaning.specs.Outcome.{Outcome, mostKept}
 use Rattle.meaning.specs.RuleFile.{nodeCount, lastNode}
 use Rattle.meaning.specs.Keeper.{weighed, bufferAfter}
+use Rattle.meaning.specs.declared.LogEnd.{LogEnd}
 use Rattle.method.specs.Stored.{Stored}
-use Rattle.method.specs.Step.{countAfter, storedNow, crowdedNow, reportNow}
+use Rattle.method.specs.Step.{pointsAdded, countAfter, storedNow, crowdedNow, reportNow}
 use Rattle.limits.specs.Weighs.{weighedOf}
 use Rattle.limits.specs.declared.Refusal.{Refusal}
 use Rattle.limits.specs.declared.Weighed.{Weighed}
@@ -19,12 +20,12 @@ use Rattle.call.specs.declared.Settled.{Settled}
 use Rattle.call.specs.declared.Settled.the-variants.{Done, Full}
 
 -- what is stored as the call begins, where the first count entries of the words are a state's
-abbrev pub callIn : List ℕ → ℕ → List ℕ → List ℕ → List ℕ → List ℕ → ℕ → Stored
-callIn b points stamps os ns vs count = called b points stamps (take count os) (take count ns) (take (count * 4) vs)
+abbrev pub callIn : List ℕ → LogEnd → List ℕ → List ℕ → List ℕ → List ℕ → ℕ → Stored
+callIn b e stamps os ns vs count = called b e stamps (take count os) (take count ns) (take (count * 4) vs)
 
 -- what holds as the call goes through the nodes, in the words of a state
-pub record ReadyIn (b : List ℕ) (points : ℕ) (stamps os ns vs : List ℕ) (count : ℕ) (w f : List ℕ) : Type 0 where
-  pub ready : CallReady (callIn b points stamps os ns vs count) w (take count os) (take count ns) (take (count * 4) vs) stamps f
+pub record ReadyIn (b : List ℕ) (e : LogEnd) (stamps os ns vs : List ℕ) (count : ℕ) (w f : List ℕ) : Type 0 where
+  pub ready : CallReady (callIn b e stamps os ns vs count) w (take count os) (take count ns) (take (count * 4) vs) stamps f
   pub few-kept : count ≤ mostKept
   pub owners-long : length os ≡ mostKept
   pub numbers-long : length ns ≡ mostKept
@@ -37,7 +38,7 @@ RoomToKeep b on ov bl = (length on ≤ mostKept) × (length on * 4 ≤ length ov
 -- what follows 9 to 12
 unfoldable pub weighedNow : Stored → List ℕ → ℕ → Outcome ℕ
 weighedNow s w room =
-    weighed (crowdedNow s w) (nodeCount (s .rule)) (s .points + 1 - countAfter s w (lastNode (s .rule))) (length (storedNow s w .entries)) (length (reportNow s w)) room
+    weighed (crowdedNow s w) (nodeCount (s .rule)) (s .points + pointsAdded w - countAfter s w (lastNode (s .rule))) (length (storedNow s w .entries)) (length (reportNow s w)) room
 
 -- the call settled: the answer, the buffer, and the entries that are then stored; on a refusal every word as it was
 pub record SettledCall (s : Stored) (w buffer buffer' os ns vs os' ns' vs' : List ℕ) (r : Weighed) : Type 0 where

@@ -1,6 +1,7 @@
 // A call in lent room: the walk over the tree, refusals 13 to 16, the report, and the entries that are then kept, stored.
 use limits::Refusal;
 use limits::Weighed;
+use meaning::LogEnd;
 use meaning::Point;
 use node_step::NO_NODE;
 use node_step::NODE_WORDS;
@@ -12,6 +13,7 @@ ghost use lib.ListN.{length};
 ghost use Rattle.meaning.specs.Lists.{range, gather};
 ghost use Rattle.meaning.specs.Outcome.{mostKept};
 ghost use Rattle.meaning.specs.RuleFile.{lastNode};
+ghost use Rattle.method.specs.Step.{pointsAdded};
 ghost use Rattle.method.specs.Room.{rowsNeeded, marksNeeded};
 ghost use Rattle.node_step.specs.Figures.{afterIn};
 ghost use Rattle.node_step.specs.Walks.{blockIn};
@@ -98,13 +100,14 @@ fn weigh_last(
     figures: &[u32],
     stamps: &[u32],
     points: u32,
+    event: &[u32],
     rows: &[u32],
     at: &[u32],
     kept: usize,
     report: &mut [u32],
 ) -> Weighed
-    requires { ⌜ LastReady (now rule) (now figures) points (now stamps) (now rows) (now at) ⌝ }
-    ensures { λ r. ⌜ Weighs (points + 1 - afterIn (now (figures .entry)) (lastNode (now (rule .entry)))) kept (words (now (rows .entry)) (now (at .entry)) (now (stamps .entry)) (lastPoints (now (rule .entry)) (now (figures .entry)) points (now (stamps .entry)))) (now (report .entry)) (now (report .exit)) r ⌝ }
+    requires { ⌜ LastReady (now rule) (now figures) points (now event) (now stamps) (now rows) (now at) ⌝ }
+    ensures { λ r. ⌜ Weighs (points + pointsAdded (now (event .entry)) - afterIn (now (figures .entry)) (lastNode (now (rule .entry)))) kept (words (now (rows .entry)) (now (at .entry)) (now (stamps .entry)) (lastPoints (now (rule .entry)) (now (figures .entry)) points (now (stamps .entry)))) (now (report .entry)) (now (report .exit)) r ⌝ }
 {
     let x = ((rule[2] - 1) as usize) * NODE_WORDS;
     let before = figures[x + 2];
@@ -117,7 +120,8 @@ fn weigh_last(
         base: Point(points + 1 - stamps.len() as u32),
         mask: figures[x] as u8,
     };
-    limits::weigh(report, rows, at, stamps, p, points + 1 - after, kept)
+    let unsettled = points + progress::points_added(event) - after;
+    limits::weigh(report, rows, at, stamps, p, unsettled, kept)
 }
 
 // A call in lent room: all nodes, refusals 13 to 16, and where none applies the report and the entries that are then kept.
@@ -125,7 +129,7 @@ pub fn settle(
     rule: &[u8],
     figures: &[u32],
     stamps: &[u32],
-    points: u32,
+    log: LogEnd,
     event: &[u32],
     owners: &mut [u32],
     numbers: &mut [u32],
@@ -138,10 +142,10 @@ pub fn settle(
     out_values: &mut [u32],
     blocks: &mut [u32],
 ) -> Settled
-    requires { ⌜ ReadyIn (now rule) points (now stamps) (now owners) (now numbers) (now values) count (now event) (now figures) ⌝ }
-    requires { ⌜ (rowsNeeded (callIn (now rule) points (now stamps) (now owners) (now numbers) (now values) count) (now event) * 4 ≤ length (now rows)) × (marksNeeded (callIn (now rule) points (now stamps) (now owners) (now numbers) (now values) count) (now event) < length (now at)) ⌝ }
+    requires { ⌜ ReadyIn (now rule) log (now stamps) (now owners) (now numbers) (now values) count (now event) (now figures) ⌝ }
+    requires { ⌜ (rowsNeeded (callIn (now rule) log (now stamps) (now owners) (now numbers) (now values) count) (now event) * 4 ≤ length (now rows)) × (marksNeeded (callIn (now rule) log (now stamps) (now owners) (now numbers) (now values) count) (now event) < length (now at)) ⌝ }
     requires { ⌜ RoomToKeep (now rule) (now «out_numbers») (now «out_values») (now blocks) ⌝ }
-    ensures tried { λ r. ⌜ Tried (callIn (now (rule .entry)) points (now (stamps .entry)) (now (owners .entry)) (now (numbers .entry)) (now (values .entry)) count) (now (event .entry)) (now (report .entry)) (now (report .exit)) (now (owners .entry)) (now (numbers .entry)) (now (values .entry)) (now (owners .exit)) (now (numbers .exit)) (now (values .exit)) r ⌝ }
+    ensures tried { λ r. ⌜ Tried (callIn (now (rule .entry)) log (now (stamps .entry)) (now (owners .entry)) (now (numbers .entry)) (now (values .entry)) count) (now (event .entry)) (now (report .entry)) (now (report .exit)) (now (owners .entry)) (now (numbers .entry)) (now (values .entry)) (now (owners .exit)) (now (numbers .exit)) (now (values .exit)) r ⌝ }
     ensures full { λ r. ⌜ (r ≡ Full → length (now («out_numbers» .entry)) < mostKept) ⌝ }
 {
     let place = tree_walk::walk(
@@ -151,7 +155,7 @@ pub fn settle(
         &numbers[0..count],
         &values[0..count * 4],
         stamps,
-        points,
+        log,
         event,
         rows,
         at,
@@ -170,7 +174,17 @@ pub fn settle(
             return Settled::Full;
         }
     }
-    let weighed = weigh_last(rule, figures, stamps, points, rows, at, kept, report);
+    let weighed = weigh_last(
+        rule,
+        figures,
+        stamps,
+        log.points,
+        event,
+        rows,
+        at,
+        kept,
+        report,
+    );
     match weighed {
         Weighed::Refused(refusal) => Settled::Done(Weighed::Refused(refusal)),
         Weighed::Written(words, stored) => {

@@ -8,7 +8,7 @@ use Rattle.meaning.specs.Log.{stamp}
 use Rattle.meaning.specs.Lists.{range}
 use Rattle.meaning.specs.Outcome.{Outcome, when, timeFalls, logFull, mostPoints}
 use Rattle.meaning.specs.Event.{rowCount, rowFits}
-use Rattle.meaning.specs.Keeper.{weighRows, admitted}
+use Rattle.meaning.specs.Keeper.{notice, weighRows, admitted, admits}
 use Rattle.meaning.specs.declared.Stamp.{Stamp}
 use Rattle.meaning.proofs.Points.{Tested, passed, failed, tested}
 use Rattle.events.specs.declared.Form.the-variants as form
@@ -75,3 +75,19 @@ module _ (b w : List ℕ) (last : Stamp) (points : ℕ) where
 
         pub fine : Enough ≡ roomOf points → (rest : Outcome ℕ) → admitted b w last points rest ≡ outcomeOf Fine rest
         fine e rest = by-rows rest ∙ rw (← fit, ← kept, ← e)
+
+-- 11 of a notice
+module _ (time last : Stamp) where
+  by-order : (b : List ℕ) (points : ℕ) (rest : Outcome ℕ) → admits b (notice (time .0)) last points rest ≡ outcomeOf (late (orderOf time last) Enough) rest
+  unfolding orderOf
+  by-order b points rest = go (tested (ltb (time .0) (last .0)))
+    where
+      go : Tested (ltb (time .0) (last .0)) → when (ltb (time .0) (last .0)) timeFalls 0 rest ≡ outcomeOf (late (orderOf time last) Enough) rest
+      go (passed t) = rw t
+      go (failed t) = rw t
+
+  pub notice-falls : Falls ≡ orderOf time last → (b : List ℕ) (points : ℕ) (rest : Outcome ℕ) → admits b (notice (time .0)) last points rest ≡ outcomeOf TimeFalls rest
+  notice-falls e b points rest = by-order b points rest ∙ rw (← e)
+
+  pub notice-fine : Kept ≡ orderOf time last → (b : List ℕ) (points : ℕ) (rest : Outcome ℕ) → admits b (notice (time .0)) last points rest ≡ outcomeOf Fine rest
+  notice-fine e b points rest = by-order b points rest ∙ rw (← e)

@@ -3,11 +3,12 @@ use Prim.Native.Nat.{ℕ, _+_, _*_, _≤_}
 use mathlib.Core.Path.{_≡_}
 use mathlib.Core.Bool.{cond}
 use mathlib.Core.List.{List, [], _∷_}
-use lib.ListN.{length}
+use lib.ListN.{length, getD}
 use lib.Dec.{ltb, leb}
 use Rattle.meaning.specs.Outcome.{Outcome, refused, notAnEvent, rowOut, timeFalls, logFull, mostRows, mostPoints}
 use Rattle.meaning.specs.RuleFile.{relationCount}
 use Rattle.meaning.specs.Event.{rowCount, isEvent, rowFits}
+use Rattle.meaning.specs.Keeper.{Fed, event, notice}
 use Rattle.meaning.specs.declared.Stamp.{Stamp}
 use Rattle.events.specs.declared.Form.{Form}
 use Rattle.events.specs.declared.Form.the-variants as form
@@ -17,6 +18,8 @@ use Rattle.events.specs.declared.Order.{Order}
 use Rattle.events.specs.declared.Order.the-variants.{Kept, Falls}
 use Rattle.events.specs.declared.LogRoom.{LogRoom}
 use Rattle.events.specs.declared.LogRoom.the-variants.{Enough, Full}
+use Rattle.events.specs.declared.Handed.{Handed}
+use Rattle.events.specs.declared.Handed.the-variants.{Event, Notice}
 use Rattle.events.specs.declared.Admitted.{Admitted}
 use Rattle.events.specs.declared.Admitted.the-variants.{Fine, NotAnEvent, RowOut, TimeFalls, LogFull}
 
@@ -57,3 +60,12 @@ outcomeOf NotAnEvent rest = refused notAnEvent 0
 outcomeOf (RowOut k) rest = refused rowOut k
 outcomeOf TimeFalls rest = refused timeFalls 0
 outcomeOf LogFull rest = refused logFull 0
+
+-- what is handed in, as the keeper is fed it: an event's words, or of a notice the time, which is its one word
+abbrev pub fedOf : Handed → List ℕ → Fed
+fedOf Event w = event w
+fedOf Notice w = notice (getD w 0 0)
+
+abbrev pub HandedWhole : Handed → List ℕ → Type 0
+HandedWhole Event w = Unit
+HandedWhole Notice w = length w ≡ 1

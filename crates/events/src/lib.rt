@@ -1,16 +1,18 @@
-// The first checks of an event: its form, its rows, its time stamp and the room in the log.
+// The first checks of an event, its form, its rows, its time stamp and the room in the log; and of a notice, its time stamp alone.
+use meaning::LogEnd;
 use meaning::MOST_POINTS;
 use meaning::MOST_ROWS;
 use meaning::Stamp;
 ghost use mathlib.Core.Path.{_≡_};
+ghost use mathlib.Core.List.{List};
 ghost use Prim.Native.Nat.{ℕ, _<_};
 ghost use lib.ListN.{drop};
 ghost use lib.Dec.{eqb};
 ghost use Rattle.meaning.specs.Lists.{all, range};
 ghost use Rattle.meaning.specs.Outcome.{Outcome};
 ghost use Rattle.meaning.specs.Event.{rowFits};
-ghost use Rattle.meaning.specs.Keeper.{admitted};
-ghost use Rattle.events.specs.Answers.{RuleSizes, Rowed, formOf, rowsOf, orderOf, roomOf, admittedRows, outcomeOf};
+ghost use Rattle.meaning.specs.Keeper.{notice, admitted, admits};
+ghost use Rattle.events.specs.Answers.{RuleSizes, Rowed, formOf, rowsOf, orderOf, roomOf, admittedRows, outcomeOf, fedOf, HandedWhole};
 
 // Whether words are an event, and then its row count.
 pub enum Form {
@@ -24,7 +26,7 @@ pub enum Rows {
     Out(u32),
 }
 
-// Whether the event's time stamp is no earlier than the last point's.
+// Whether a time stamp is no earlier than the latest known.
 pub enum Order {
     Kept,
     Falls,
@@ -43,6 +45,12 @@ pub enum Admitted {
     RowOut(u32),
     TimeFalls,
     LogFull,
+}
+
+// Which of the two is handed in: an event's words, or a notice, of which the one word is its time.
+pub enum Handed {
+    Event,
+    Notice,
 }
 
 // The event's form by its length and its row count.
@@ -105,7 +113,7 @@ pub fn rows_of(rule: &[u8], event: &[u32], m: u32) -> Rows
     Rows::Fit
 }
 
-// The order by two time stamps, the event's and the last point's.
+// The order by two time stamps, that of what is handed in and the latest known.
 fn order_of(time: Stamp, last: Stamp) -> Order
     ensures { λ r. ⌜ r ≡ orderOf time last ⌝ }
 {
@@ -137,8 +145,8 @@ fn refused_row(rows: Rows) -> Admitted
     }
 }
 
-// The checks in the order of their refusals, by the last point's time stamp and the number of points.
-pub fn admit(rule: &[u8], event: &[u32], last: Stamp, points: u32) -> Admitted
+// An event's checks in the order of their refusals, by the latest known time stamp and the number of points.
+fn admit(rule: &[u8], event: &[u32], last: Stamp, points: u32) -> Admitted
     requires { ⌜ RuleSizes (now rule) ⌝ }
     ensures { λ r. ⌜ ((rest : Outcome ℕ) → admitted (now (rule .entry)) (now (event .entry)) last points rest ≡ outcomeOf r rest) ⌝ }
 {
@@ -156,4 +164,25 @@ pub fn admit(rule: &[u8], event: &[u32], last: Stamp, points: u32) -> Admitted
         return Admitted::LogFull;
     };
     Admitted::Fine
+}
+
+// A notice's one check.
+fn admit_notice(time: Stamp, last: Stamp) -> Admitted
+    ensures { λ r. ⌜ ((b : List ℕ) (points : ℕ) (rest : Outcome ℕ) → admits b (notice (time .0)) last points rest ≡ outcomeOf r rest) ⌝ }
+{
+    match order_of(time, last) {
+        Order::Kept => Admitted::Fine,
+        Order::Falls => Admitted::TimeFalls,
+    }
+}
+
+// The first checks of what is handed in, by where the log ends.
+pub fn admit_handed(handed: Handed, rule: &[u8], words: &[u32], log: LogEnd) -> Admitted
+    requires { ⌜ RuleSizes (now rule) × HandedWhole handed (now words) ⌝ }
+    ensures { λ r. ⌜ ((rest : Outcome ℕ) → admits (now (rule .entry)) (fedOf handed (now (words .entry))) (log .latest) (log .points) rest ≡ outcomeOf r rest) ⌝ }
+{
+    match handed {
+        Handed::Event => admit(rule, words, log.latest, log.points),
+        Handed::Notice => admit_notice(Stamp(words[0]), log.latest),
+    }
 }

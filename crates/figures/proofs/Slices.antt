@@ -15,6 +15,7 @@ use Rattle.meaning.proofs.Lists.{range-length}
 use Rattle.meaning.proofs.Points.{first, second, Tested, passed, failed, tested}
 use Rattle.meaning.proofs.Accepted.{accepted, nodes-most, last-is-node}
 use Rattle.method.specs.Stored.{Stored}
+use Rattle.meaning.specs.declared.LogEnd.{LogEnd}
 use Rattle.method.specs.Step.{countBefore, openStored}
 use Rattle.method.specs.WellFormed.{mostTimes, wellFormed, Formed}
 use Rattle.method.proofs.Turns.{from-getD}
@@ -42,9 +43,9 @@ pub entries-many : (os ns vs : List ℕ) (n : ℕ) → n ≡ length (entriesFrom
 entries-many os ns vs n = sym (run-many os ns vs 0 n)
 
 -- what is stored in the slices' parts is what is stored at their front
-pub front-parts : (rule : List ℕ) (bytes points : ℕ) (times : List ℕ) (retained : ℕ) (os ns vs : List ℕ) (count : ℕ) → bytes ≤ length rule → retained ≤ length times
-    → storedIn (take (bytes - 0) rule) points (take (retained - 0) times) os ns vs count ≡ storedFront rule bytes points times retained os ns vs count
-front-parts rule bytes points times retained os ns vs count b t = ap₂ (λ r ts. storedIn r points ts os ns vs count) (part bytes rule b) (part retained times t)
+pub front-parts : (rule : List ℕ) (bytes : ℕ) (e : LogEnd) (times : List ℕ) (retained : ℕ) (os ns vs : List ℕ) (count : ℕ) → bytes ≤ length rule → retained ≤ length times
+    → storedIn (take (bytes - 0) rule) e (take (retained - 0) times) os ns vs count ≡ storedFront rule bytes e times retained os ns vs count
+front-parts rule bytes e times retained os ns vs count b t = ap₂ (λ r ts. storedIn r e ts os ns vs count) (part bytes rule b) (part retained times t)
   where
     part : (n : ℕ) (xs : List ℕ) → n ≤ length xs → take (n - 0) xs ≡ front n xs
     part n xs h = let z : n - 0 ≡ n = omega arith in rw z (sym (front-take n xs h))
@@ -64,15 +65,15 @@ unless s h = go (tested (wellFormed s))
     go (passed t) = absurd (h (formed s t))
     go (failed t) = t
 
-pub figures-out : (rule : List ℕ) (bytes points : ℕ) (times : List ℕ) (retained : ℕ) (os ns vs : List ℕ) (count : ℕ) → figuresFit bytes retained count ≡ false → wellFormed (storedFront rule bytes points times retained os ns vs count) ≡ false
-figures-out rule bytes points times retained os ns vs count e =
-    unless (storedFront rule bytes points times retained os ns vs count) (λ f. go f (tested (leb bytes mostBytes)) (tested (leb retained mostTimes)) (tested (leb count mostKept)))
+pub figures-out : (rule : List ℕ) (bytes : ℕ) (e : LogEnd) (times : List ℕ) (retained : ℕ) (os ns vs : List ℕ) (count : ℕ) → figuresFit bytes retained count ≡ false → wellFormed (storedFront rule bytes e times retained os ns vs count) ≡ false
+figures-out rule bytes e times retained os ns vs count out =
+    unless (storedFront rule bytes e times retained os ns vs count) (λ f. go f (tested (leb bytes mostBytes)) (tested (leb retained mostTimes)) (tested (leb count mostKept)))
   where
-    go : Formed (storedFront rule bytes points times retained os ns vs count) → Tested (leb bytes mostBytes) → Tested (leb retained mostTimes) → Tested (leb count mostKept) → ⊥
+    go : Formed (storedFront rule bytes e times retained os ns vs count) → Tested (leb bytes mostBytes) → Tested (leb retained mostTimes) → Tested (leb count mostKept) → ⊥
     go f (failed t) u v = omega (arith, node-sizes f, leb-false bytes mostBytes t, front-length bytes rule)
     go f (passed t) (failed u) v = omega (arith, f .few-times, leb-false retained mostTimes u, front-length retained times)
     go f (passed t) (passed u) (failed v) = omega (arith, f .few-kept, leb-false count mostKept v, entries-many os ns vs count)
-    go f (passed t) (passed u) (passed v) = let z : true ≡ false = rw (t, u, v) at e in let q : _≡_ {A = ℕ} 0 1 = cc in omega arith
+    go f (passed t) (passed u) (passed v) = let z : true ≡ false = rw (t, u, v) at out in let q : _≡_ {A = ℕ} 0 1 = cc in omega arith
 
 pub figures-in : (bytes retained count : ℕ) → figuresFit bytes retained count ≡ true → (bytes ≤ mostBytes) × (retained ≤ mostTimes) × (count ≤ mostKept)
 figures-in bytes retained count e = (leb-true bytes mostBytes (search first), leb-true retained mostTimes (search (first, second)), leb-true count mostKept (search (first, second)))

@@ -7,6 +7,7 @@ use lib.ListN.{length, getD}
 use lib.Seq.{getD-take}
 use Rattle.meaning.specs.RuleFile.{nodeCount, lastNode}
 use Rattle.meaning.proofs.Accepted.{nodes-most}
+use Rattle.meaning.specs.declared.LogEnd.{LogEnd}
 use Rattle.method.specs.Step.{countsStored, countBefore, countAfter}
 use Rattle.method.specs.Room.{othersIn, need}
 use Rattle.method.proofs.Counted.{counts-length}
@@ -16,18 +17,18 @@ use Rattle.figures.specs.Counts.{bare, Counting, Figured}
 use Rattle.figures.specs.Tables.{TableOf, rowsIn, Weighty, CallTable}
 
 -- there is a count for each node
-pub counts-many : {b : List ℕ} {points : ℕ} {times counts : List ℕ} → Counting (bare b points times) counts → length counts ≡ nodeCount b
+pub counts-many : {b : List ℕ} {l : LogEnd} {times counts : List ℕ} → Counting (bare b l times) counts → length counts ≡ nodeCount b
 unfolding countsStored
-counts-many {b} {points} c = ap length (c .counts) ∙ counts-length b _ points _ (nodeCount b)
+counts-many {b} {l} c = ap length (c .counts) ∙ counts-length b _ l _ (nodeCount b)
 
-module _ {b : List ℕ} {points : ℕ} {times counts : List ℕ} (c : Counting (bare b points times) counts) (w : List ℕ) {masks lows begins pairs stamps after wants weights f : List ℕ}
-    (g : Figured (bare b points times) w stamps after wants) (h : (x : ℕ) → x < nodeCount b → getD weights x 0 ≡ othersIn b x) (n : ℕ) (e : n ≡ nodeCount b)
+module _ {b : List ℕ} {l : LogEnd} {times counts : List ℕ} (c : Counting (bare b l times) counts) (w : List ℕ) {masks lows begins pairs stamps after wants weights f : List ℕ}
+    (g : Figured (bare b l times) w stamps after wants) (h : (x : ℕ) → x < nodeCount b → getD weights x 0 ≡ othersIn b x) (n : ℕ) (e : n ≡ nodeCount b)
     (t : TableOf n masks lows counts after wants begins pairs weights f) where
-  after-is : (x : ℕ) → x < nodeCount b → afterIn f x ≡ countAfter (bare b points times) w x
+  after-is : (x : ℕ) → x < nodeCount b → afterIn f x ≡ countAfter (bare b l times) w x
   unfolding countAfter
   after-is x o = t .after-call x (omega arith) ∙ sym (getD-take (nodeCount b) after x 0 o) ∙ ap (λ cs. getD cs x 0) (g .counts-now)
 
-  before-is : (x : ℕ) → x < nodeCount b → beforeIn f x ≡ countBefore (bare b points times) x
+  before-is : (x : ℕ) → x < nodeCount b → beforeIn f x ≡ countBefore (bare b l times) x
   unfolding countBefore
   before-is x o = t .before-call x (omega arith) ∙ ap (λ cs. getD cs x 0) (c .counts)
 
@@ -40,10 +41,10 @@ module _ {b : List ℕ} {points : ℕ} {times counts : List ℕ} (c : Counting (
       record {
         there = omega (arith, nodes-most b a ok);
         weight = weight-is;
-        few = λ x o. omega (arith, few x o, t .pair x (omega arith), t .begin x (omega arith), after-is x o, before-is x o, new-few (bare b points times) a ok (c .few-times) (c .times-many) w x o);
+        few = λ x o. omega (arith, few x o, t .pair x (omega arith), t .begin x (omega arith), after-is x o, before-is x o, new-few (bare b l times) a ok (c .few-times) (c .times-many) w x o);
       }
 
-  pub tabled : {needed : ℕ} → needed ≡ need b (rowsIn f) (lastNode b) → CallTable (bare b points times) w masks counts lows begins pairs stamps after f needed
+  pub tabled : {needed : ℕ} → needed ≡ need b (rowsIn f) (lastNode b) → CallTable (bare b l times) w masks counts lows begins pairs stamps after f needed
   tabled r =
       record {
         stamps-now = g .times-now;

@@ -6,6 +6,7 @@ use lib.ListN.{getD}
 use lib.Dec.{leb}
 use Rattle.meaning.specs.Lists.{range}
 use Rattle.meaning.specs.Outcome.{Outcome, refused, given, notWellFormed, mostBytes, mostKept}
+use Rattle.meaning.specs.declared.LogEnd.{LogEnd}
 use Rattle.method.specs.Stored.{Stored}
 use Rattle.method.specs.Step.{openStored}
 use Rattle.method.specs.WellFormed.{wellFormed, mostTimes}
@@ -17,8 +18,8 @@ use Rattle.figures.specs.declared.Open.the-variants.{Points, NotWellForm
 abbrev pub front : ℕ → List ℕ → List ℕ
 front n xs = map (λ k. getD xs k 0) (range 0 n)
 
-abbrev pub storedFront : List ℕ → ℕ → ℕ → List ℕ → ℕ → List ℕ → List ℕ → List ℕ → ℕ → Stored
-storedFront rule bytes points times retained os ns vs count = storedIn (front bytes rule) points (front retained times) os ns vs count
+abbrev pub storedFront : List ℕ → ℕ → LogEnd → List ℕ → ℕ → List ℕ → List ℕ → List ℕ → ℕ → Stored
+storedFront rule bytes e times retained os ns vs count = storedIn (front bytes rule) e (front retained times) os ns vs count
 
 -- whether the figures of a state are within its arrays
 abbrev pub figuresFit : ℕ → ℕ → ℕ → Bool

@@ -32,7 +32,7 @@ pub record Weighty (b f : List ℕ) : Type 0 where
   pub weight : (x : ℕ) → x < nodeCount b → weightIn f x ≡ othersIn b x
   pub few : (x : ℕ) → x < nodeCount b → rowsIn f x ≤ 4096
 
--- the figures of a call with event w, whose retained times are those of s: the stamps with the event's behind them, how many points each node has then settled, the table of all figures, and how many rows the call needs
+-- the figures of a call with the words w, whose retained times are those of s: the stamps with that of what is fed behind them, how many points each node has then settled, the table of all figures, and how many rows the call needs
 pub record CallTable (s : Stored) (w masks counts lows begins pairs stamps after f : List ℕ) (needed : ℕ) : Type 0 where
   pub stamps-now : take (length (s .times) + 1) stamps ≡ s .times ++ getD w 0 0 ∷ []
   pub counts-now : take (nodeCount (s .rule)) after ≡ countsAfter s w

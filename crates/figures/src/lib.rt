@@ -1,5 +1,6 @@
 // The figures of a call and of a state: how many points each node has settled and from which on its rows are kept, where its entries stand, as a table; the rows that the call needs; what is retained; and how many points are open.
 use meaning::Children;
+use meaning::LogEnd;
 use meaning::MOST_KEPT;
 use meaning::MOST_NODES;
 use meaning::MOST_ROWS;
@@ -69,10 +70,10 @@ fn put_times(times: &[u32], time: Stamp, out: &mut [u32])
     out[n] = time.0;
 }
 
-// The figures of a call with the event, from how many points each node has settled before it.
+// The figures of a call with the words of what is fed, from how many points each node has settled before it.
 pub fn figures(
     rule: &[u8],
-    points: u32,
+    log: LogEnd,
     times: &[u32],
     before: &[u32],
     event: &[u32],
@@ -80,14 +81,19 @@ pub fn figures(
     after: &mut [u32],
     wants: &mut [u32],
 )
-    requires { ⌜ Counting (bare (now rule) points (now times)) (now before) ⌝ }
+    requires { ⌜ Counting (bare (now rule) log (now times)) (now before) ⌝ }
     requires { ⌜ (0 < length (now event)) × (timeWords ≤ length (now stamps)) × (mostNodes ≤ length (now after)) × (mostNodes ≤ length (now wants)) ⌝ }
-    ensures { λ _. ⌜ Figured (bare (now (rule .entry)) points (now (times .entry))) (now (event .entry)) (now (stamps .exit)) (now (after .exit)) (now (wants .exit)) ⌝ }
+    ensures { λ _. ⌜ Figured (bare (now (rule .entry)) log (now (times .entry))) (now (event .entry)) (now (stamps .exit)) (now (after .exit)) (now (wants .exit)) ⌝ }
 {
     let k = times.len();
-    put_times(times, Stamp(event[0]), stamps);
-    let base = Point(progress::less(points, k as u32));
-    progress::counts(rule, &stamps[0..k + 1], base, points + 1, before, after);
+    let time = Stamp(event[0]);
+    put_times(times, time, stamps);
+    let base = Point(progress::less(log.points, k as u32));
+    let end = LogEnd {
+        points: log.points + progress::points_added(event),
+        latest: time,
+    };
+    progress::counts(rule, &stamps[0..k + 1], base, end, before, after);
     let n = node_total(rule);
     wanted::wanted(rule, &after[0..n], wants);
 }
@@ -105,21 +111,10 @@ pub fn retain(after: &[u32], points: u32, stamps: &[u32], times: &mut [u32]) -> 
     (k - from) as u32
 }
 
-// The last of the times, 0 where there is none.
-pub fn latest(times: &[u32]) -> Stamp
-    ensures { λ r. ⌜ r ≡ stamp (getD (now (times .entry)) (length (now (times .entry)) - 1) 0) ⌝ }
-{
-    let n = times.len();
-    if 0 < n {
-        return Stamp(times[n - 1]);
-    }
-    Stamp(0)
-}
-
 // The figure `open` of what is stored in the slices.
 fn open_stored(
     rule: &[u8],
-    points: u32,
+    log: LogEnd,
     times: &[u32],
     owners: &[u32],
     numbers: &[u32],
@@ -127,7 +122,7 @@ fn open_stored(
     count: usize,
 ) -> Open
     requires { ⌜ EntriesWithin (now owners) (now numbers) (now values) count ⌝ }
-    ensures { λ r. ⌜ openOf r ≡ openAnswer (storedIn (now (rule .entry)) points (now (times .entry)) (now (owners .entry)) (now (numbers .entry)) (now (values .entry)) count) ⌝ }
+    ensures { λ r. ⌜ openOf r ≡ openAnswer (storedIn (now (rule .entry)) log (now (times .entry)) (now (owners .entry)) (now (numbers .entry)) (now (values .entry)) count) ⌝ }
 {
     let mut masks = [0u8; MOST_NODES];
     let mut counts = [0u32; MOST_NODES];
@@ -136,7 +131,7 @@ fn open_stored(
     let mut pairs = [0u32; MOST_NODES];
     if !formed::well_formed(
         rule,
-        points,
+        log,
         times,
         owners,
         numbers,
@@ -151,7 +146,7 @@ fn open_stored(
         return Open::NotWellFormed;
     }
     let last = (rule[2] - 1) as usize;
-    Open::Points(points - counts[last])
+    Open::Points(log.points - counts[last])
 }
 
 // Whether the figures of a state are within its arrays.
@@ -171,7 +166,7 @@ pub fn figures_fit(bytes: u32, retained: u32, count: u32) -> bool
 pub fn open_points<'a>(
     rule: &'a [u8],
     bytes: u32,
-    points: u32,
+    log: LogEnd,
     times: &'a [u32],
     retained: u32,
     owners: &'a [u32],
@@ -180,7 +175,7 @@ pub fn open_points<'a>(
     count: u32,
 ) -> Open
     requires { ⌜ (length (now rule) ≡ mostBytes) × (mostTimes ≤ length (now times)) × EntriesWithin (now owners) (now numbers) (now values) mostKept ⌝ }
-    ensures { λ r. ⌜ openOf r ≡ openAnswer (storedFront (now (rule .entry)) bytes points (now (times .entry)) retained (now (owners .entry)) (now (numbers .entry)) (now (values .entry)) count) ⌝ }
+    ensures { λ r. ⌜ openOf r ≡ openAnswer (storedFront (now (rule .entry)) bytes log (now (times .entry)) retained (now (owners .entry)) (now (numbers .entry)) (now (values .entry)) count) ⌝ }
 {
     if !figures_fit(bytes, retained, count) {
         return Open::NotWellFormed;
@@ -189,7 +184,7 @@ pub fn open_points<'a>(
     let k = retained as usize;
     open_stored(
         &rule[0..n],
-        points,
+        log,
         &times[0..k],
         owners,
         numbers,
@@ -397,10 +392,10 @@ pub fn rows_needed(rule: &[u8], table: &[u32]) -> u32
     needs[last]
 }
 
-// The figures of a call with the event, from how many points each node has settled before it, and how many rows it needs: `counts` has a word for each node.
+// The figures of a call with the words of what is fed, from how many points each node has settled before it, and how many rows it needs: `counts` has a word for each node.
 pub fn call_table(
     rule: &[u8],
-    points: u32,
+    log: LogEnd,
     times: &[u32],
     event: &[u32],
     masks: &[u8],
@@ -412,23 +407,14 @@ pub fn call_table(
     after: &mut [u32],
     table: &mut [u32],
 ) -> u32
-    requires { ⌜ Counting (bare (now rule) points (now times)) (now counts) ⌝ }
+    requires { ⌜ Counting (bare (now rule) log (now times)) (now counts) ⌝ }
     requires { ⌜ (0 < length (now event)) × (mostNodes ≤ length (now masks)) × (mostNodes ≤ length (now lows)) × (mostNodes + 1 ≤ length (now begins)) × (mostNodes ≤ length (now pairs)) × (timeWords ≤ length (now stamps)) × (mostNodes ≤ length (now after)) × (mostNodes * nodeWords ≤ length (now table)) ⌝ }
     requires { ⌜ ((x : ℕ) → x < nodeCount (now rule) → getD (now pairs) x 0 - getD (now begins) x 0 ≤ mostKept) ⌝ }
-    ensures { λ r. ⌜ CallTable (bare (now (rule .entry)) points (now (times .entry))) (now (event .entry)) (now (masks .entry)) (now (counts .entry)) (now (lows .entry)) (now (begins .entry)) (now (pairs .entry)) (now (stamps .exit)) (now (after .exit)) (now (table .exit)) r ⌝ }
+    ensures { λ r. ⌜ CallTable (bare (now (rule .entry)) log (now (times .entry))) (now (event .entry)) (now (masks .entry)) (now (counts .entry)) (now (lows .entry)) (now (begins .entry)) (now (pairs .entry)) (now (stamps .exit)) (now (after .exit)) (now (table .exit)) r ⌝ }
 {
     let mut wants = [0u32; MOST_NODES];
     let mut heavy = [0u32; MOST_NODES];
-    figures(
-        rule,
-        points,
-        times,
-        counts,
-        event,
-        stamps,
-        after,
-        &mut wants,
-    );
+    figures(rule, log, times, counts, event, stamps, after, &mut wants);
     weights(rule, &mut heavy);
     let n = node_total(rule);
     fill_table(

@@ -2,16 +2,18 @@
 use Prim.Native.Nat.{ℕ, zero, suc, _+_, _-_, _≤_, _<_, min}
 use native.Mathlib.Omega.{arith}
 use mathlib.Core.Path.{_≡_, refl, sym, ap, ap₂, _∙_}
-use mathlib.Core.Bool.{true, false}
+use mathlib.Core.Bool.{Bool, true, false, _&&_}
 use mathlib.Core.List.{List, [], _∷_, _++_}
 use lib.ListN.{length, getD, drop, replicate, length-drop, getD-replicate}
 use lib.Seq.{drop-length, drop-cons}
+use lib.Dec.{leb}
 use borrow.Author.Tests.{le-leb, lt-leb}
 use Rattle.meaning.specs.Log.{point}
 use Rattle.meaning.specs.View.{viewOf}
 use Rattle.meaning.specs.RuleFile.{nodeCount, nodeAt}
 use Rattle.meaning.specs.declared.Point.{Point}
 use Rattle.meaning.specs.declared.Stamp.{Stamp}
+use Rattle.meaning.specs.declared.LogEnd.{LogEnd}
 use Rattle.method.specs.Stored.{stampIn, leastOf}
 use Rattle.method.specs.Counts.{advance, countsTo}
 use Rattle.method.specs.WellFormed.{notFalling}
@@ -69,9 +71,25 @@ module _ {times : List ℕ} {i : ℕ} (h : Rising times i) where
   pub rising-all : length times ≤ i → true ≡ notFalling times
   rising-all l = sym (h .same ∙ few-rise (drop (i - 1) times) (omega (arith, length-drop (i - 1) times, h .begun)))
 
+-- one time more, which is behind the last
+pub behind-last : (ts : List ℕ) (t : ℕ) → notFalling (ts ++ t ∷ []) ≡ (notFalling ts && leb (getD ts (length ts - 1) 0) t)
+behind-last [] t = sym (le-leb 0 t (omega arith))
+behind-last (u ∷ []) t = go (leb u t)
+  where
+    go : (b : Bool) → (b && true) ≡ b
+    go true = refl
+    go false = refl
+behind-last (u ∷ v ∷ ts) t =
+    let z : length (u ∷ v ∷ ts) - 1 ≡ suc (length (v ∷ ts) - 1) = omega arith in
+    ap (λ b. leb u v && b) (behind-last (v ∷ ts) t) ∙ grouped (leb u v) (notFalling (v ∷ ts)) _ ∙ ap (λ k. (leb u v && notFalling (v ∷ ts)) && leb (getD (u ∷ v ∷ ts) k 0) t) (sym z)
+  where
+    grouped : (a b c : Bool) → (a && (b && c)) ≡ ((a && b) && c)
+    grouped true b c = refl
+    grouped false b c = refl
+
 -- ---- counts from one number for all
 
-counts-same : (b : List ℕ) (τ : Point → Stamp) (n : ℕ) (f g : ℕ → ℕ) (k : ℕ) → ((x : ℕ) → x < k → f x ≡ g x) → countsTo b τ n f k ≡ countsTo b τ n g k
+counts-same : (b : List ℕ) (τ : Point → Stamp) (n : LogEnd) (f g : ℕ → ℕ) (k : ℕ) → ((x : ℕ) → x < k → f x ≡ g x) → countsTo b τ n f k ≡ countsTo b τ n g k
 counts-same b τ n f g zero h = refl
 counts-same b τ n f g (suc k) h =
     ap₂ (λ cs v. cs ++ advance τ n (λ y. getD cs y 0) v (viewOf (nodeAt b k)) ∷ []) (counts-same b τ n f g k (λ x l. h x (omega arith))) (h k (omega arith))
@@ -81,12 +99,12 @@ all-most zero v y = omega arith
 all-most (suc n) v zero = omega arith
 all-most (suc n) v (suc y) = all-most n v y
 
-pub counted : (b : List ℕ) (points : ℕ) (times : List ℕ) {base : Point} {before counts : List ℕ} → nodeCount b ≤ 32 → base .0 ≡ points - length times
-    → Filled b (stampIn base times) points (replicate 32 (base .0)) before counts → CountsStand b points times counts
+pub counted : (b : List ℕ) (l : LogEnd) (times : List ℕ) {base : Point} {before counts : List ℕ} → nodeCount b ≤ 32 → base .0 ≡ l .points - length times
+    → Filled b (stampIn base times) l (replicate 32 (base .0)) before counts → CountsStand b l times counts
 unfolding countsIn
-counted b points times {base} few e f =
+counted b l times {base} few e f =
     record {
-      exact = f .exact ∙ counts-same b (stampIn base times) points (λ x. getD (replicate 32 (base .0)) x 0) (λ x. base .0) (nodeCount b) (λ x l. getD-replicate 32 x (base .0) 0 (omega arith))
-          ∙ ap (λ k. countsTo b (stampIn (point k) times) points (λ x. k) (nodeCount b)) e;
+      exact = f .exact ∙ counts-same b (stampIn base times) l (λ x. getD (replicate 32 (base .0)) x 0) (λ x. base .0) (nodeCount b) (λ x o. getD-replicate 32 x (base .0) 0 (omega arith))
+          ∙ ap (λ k. countsTo b (stampIn (point k) times) l (λ x. k) (nodeCount b)) e;
       bounded = f .bounded (λ y. omega (arith, all-most 32 (base .0) y));
     }

@@ -3,7 +3,7 @@ use Prim.Native.Nat.{ℕ, zero, suc, _+_, _-_, _≤_, _<_}
 use native.Mathlib.Omega.{arith}
 use mathlib.Core.Path.{_≡_, refl, sym, subst, ap, ap₂, _∙_}
 use mathlib.Core.Bool.{Bool, true, false, _&&_}
-use mathlib.Core.List.{List, _++_}
+use mathlib.Core.List.{List, [], _∷_, _++_}
 use lib.ListN.{length, getD, take, length-map, length-take}
 use lib.Seq.{getD-take}
 use lib.Dec.{leb, eqb}
@@ -16,6 +16,7 @@ use Rattle.meaning.specs.View.{viewOf}
 use Rattle.meaning.specs.RuleFile.{checking, nodeCount, nodeAt, formulaAt, lastNode, isAccepted}
 use Rattle.meaning.specs.Kept.{Entry}
 use Rattle.meaning.specs.declared.Point.{Point}
+use Rattle.meaning.specs.declared.LogEnd.{LogEnd}
 use Rattle.meaning.proofs.Lists.{range-length}
 use Rattle.method.specs.Stored.{Stored, held, heldPairs, firstRetained}
 use Rattle.method.specs.Step.{wantedFrom, countsStored, countBefore, openStored}
@@ -42,40 +43,40 @@ masks-of b masks h x o = record { each = λ v l. ap (λ m. inMask m v) (h x o) �
 -- ---- times
 
 -- the counts, as a part of a slice has them
-module _ {b : List ℕ} {points : ℕ} {times counts : List ℕ} (c : CountsStand b points times counts) where
-  part-exact : take (nodeCount b - 0) counts ≡ countsIn b points times
-  part-exact = let e : nodeCount b - 0 ≡ nodeCount b = omega arith in rw e (c .exact)
+module _ {b : List ℕ} {e : LogEnd} {times counts : List ℕ} (c : CountsStand b e times counts) where
+  part-exact : take (nodeCount b - 0) counts ≡ countsIn b e times
+  part-exact = let z : nodeCount b - 0 ≡ nodeCount b = omega arith in rw z (c .exact)
 
   -- the points that the last node has not settled
-  pub part-open : 0 < nodeCount b → points - getD counts (nodeCount b - 1) 0 ≡ points - getD (countsIn b points times) (lastNode b) 0
-  part-open h = ap (λ n. points - n) (sym (getD-take (nodeCount b) counts (lastNode b) 0 (omega arith)) ∙ ap (λ cs. getD cs (lastNode b) 0) (c .exact))
+  pub part-open : 0 < nodeCount b → e .points - getD counts (nodeCount b - 1) 0 ≡ e .points - getD (countsIn b e times) (lastNode b) 0
+  part-open h = ap (λ n. e .points - n) (sym (getD-take (nodeCount b) counts (lastNode b) 0 (omega arith)) ∙ ap (λ cs. getD cs (lastNode b) 0) (c .exact))
 
-  pub part-within : points ≤ mostPoints → Within mostPoints (take (nodeCount b - 0) counts)
-  part-within l y = let e : nodeCount b - 0 ≡ nodeCount b = omega arith in rw e (omega (arith, c .bounded y))
+  pub part-within : e .points ≤ mostPoints → Within mostPoints (take (nodeCount b - 0) counts)
+  part-within l y = let z : nodeCount b - 0 ≡ nodeCount b = omega arith in rw z (omega (arith, c .bounded y))
 
   pub part-long : nodeCount b ≤ length counts → nodeCount b ≤ length (take (nodeCount b - 0) counts)
   part-long l = rw (length-take (nodeCount b - 0) counts) (omega arith)
 
-module _ (b : List ℕ) (points : ℕ) (times : List ℕ) where
-  pub points-many : mostPoints < points → false ≡ timesFit b points times
+module _ (b : List ℕ) (e : LogEnd) (times : List ℕ) where
+  pub points-many : mostPoints < e .points → false ≡ timesFit b e times
   unfolding timesFit
-  points-many l = rw (lt-leb points mostPoints l)
+  points-many l = rw (lt-leb (e .points) mostPoints l)
 
-  pub times-many : points ≤ mostPoints → mostTimes < length times → false ≡ timesFit b points times
+  pub times-many : e .points ≤ mostPoints → mostTimes < length times → false ≡ timesFit b e times
   unfolding timesFit
-  times-many m l = rw (le-leb points mostPoints m, lt-leb (length times) mostTimes l)
+  times-many m l = rw (le-leb (e .points) mostPoints m, lt-leb (length times) mostTimes l)
 
   abbrev unsettled : ℕ
-  unsettled = points - getD (countsIn b points times) (lastNode b) 0
+  unsettled = e .points - getD (countsIn b e times) (lastNode b) 0
 
-  pub open-many : points ≤ mostPoints → length times ≤ mostTimes → mostOpen < unsettled → false ≡ timesFit b points times
+  pub open-many : e .points ≤ mostPoints → length times ≤ mostTimes → mostOpen < unsettled → false ≡ timesFit b e times
   unfolding timesFit
-  open-many m l o = rw (le-leb points mostPoints m, le-leb (length times) mostTimes l, lt-leb unsettled mostOpen o)
+  open-many m l o = rw (le-leb (e .points) mostPoints m, le-leb (length times) mostTimes l, lt-leb unsettled mostOpen o)
 
-  pub times-tested : points ≤ mostPoints → length times ≤ mostTimes → unsettled ≤ mostOpen → {counts : List ℕ} → CountsStand b points times counts
-      → (eqb (length times) (points - firstRetained points (take (nodeCount b - 0) counts) .0) && notFalling times) ≡ timesFit b points times
+  pub times-tested : e .points ≤ mostPoints → length times ≤ mostTimes → unsettled ≤ mostOpen → {counts : List ℕ} → CountsStand b e times counts
+      → (eqb (length times) (e .points - firstRetained (e .points) (take (nodeCount b - 0) counts) .0) && notFalling (times ++ e .latest .0 ∷ [])) ≡ timesFit b e times
   unfolding timesFit
-  times-tested m l o c = rw (le-leb points mostPoints m, le-leb (length times) mostTimes l, le-leb unsettled mostOpen o) (ap (λ cs. eqb (length times) (points - firstRetained points cs .0) && notFalling times) (part-exact c))
+  times-tested m l o c = rw (le-leb (e .points) mostPoints m, le-leb (length times) mostTimes l, le-leb unsettled mostOpen o) (ap (λ cs. eqb (length times) (e .points - firstRetained (e .points) cs .0) && notFalling (times ++ e .latest .0 ∷ [])) (part-exact c))
 
 -- ---- entries
 
@@ -114,32 +115,32 @@ regroup true true true true true false g h i = refl
 regroup true true true true true true false h i = refl
 regroup true true true true true true true h i = refl
 
-module _ (b : List ℕ) (points : ℕ) (times os ns vs : List ℕ) (count : ℕ) where
+module _ (b : List ℕ) (e : LogEnd) (times os ns vs : List ℕ) (count : ℕ) where
   abbrev s : Stored
-  s = storedIn b points times os ns vs count
+  s = storedIn b e times os ns vs count
 
   entries-long : length (entriesFrom os ns vs 0 count) ≡ count
   unfolding entriesFrom
   entries-long = length-map (range 0 count) (entryAt os ns vs) ∙ range-length 0 count
 
-  well-is : wellFormed s ≡ (isAccepted (checking b) && (timesFit b points times && keptFit b (countsIn b points times) (entriesFrom os ns vs 0 count) count))
+  well-is : wellFormed s ≡ (isAccepted (checking b) && (timesFit b e times && keptFit b (countsIn b e times) (entriesFrom os ns vs 0 count) count))
   unfolding wellFormed ownEntries nodeFits timesFit keptFit countsIn entriesFit ownRuns ownFit countsStored countBefore openStored
   well-is =
-      regroup (isAccepted (checking b)) (leb points mostPoints) (leb (length times) mostTimes) (leb (openStored s) mostOpen) (eqb (length times) (points - firstRetained points (countsStored s) .0)) (notFalling times) (leb (length (s .entries)) mostKept)
+      regroup (isAccepted (checking b)) (leb (e .points) mostPoints) (leb (length times) mostTimes) (leb (openStored s) mostOpen) (eqb (length times) (e .points - firstRetained (e .points) (countsStored s) .0)) (notFalling (times ++ e .latest .0 ∷ [])) (leb (length (s .entries)) mostKept)
       (sameEntries (s .entries) (gather (ownEntries s) (range 0 (nodeCount b)))) (all (nodeFits s) (range 0 (nodeCount b)))
-      ∙ ap (λ n. isAccepted (checking b) && (timesFit b points times && (leb n mostKept && (sameEntries (s .entries) (gather (ownEntries s) (range 0 (nodeCount b))) && all (nodeFits s) (range 0 (nodeCount b)))))) entries-long
+      ∙ ap (λ n. isAccepted (checking b) && (timesFit b e times && (leb n mostKept && (sameEntries (s .entries) (gather (ownEntries s) (range 0 (nodeCount b))) && all (nodeFits s) (range 0 (nodeCount b)))))) entries-long
 
   pub well-refused : isAccepted (checking b) ≡ false → false ≡ wellFormed s
   well-refused t = sym (well-is ∙ rw t)
 
   module _ (ok : isAccepted (checking b) ≡ true) where
-    pub well-times : timesFit b points times ≡ false → false ≡ wellFormed s
+    pub well-times : timesFit b e times ≡ false → false ≡ wellFormed s
     well-times t = sym (well-is ∙ rw (ok, t))
 
-    pub well-kept : timesFit b points times ≡ true → {counts : List ℕ} → CountsStand b points times counts → keptFit b (take (nodeCount b - 0) counts) (entriesFrom os ns vs 0 count) count ≡ wellFormed s
+    pub well-kept : timesFit b e times ≡ true → {counts : List ℕ} → CountsStand b e times counts → keptFit b (take (nodeCount b - 0) counts) (entriesFrom os ns vs 0 count) count ≡ wellFormed s
     well-kept t c = ap (λ cs. keptFit b cs (entriesFrom os ns vs 0 count) count) (part-exact c) ∙ sym (well-is ∙ rw (ok, t))
 
-  pub known : (masks counts lows : List ℕ) → ((x : ℕ) → x < nodeCount b → MaskOf b x (getD masks x 0)) → CountsStand b points times counts
+  pub known : (masks counts lows : List ℕ) → ((x : ℕ) → x < nodeCount b → MaskOf b x (getD masks x 0)) → CountsStand b e times counts
       → ((x : ℕ) → x < nodeCount b → getD lows x 0 ≡ wantedFrom b (λ y. getD (take (nodeCount b - 0) counts) y 0) x .0) → StateFigures s masks counts lows
   unfolding countsIn countsStored countBefore
   known masks counts lows m c l =
@@ -149,7 +150,7 @@ module _ (b : List ℕ) (points : ℕ) (times os ns vs : List ℕ) (count : ℕ)
         lows-wanted = λ x o. l x o ∙ ap (λ cs. wantedFrom b (λ y. getD cs y 0) x .0) (part-exact c);
       }
 
-  pub places : (counts begins pairs : List ℕ) → CountsStand b points times counts
+  pub places : (counts begins pairs : List ℕ) → CountsStand b e times counts
       → EntriesPlaced os ns vs count (wantedFrom b (λ y. getD (take (nodeCount b - 0) counts) y 0)) (λ y. getD (take (nodeCount b - 0) counts) y 0) (nodeCount b) begins pairs → EntryPlaces s os ns vs count begins pairs
   unfolding countsIn countsStored countBefore
   places counts begins pairs c p =

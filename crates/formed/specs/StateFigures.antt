@@ -5,14 +5,15 @@ use mathlib.Core.List.{List}
 use lib.ListN.{getD, take}
 use Rattle.meaning.specs.Formula.{free}
 use Rattle.meaning.specs.RuleFile.{nodeCount, formulaAt}
+use Rattle.meaning.specs.declared.LogEnd.{LogEnd}
 use Rattle.method.specs.Stored.{Stored, held, heldPairs}
 use Rattle.method.specs.Step.{wantedFrom, countsStored, countBefore}
 use Rattle.kinds.specs.Kinds.{inMask}
 use Rattle.entries.specs.Entries.{entriesFrom}
 use Rattle.node_sets.specs.NodeEntries.{setEntries, agedEntries}
 
-abbrev pub storedIn : List ℕ → ℕ → List ℕ → List ℕ → List ℕ → List ℕ → ℕ → Stored
-storedIn b points times os ns vs count = record { rule = b; points = points; times = times; entries = entriesFrom os ns vs 0 count }
+abbrev pub storedIn : List ℕ → LogEnd → List ℕ → List ℕ → List ℕ → List ℕ → ℕ → Stored
+storedIn b e times os ns vs count = record { rule = b; points = e .points; latest = e .latest; times = times; entries = entriesFrom os ns vs 0 count }
 
 -- for each node the mask of its free variables, how many points it has settled, and from which point on its rows are kept
 pub record StateFigures (s : Stored) (masks counts lows : List ℕ) : Type 0 where

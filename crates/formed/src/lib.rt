@@ -1,4 +1,5 @@
 // Whether what is stored is well formed.
+use meaning::LogEnd;
 use meaning::MOST_KEPT;
 use meaning::MOST_NODES;
 use meaning::MOST_OPEN;
@@ -6,11 +7,13 @@ use meaning::MOST_POINTS;
 use meaning::MOST_ROWS;
 use meaning::MOST_TIMES;
 use meaning::Point;
+use meaning::Stamp;
 use meaning::Times;
 use meaning::Window;
 use rowset::Row;
 ghost use mathlib.Core.Path.{_≡_};
 ghost use mathlib.Core.Bool.{true, _&&_, _||_};
+ghost use mathlib.Core.List.{[], _∷_, _++_};
 ghost use Prim.Native.Nat.{ℕ, _+_, _-_, _*_, _≤_, _<_};
 ghost use lib.ListN.{length, getD, drop};
 ghost use lib.Dec.{leb, eqb};
@@ -348,46 +351,67 @@ fn not_falling(times: &[u32]) -> bool
     true
 }
 
-// As many times are retained as the counts of settled points ask, and they don't fall.
-fn times_asked(points: u32, times: &[u32], counts: &[u32]) -> bool
-    requires { ⌜ length (now times) ≤ mostTimes ⌝ }
-    ensures { λ r. ⌜ r ≡ (eqb (length (now (times .entry))) (points - firstRetained points (now (counts .entry)) .0) && notFalling (now (times .entry))) ⌝ }
+// The last of the times, 0 where there is none.
+fn last_time(times: &[u32]) -> u32
+    ensures { λ r. ⌜ r ≡ getD (now (times .entry)) (length (now (times .entry)) - 1) 0 ⌝ }
 {
-    let first = first_retained(points, counts);
-    if times.len() as u32 == progress::less(points, first.0) {
-        return not_falling(times);
+    let n = times.len();
+    if 0 < n {
+        return times[n - 1];
+    }
+    0
+}
+
+// The times don't fall, and the latest known time isn't below the last of them.
+fn latest_last(times: &[u32], latest: Stamp) -> bool
+    ensures { λ r. ⌜ r ≡ notFalling (now (times .entry) ++ latest .0 ∷ []) ⌝ }
+{
+    if not_falling(times) {
+        return last_time(times) <= latest.0;
+    }
+    false
+}
+
+// As many times are retained as the counts of settled points ask, and they don't fall, nor does the latest known time.
+fn times_asked(log: LogEnd, times: &[u32], counts: &[u32]) -> bool
+    requires { ⌜ length (now times) ≤ mostTimes ⌝ }
+    ensures { λ r. ⌜ r ≡ (eqb (length (now (times .entry))) (log .points - firstRetained (log .points) (now (counts .entry)) .0) && notFalling (now (times .entry) ++ log .latest .0 ∷ [])) ⌝ }
+{
+    let first = first_retained(log.points, counts);
+    if times.len() as u32 == progress::less(log.points, first.0) {
+        return latest_last(times, log.latest);
     }
     false
 }
 
 // How many points each node has settled.
-fn count_points(rule: &[u8], points: u32, times: &[u32], counts: &mut [u32])
+fn count_points(rule: &[u8], log: LogEnd, times: &[u32], counts: &mut [u32])
     requires { ⌜ (length (now rule) ≡ 12 + 20 * nodeCount (now rule)) × (nodeCount (now rule) ≤ 32) × (32 ≤ length (now counts)) × (length (now times) ≤ mostTimes) ⌝ }
-    ensures { λ _. ⌜ CountsStand (now (rule .entry)) points (now (times .entry)) (now (counts .exit)) ⌝ }
+    ensures { λ _. ⌜ CountsStand (now (rule .entry)) log (now (times .entry)) (now (counts .exit)) ⌝ }
 {
-    let base = Point(progress::less(points, times.len() as u32));
+    let base = Point(progress::less(log.points, times.len() as u32));
     let from = [base.0; MOST_NODES];
-    progress::counts(rule, times, base, points, &from, counts);
+    progress::counts(rule, times, base, log, &from, counts);
 }
 
-// The part of the test that goes by times: few points and times, few points that the last node has not settled, as many times as the counts ask, and none that falls.
-fn times_fit(rule: &[u8], points: u32, times: &[u32], counts: &mut [u32]) -> bool
+// The part of the test that goes by times: few points and times, few points that the last node has not settled, as many times as the counts ask, and none that falls, nor the latest known time.
+fn times_fit(rule: &[u8], log: LogEnd, times: &[u32], counts: &mut [u32]) -> bool
     requires { ⌜ (length (now rule) ≡ 12 + 20 * nodeCount (now rule)) × (0 < nodeCount (now rule)) × (nodeCount (now rule) ≤ 32) × (32 ≤ length (now counts)) ⌝ }
-    ensures answer { λ r. ⌜ r ≡ timesFit (now (rule .entry)) points (now (times .entry)) ⌝ }
-    ensures counted { λ r. ⌜ (r ≡ true → (points ≤ mostPoints) × CountsStand (now (rule .entry)) points (now (times .entry)) (now (counts .exit))) ⌝ }
+    ensures answer { λ r. ⌜ r ≡ timesFit (now (rule .entry)) log (now (times .entry)) ⌝ }
+    ensures counted { λ r. ⌜ (r ≡ true → (log .points ≤ mostPoints) × CountsStand (now (rule .entry)) log (now (times .entry)) (now (counts .exit))) ⌝ }
 {
-    if MOST_POINTS < points {
+    if MOST_POINTS < log.points {
         return false;
     }
     if MOST_TIMES < times.len() {
         return false;
     }
-    count_points(rule, points, times, counts);
+    count_points(rule, log, times, counts);
     let n = rule[2] as usize;
-    if MOST_OPEN < progress::less(points, counts[n - 1]) {
+    if MOST_OPEN < progress::less(log.points, counts[n - 1]) {
         return false;
     }
-    times_asked(points, times, &counts[0..n])
+    times_asked(log, times, &counts[0..n])
 }
 
 // The part of the test that goes by entries: few of them, and those of the nodes, where each has settled as many points as counts says.
@@ -441,7 +465,7 @@ fn accepts(rule: &[u8], masks: &mut [u8]) -> bool
 // Whether what is stored is well formed. Where it is, the lent words hold for each node the mask of its free variables, how many points it has settled, from which point on its rows are kept, and where its entries begin, and its pairs among them; behind the last node's begin, where its entries end.
 pub fn well_formed(
     rule: &[u8],
-    points: u32,
+    log: LogEnd,
     times: &[u32],
     owners: &[u32],
     numbers: &[u32],
@@ -456,14 +480,14 @@ pub fn well_formed(
     requires { ⌜ EntriesWithin (now owners) (now numbers) (now values) count ⌝ }
     requires { ⌜ (32 ≤ length (now masks)) × (32 ≤ length (now counts)) × (32 ≤ length (now lows)) ⌝ }
     requires { ⌜ (33 ≤ length (now begins)) × (32 ≤ length (now pairs)) ⌝ }
-    ensures answer { λ r. ⌜ r ≡ wellFormed (storedIn (now (rule .entry)) points (now (times .entry)) (now (owners .entry)) (now (numbers .entry)) (now (values .entry)) count) ⌝ }
-    ensures known { λ r. ⌜ (r ≡ true → StateFigures (storedIn (now (rule .entry)) points (now (times .entry)) (now (owners .entry)) (now (numbers .entry)) (now (values .entry)) count) (now (masks .exit)) (now (counts .exit)) (now (lows .exit))) ⌝ }
-    ensures placed { λ r. ⌜ (r ≡ true → EntryPlaces (storedIn (now (rule .entry)) points (now (times .entry)) (now (owners .entry)) (now (numbers .entry)) (now (values .entry)) count) (now (owners .entry)) (now (numbers .entry)) (now (values .entry)) count (now (begins .exit)) (now (pairs .exit))) ⌝ }
+    ensures answer { λ r. ⌜ r ≡ wellFormed (storedIn (now (rule .entry)) log (now (times .entry)) (now (owners .entry)) (now (numbers .entry)) (now (values .entry)) count) ⌝ }
+    ensures known { λ r. ⌜ (r ≡ true → StateFigures (storedIn (now (rule .entry)) log (now (times .entry)) (now (owners .entry)) (now (numbers .entry)) (now (values .entry)) count) (now (masks .exit)) (now (counts .exit)) (now (lows .exit))) ⌝ }
+    ensures placed { λ r. ⌜ (r ≡ true → EntryPlaces (storedIn (now (rule .entry)) log (now (times .entry)) (now (owners .entry)) (now (numbers .entry)) (now (values .entry)) count) (now (owners .entry)) (now (numbers .entry)) (now (values .entry)) count (now (begins .exit)) (now (pairs .exit))) ⌝ }
 {
     if !accepts(rule, masks) {
         return false;
     }
-    if !times_fit(rule, points, times, counts) {
+    if !times_fit(rule, log, times, counts) {
         return false;
     }
     let n = rule[2] as usize;

@@ -2,7 +2,7 @@
 -- and an atom reads an event's rows as the log has them.
 use Prim.Native.Nat.{ℕ, zero, suc, _+_, _≤_, _<_}
 use mathlib.Core.Path.{_≡_, refl, sym, ap, ap₂, _∙_}
-use mathlib.Core.Bool.{true, false, cond, _&&_}
+use mathlib.Core.Bool.{Bool, true, false, cond, _&&_}
 use mathlib.Core.List.{List, [], _∷_, _++_, map}
 use native.Mathlib.Numerals.{add-one, add-two, add-three}
 use native.Mathlib.Omega.{arith}
@@ -10,8 +10,8 @@ use lib.ListN.{length, getD, take, drop}
 use lib.Seq.{drop-cons, take-nil}
 use lib.Dec.{ltb, eqb}
 use borrow.Author.Tests.{lt-ltb, ltb-true, ltb-false, eq-eqb, eqb-true}
-use Rattle.meaning.specs.Lists.{range, sameRow}
-use Rattle.meaning.specs.Log.{Row}
+use Rattle.meaning.specs.Lists.{range, select, sameRow}
+use Rattle.meaning.specs.Log.{Row, relationIn}
 use Rattle.meaning.specs.Formula.{isVariable, variables}
 use Rattle.meaning.specs.Event.{rowCount, relationOf, columnsOf, rowOf}
 use Rattle.meaning.specs.RuleFile.{arity}
@@ -103,34 +103,32 @@ pub four-words : (w : List ℕ) (a : ℕ) → a + 4 ≤ length w → take 4 (dro
 four-words w a l =
     rw (add-one a, add-two a, add-three a, drop-cons w a 0 (omega arith), drop-cons w (suc a) 0 (omega arith), drop-cons w (suc (suc a)) 0 (omega arith), drop-cons w (suc (suc (suc a))) 0 (omega arith))
 
+-- one row more: where it is of the relation and matches, it is put in as the values of its variables
+pub atom-more : (r : ℕ) (ts : List Term) (row : Row) (rows : List Row)
+    → atomRows ts (relationIn r (row ∷ rows)) ≡ cond (eqb (row .relation) r && matches ts (row .values)) (map (bound ts (row .values)) variables ∷ []) [] ++ atomRows ts (relationIn r rows)
+atom-more r ts row rows = go (eqb (row .relation) r) (matches ts (row .values))
+  where
+    gives : List ℕ → List ℕ
+    gives columns = map (bound ts columns) variables
+
+    go : (t u : Bool)
+        → map gives (select (matches ts) (map (λ row. row .values) (cond t (row ∷ select (λ row. eqb (row .relation) r) rows) (select (λ row. eqb (row .relation) r) rows))))
+        ≡ cond (t && matches ts (row .values)) (gives (row .values) ∷ []) [] ++ atomRows ts (relationIn r rows)
+    go true u = map-select-one (matches ts) gives (row .values) (relationIn r rows)
+    go false u = refl
+
 -- rows of other relations don't count, so their arity doesn't either
-module _ (r : ℕ) (ts : List Term) (f g : ℕ → Row) (same : (k : ℕ) → f k .relation ≡ g k .relation) (equal : (k : ℕ) → f k .relation ≡ r → f k ≡ g k) where
-  gives : Row → List ℕ
-  gives row = map (bound ts (row .values)) variables
-
-  one : Row → List (List ℕ)
-  one row = cond (matches r ts row) (gives row ∷ []) []
-
-  other : (row : Row) → eqb (row .relation) r ≡ false → one row ≡ []
-  unfolding one
-  other row e = rw e
-
-  one-agrees : (k : ℕ) → one (f k) ≡ one (g k)
-  one-agrees k = go (tested (eqb (f k .relation) r))
+module _ (r : ℕ) (f g : ℕ → Row) (same : (k : ℕ) → f k .relation ≡ g k .relation) (equal : (k : ℕ) → f k .relation ≡ r → f k ≡ g k) where
+  relation-agrees : (ks : List ℕ) → relationIn r (map f ks) ≡ relationIn r (map g ks)
+  relation-agrees [] = refl
+  relation-agrees (k ∷ ks) = go (relation-agrees ks) (tested (eqb (f k .relation) r))
     where
-      go : Tested (eqb (f k .relation) r) → one (f k) ≡ one (g k)
-      go (passed e) = ap one (equal k (eqb-true (f k .relation) r e))
-      go (failed e) = other (f k) e ∙ sym (other (g k) (ap (λ x. eqb x r) (sym (same k)) ∙ e))
+      go : relationIn r (map f ks) ≡ relationIn r (map g ks) → Tested (eqb (f k .relation) r) → relationIn r (map f (k ∷ ks)) ≡ relationIn r (map g (k ∷ ks))
+      go rest (passed e) = rw (e, ap (λ x. eqb x r) (sym (same k)) ∙ e) (ap₂ (λ (row : Row) rows. row .values ∷ rows) (equal k (eqb-true (f k .relation) r e)) rest)
+      go rest (failed e) = rw (e, ap (λ x. eqb x r) (sym (same k)) ∙ e) rest
 
-  atoms-agree : (ks : List ℕ) → atomRows r ts (map f ks) ≡ atomRows r ts (map g ks)
-  unfolding one gives
-  atoms-agree [] = refl
-  atoms-agree (k ∷ ks) =
-      map-select-one (matches r ts) gives (f k) (map f ks) ∙ ap₂ (λ us vs. us ++ vs) (one-agrees k) (atoms-agree ks)
-      ∙ sym (map-select-one (matches r ts) gives (g k) (map g ks))
-
-pub atom-reads : (b w : List ℕ) (r n : ℕ) (ts : List Term) → arity b r ≡ n → atomRows r ts (rowsWith n w) ≡ atomRows r ts (map (rowOf b w) (range 0 (rowCount w)))
-atom-reads b w r n ts e =
-    atoms-agree r ts (rowWith n w) (rowOf b w) (λ k. refl)
+pub atom-reads : (b w : List ℕ) (r n : ℕ) → arity b r ≡ n → relationIn r (rowsWith n w) ≡ relationIn r (map (rowOf b w) (range 0 (rowCount w)))
+atom-reads b w r n e =
+    relation-agrees r (rowWith n w) (rowOf b w) (λ k. refl)
     (λ k h. ap (λ a. record { relation = relationOf w k; values = take a (columnsOf w k) }) (sym e ∙ ap (arity b) (sym h)))
     (range 0 (rowCount w))

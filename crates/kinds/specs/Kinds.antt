@@ -1,5 +1,5 @@
 -- What the kinds read beside sets of rows: variables by a mask, an event's rows as an atom reads them, and pairs of an age and a row.
-use Prim.Native.Nat.{ℕ, _+_, _*_, _/_, _%_, _^_, _≤_}
+use Prim.Native.Nat.{ℕ, _+_, _*_, _/_, _%_, _^_, _≤_, _<_}
 use mathlib.Core.Bool.{Bool}
 use mathlib.Core.List.{List, _∷_, map}
 use lib.ListN.{length, getD, take}
@@ -13,10 +13,10 @@ use Rattle.rowset.specs.Rows.{rowAt}
 abbrev pub inMask : ℕ → ℕ → Bool
 inMask mask x = eqb (mask / 2 ^ x % 2) 1
 
--- the words have an event's head and all its rows, 32 at most
+-- an event's words have all its rows, 32 at most; a notice's one word has none
 pub record EventThere (w : List ℕ) : Type 0 where
   pub most : rowCount w ≤ 32
-  pub there : 2 + 5 * rowCount w ≤ length w
+  pub there : 0 < rowCount w → 2 + 5 * rowCount w ≤ length w
 
 -- a row of an event, with as many of its four columns as the arity says; and row k
 abbrev pub rowFrom : ℕ → ℕ → List ℕ → Row

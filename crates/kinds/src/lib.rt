@@ -12,11 +12,12 @@ ghost use lib.Dec.{eqb};
 ghost use Rattle.meaning.specs.Lists.{select, sameRow};
 ghost use Rattle.meaning.specs.Formula.{termsOf, compares, isVariable, variables};
 ghost use Rattle.meaning.specs.Definition2.{value};
+ghost use Rattle.meaning.specs.Log.{relationIn};
 ghost use Rattle.meaning.specs.Event.{rowCount, columnsOf};
 ghost use Rattle.meaning.specs.Evaluator.{cutTo, valuationOf, bound, matches, atomRows, agrees, joined, andRows, lookUp};
 ghost use Rattle.rowset.specs.Rows.{wordsOf, rowsFrom};
 ghost use Rattle.rowset.specs.Sets.{Run, SetRoom, Added};
-ghost use Rattle.kinds.specs.Kinds.{inMask, EventThere, rowFrom, rowsWith};
+ghost use Rattle.kinds.specs.Kinds.{inMask, EventThere, rowsWith};
 
 // Four variables: whether each is in a set.
 pub struct Vars {
@@ -489,7 +490,7 @@ fn columns_at(event: &[u32], m: usize, k: usize) -> Row
 // What an atom puts in for one row of an event.
 fn atom_row(relation: u32, found: u32, ts: Terms, c: Row, out: &mut [u32], n: usize) -> usize
     requires { ⌜ SetRoom (now out) n ⌝ }
-    ensures { λ k. ⌜ Added (now (out .entry)) n (now (out .exit)) k (cond (matches relation (termsOf ts) (rowFrom (ts .count) found (wordsOf c))) (map (bound (termsOf ts) (take (ts .count) (wordsOf c))) variables ∷ []) []) ⌝ }
+    ensures { λ k. ⌜ Added (now (out .entry)) n (now (out .exit)) k (cond (eqb found relation && matches (termsOf ts) (take (ts .count) (wordsOf c))) (map (bound (termsOf ts) (take (ts .count) (wordsOf c))) variables ∷ []) []) ⌝ }
 {
     if found == relation {
         let ok = columns_match(ts, c);
@@ -499,13 +500,23 @@ fn atom_row(relation: u32, found: u32, ts: Terms, c: Row, out: &mut [u32], n: us
     n
 }
 
+// How many rows an event has; a notice, which is one word, has none.
+pub fn row_total(event: &[u32]) -> usize
+    ensures { λ r. ⌜ r ≡ rowCount (now (event .entry)) ⌝ }
+{
+    if 1 < event.len() {
+        return event[1] as usize;
+    }
+    0
+}
+
 // "atom": a row of the event has as many values as the atom has terms.
 pub fn atom(relation: u32, ts: Terms, event: &[u32], out: &mut [u32], n: usize) -> usize
     requires { ⌜ EventThere (now event) ⌝ }
     requires { ⌜ SetRoom (now out) n ⌝ }
-    ensures { λ k. ⌜ Added (now (out .entry)) n (now (out .exit)) k (atomRows relation (termsOf ts) (rowsWith (ts .count) (now (event .entry)))) ⌝ }
+    ensures { λ k. ⌜ Added (now (out .entry)) n (now (out .exit)) k (atomRows (termsOf ts) (relationIn relation (rowsWith (ts .count) (now (event .entry))))) ⌝ }
 {
-    let m = event[1] as usize;
+    let m = row_total(event);
     let mut k = n;
     let mut i = 0;
     while i < m {

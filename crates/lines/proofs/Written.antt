@@ -6,6 +6,7 @@ use mathlib.Core.Bool.{true}
 use mathlib.Core.List.{List, [], _∷_, _++_}
 use lib.ListN.{length, getD}
 use Rattle.meaning.specs.Lists.{range, gather}
+use Rattle.meaning.specs.Log.{logOf}
 use Rattle.meaning.specs.Outcome.{refused, given, cut}
 use Rattle.meaning.specs.RuleFile.{Accepted, checking, pattern}
 use Rattle.meaning.specs.Report.{Reported, reportWords, pointsIn, inForm}
@@ -34,7 +35,7 @@ read-text r es form n reads = rw (form, n) (gather-range (λ k. reportedText (en
 -- For every accepted rule, every list of takings and one more that is taken: "each point settled for the last node now and not before", one after the other.
 module _ (b : List ℕ) (a : Accepted) (ok : checking b ≡ given a) (ts : List Taking) (t : Taking) (n : ℕ) (taken : answer b (keeperLog b [] ts) t ≡ given n) where
   abbrev entriesNow : List Reported
-  entriesNow = reported (keeperLog b [] ts) (grown b (keeperLog b [] ts) (t .event)) (pattern b)
+  entriesNow = reported (logOf (keeperLog b [] ts)) (logOf (grown b (keeperLog b [] ts) (t .fed))) (pattern b)
 
   points-are : pointsIn (answered b (keeperLog b [] ts) t .buffer) ≡ length entriesNow
   unfolding answered report reportWords

@@ -7,20 +7,19 @@ use lib.ListN.{length, getD, length-map, List·getD-append}
 use lib.Seq.{getD-append-add}
 use Rattle.meaning.specs.Log.{point, pointsFrom}
 use Rattle.meaning.specs.RuleFile.{nodeCount, nodeAt}
-use Rattle.meaning.specs.Event.{pointOf}
 use Rattle.meaning.specs.declared.Point.{Point}
 use Rattle.method.specs.Stored.{Stored, held, heldPairs}
 use Rattle.method.specs.Settle.{Inputs, settle, Turn, rowsOfTurn}
-use Rattle.method.specs.Step.{wantedFrom, newRows, newPairs, turnOf, noTurn, inputsOf, turnsTo, countBefore, countAfter, stampsNow, turn}
+use Rattle.method.specs.Step.{wantedFrom, newRows, newPairs, turnOf, noTurn, inputsOf, turnsTo, countBefore, countAfter, rowsTaken, stampsNow, turn}
 use Rattle.method.proofs.Turns.{turns-at, points-length, getD-points, newRows-at}
 
 module _ (s : Stored) (w : List ℕ) where
   -- the turns of the first x nodes, and what node x looks at
   abbrev pub lowerTurns : ℕ → List Turn
-  lowerTurns = turnsTo (s .rule) (s .entries) (stampsNow s w) (countBefore s) (countAfter s w) (pointOf (s .rule) w .rows)
+  lowerTurns = turnsTo (s .rule) (s .entries) (stampsNow s w) (countBefore s) (countAfter s w) (rowsTaken (s .rule) w)
 
   abbrev pub sight : ℕ → Inputs
-  sight x = inputsOf (s .rule) (stampsNow s w) (countAfter s w) (pointOf (s .rule) w .rows) (lowerTurns x)
+  sight x = inputsOf (s .rule) (stampsNow s w) (countAfter s w) (rowsTaken (s .rule) w) (lowerTurns x)
 
   abbrev pub low : ℕ → Point
   low = wantedFrom (s .rule) (countBefore s)
@@ -32,13 +31,13 @@ module _ (s : Stored) (w : List ℕ) where
   -- a lower node's turn, as a later node sees it
   pub lower-turn : (x y : ℕ) → x ≤ nodeCount (s .rule) → y < x → getD (lowerTurns x) y noTurn ≡ turn s w y
   lower-turn x y l o =
-      turns-at (s .rule) (s .entries) (stampsNow s w) (countBefore s) (countAfter s w) (pointOf (s .rule) w .rows) x y o
-      ∙ sym (turns-at (s .rule) (s .entries) (stampsNow s w) (countBefore s) (countAfter s w) (pointOf (s .rule) w .rows) (nodeCount (s .rule)) y (omega arith))
+      turns-at (s .rule) (s .entries) (stampsNow s w) (countBefore s) (countAfter s w) (rowsTaken (s .rule) w) x y o
+      ∙ sym (turns-at (s .rule) (s .entries) (stampsNow s w) (countBefore s) (countAfter s w) (rowsTaken (s .rule) w) (nodeCount (s .rule)) y (omega arith))
       ∙ sym (turn-of y)
 
   module _ (x : ℕ) (o : x < nodeCount (s .rule)) where
     turn-is : turn s w x ≡ turnOf (s .rule) (s .entries) (countBefore s) (countAfter s w) (sight x) x
-    turn-is = turn-of x ∙ turns-at (s .rule) (s .entries) (stampsNow s w) (countBefore s) (countAfter s w) (pointOf (s .rule) w .rows) (nodeCount (s .rule)) x o
+    turn-is = turn-of x ∙ turns-at (s .rule) (s .entries) (stampsNow s w) (countBefore s) (countAfter s w) (rowsTaken (s .rule) w) (nodeCount (s .rule)) x o
 
     abbrev fresh : List (List (List ℕ))
     fresh = newRows (sight x) (nodeAt (s .rule) x) (point (countBefore s x)) (countAfter s w x - countBefore s x) (heldPairs (s .entries) x)

@@ -1,7 +1,7 @@
 -- A node's newly settled points, one after the other: what one gives, what stands before each, and what stands behind the last or at a crowded one.
 use Prim.Native.Nat.{ℕ, _+_, _-_, _*_, _≤_, _<_}
 use native.Mathlib.Omega.{arith}
-use mathlib.Core.Path.{_≡_, refl, sym, ap, _∙_}
+use mathlib.Core.Path.{_≡_, refl, sym, ap, subst, _∙_}
 use mathlib.Core.Bool.{Bool, true, false, false≢true}
 use mathlib.Core.List.{List, []}
 use lib.ListN.{length}
@@ -147,6 +147,10 @@ module _ {b w rows at times : List ℕ} {base : Point} {oldAges oldValues : List
           crowded = λ d. absurd (false≢true (sym d));
         }
 
+  -- where there is none, all stays
+  pub none-settled : start .0 ≡ end .0 → {rows' at' : List ℕ} {done : Bool} → done ≡ true → rows' ≡ rows → at' ≡ at → PointsSettled b w rows at times base oldAges oldValues left right n start end node rows' at' done
+  none-settled l d e f = rw (d, e, f) (going-all going-none (omega arith))
+
   -- where there is one point, it is all
   pub one-space : start .0 + 1 ≡ end .0 → Space rows at n mostRows
   one-space l = let z : n + (start .0 - start .0) ≡ n = omega arith in rw z at (point-ready going-none (omega arith) .space)
@@ -155,8 +159,16 @@ module _ {b w rows at times : List ℕ} {base : Point} {oldAges oldValues : List
     first : NextSettled b w rows at times base oldAges oldValues left right (n + (start .0 - start .0)) start start node rows' at' done
     first = let z : n + (start .0 - start .0) ≡ n = omega arith in rw z p
 
-    pub one-crowded : done ≡ false → PointsSettled b w rows at times base oldAges oldValues left right n start end node rows' at' false
+    one-crowded : done ≡ false → PointsSettled b w rows at times base oldAges oldValues left right n start end node rows' at' false
     one-crowded told = going-crowded going-none (omega arith) first told
 
-    pub one-settled : done ≡ true → PointsSettled b w rows at times base oldAges oldValues left right n start end node rows' at' true
+    one-settled : done ≡ true → PointsSettled b w rows at times base oldAges oldValues left right n start end node rows' at' true
     one-settled told = going-all (going-more going-none (omega arith) first told) (omega arith)
+
+    pub one-more : PointsSettled b w rows at times base oldAges oldValues left right n start end node rows' at' done
+    one-more = elim (tested done) [ passed t ↦ rw t (one-settled t) | failed t ↦ rw t (one-crowded t) ]
+
+-- points settled, as was told
+pub told-settled : {b w rows at times : List ℕ} {base : Point} {oldAges oldValues : List ℕ} {left right : Child} {n : ℕ} {start end : Point} {node : Node} {rows' at' : List ℕ} {done told : Bool}
+    → PointsSettled b w rows at times base oldAges oldValues left right n start end node rows' at' done → done ≡ told → PointsSettled b w rows at times base oldAges oldValues left right n start end node rows' at' told
+told-settled {b} {w} {rows} {at} {times} {base} {oldAges} {oldValues} {left} {right} {n} {start} {end} {node} {rows'} {at'} p e = subst (PointsSettled b w rows at times base oldAges oldValues left right n start end node rows' at') e p

@@ -13,7 +13,7 @@ use Rattle.meaning.proofs.Accepted.{nodes-most}
 use Rattle.method.specs.Stored.{Stored, baseOf, held}
 use Rattle.method.specs.Step.{wantedFrom, countBefore, countAfter}
 use Rattle.method.specs.Room.{rowsMost, setsMost}
-use Rattle.method.proofs.Bounds.{before-after, after-most, wanted-before, wanted-after, wanted-grows}
+use Rattle.method.proofs.Bounds.{one-added, before-after, after-most, wanted-before, wanted-after, wanted-grows}
 use Rattle.method.proofs.Room.{entries-rows}
 use Rattle.rowset.specs.Sets.{Run}
 use Rattle.entries.specs.Entries.{entriesFrom}
@@ -41,7 +41,7 @@ pub record Numbers (points x stamps entries numbers values figures : ℕ) (o : O
   pub low-want : o .low .0 ≤ o .want .0
   pub want-after : o .want .0 ≤ o .after
   pub after-most : o .after ≤ points + 1
-  pub few-points : points < 10000000
+  pub few-points : points ≤ 10000000
   pub begin-pairs : o .begin ≤ o .pairs
   pub pairs-end : o .pairs ≤ o .end
   pub end-there : o .end ≤ entries
@@ -95,8 +95,8 @@ module _ {s : Stored} {w os ns vs stamps f : List ℕ} (g : CallReady s w os ns 
           before-after = omega (arith, before-is, after-is, before-after s a ok few many w x l);
           low-want = omega (arith, low-is, want-is, wanted-grows s a ok few many w x l);
           want-after = omega (arith, want-is, after-is, wanted-after s a ok few many w x);
-          after-most = omega (arith, after-is, after-most s a ok few many w x l);
-          few-points = g .not-full;
+          after-most = omega (arith, after-is, after-most s a ok few many w x l, one-added w);
+          few-points = omega (arith, g .not-full);
           begin-pairs = omega (arith, h .begin, h .pairs, figures .sets-first);
           pairs-end = omega (arith, h .pairs, h .end, figures .pairs-last);
           end-there = omega (arith, h .end, figures .within);

@@ -13,7 +13,7 @@ use Rattle.meaning.specs.declared.Point.{Point}
 use Rattle.meaning.specs.declared.Node.{Node}
 use Rattle.meaning.proofs.Accepted.{accepted}
 use Rattle.method.specs.Stored.{Stored, stampIn}
-use Rattle.method.specs.Step.{firstWanted, countBefore, countAfter, stampsNow, turn}
+use Rattle.method.specs.Step.{firstWanted, countBefore, countAfter, stampsNow, endNow, turn}
 use Rattle.method.specs.WellFormed.{pairsFit}
 use Rattle.method.proofs.Bounds.{below, wanted-child, after-step, consults}
 use Rattle.method.proofs.Inputs.{one, two}
@@ -85,7 +85,7 @@ module _ {s : Stored} {w os ns vs stamps f : List ℕ} (g : CallReady s w os ns 
       sees rows' at' t =
           record {
             stamps = ap₂ stampIn (sym (base-is g)) (sym (g .stamps-now));
-            event = refl;
+            event = λ r. refl;
             children = seen-all (childrenOf (nodeAt (s .rule) x)) (below (s .rule) (a g) (ok g) x l) p q left right e c rows' at' t;
           }
 
@@ -94,4 +94,4 @@ module _ {s : Stored} {w os ns vs stamps f : List ℕ} (g : CallReady s w os ns 
       asks oldAges oldValues h fit m o i u v rows' at' laid =
           point-asks (s .rule) w oldAges oldValues left right (point (countBefore s x)) i (countAfter s w) laid h (g .event) u x (nodeAt (s .rule) x) (as-many (s .rule) x (accepted (s .rule) (a g) (ok g) .each x l))
           (reach-all (childrenOf (nodeAt (s .rule) x)) (λ y k. k) p q left right e c m o)
-          (consults (stampsNow s w) (s .points + 1) (countAfter s w) (countBefore s x) (viewOf (nodeAt (s .rule) x)) i u (rw (after-step s (a g) (ok g) (g .formed .few-times) (g .formed .times-many) w x l) at v)) fit
+          (consults (stampsNow s w) (endNow s w) (countAfter s w) (countBefore s x) (viewOf (nodeAt (s .rule) x)) i u (rw (after-step s (a g) (ok g) (g .formed .few-times) (g .formed .times-many) w x l) at v)) fit

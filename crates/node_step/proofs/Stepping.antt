@@ -110,7 +110,7 @@ module _ {s : Stored} {w os ns vs stamps f : List ℕ} {x : ℕ} {o : Own} {spot
       held-part ns vs (o .pairs) (o .end) (nums .pairs-end) (omega (arith, nums .end-there, nums .numbers-there)) (omega (arith, nums .end-there, nums .values-there)) os (length os) x (here ∙ ap (λ es. agedEntries x (heldPairs es x)) e)
       ∙ ap (λ es. heldPairs es x) (sym e)
 
-  pairs-fit : pairsFit (s .rule) x (viewOf (nodeAt (s .rule) x)) (heldIn oldAges oldValues) ≡ true
+  pub pairs-fit : pairsFit (s .rule) x (viewOf (nodeAt (s .rule) x)) (heldIn oldAges oldValues) ≡ true
   unfolding nodeFits
   pairs-fit =
       rw held-is

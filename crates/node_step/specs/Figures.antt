@@ -6,8 +6,9 @@ use lib.ListN.{length, getD, take}
 use Rattle.meaning.specs.Outcome.{mostPoints}
 use Rattle.meaning.specs.Formula.{free}
 use Rattle.meaning.specs.RuleFile.{nodeCount, formulaAt}
+use Rattle.meaning.specs.declared.LogEnd.{LogEnd}
 use Rattle.method.specs.Stored.{Stored, held, heldPairs}
-use Rattle.method.specs.Step.{wantedFrom, countBefore, countAfter}
+use Rattle.method.specs.Step.{pointsAdded, wantedFrom, countBefore, countAfter}
 use Rattle.method.specs.WellFormed.{Formed}
 use Rattle.method.specs.Room.{othersIn}
 use Rattle.kinds.specs.Kinds.{inMask, EventThere}
@@ -54,9 +55,9 @@ endIn f x = figure f x 7
 abbrev pub weightIn : List ℕ → ℕ → ℕ
 weightIn f x = figure f x 8
 
--- what is stored as a call begins: the times before the event's, which is the last stamp, and all entries that stand in os, ns and vs
-abbrev pub called : List ℕ → ℕ → List ℕ → List ℕ → List ℕ → List ℕ → Stored
-called b points stamps os ns vs = record { rule = b; points = points; times = take (length stamps - 1) stamps; entries = entriesFrom os ns vs 0 (length os) }
+-- what is stored as a call begins: where the log ended, the times before that of what is fed, which is the last stamp, and all entries that stand in os, ns and vs
+abbrev pub called : List ℕ → LogEnd → List ℕ → List ℕ → List ℕ → List ℕ → Stored
+called b e stamps os ns vs = record { rule = b; points = e .points; latest = e .latest; times = take (length stamps - 1) stamps; entries = entriesFrom os ns vs 0 (length os) }
 
 -- the figures of node x
 pub record NodeFigures (s : Stored) (w os ns vs f : List ℕ) (x : ℕ) : Type 0 where
@@ -75,11 +76,11 @@ pub record NodeFigures (s : Stored) (w os ns vs f : List ℕ) (x : ℕ) : Type 0
       ≡ setEntries x (held (s .entries) x) (wantedFrom (s .rule) (countBefore s) x) (countBefore s x - wantedFrom (s .rule) (countBefore s) x .0)
   pub pairs : entriesFrom os ns vs (pairsIn f x) (endIn f x - pairsIn f x) ≡ agedEntries x (heldPairs (s .entries) x)
 
--- what holds as a call with event w goes through the nodes: a well-formed state, an event that 9 to 12 don't refuse, and the figures of all nodes
+-- what holds as a call with the words w goes through the nodes: a well-formed state, an event that 9 to 12 don't refuse or a notice, and the figures of all nodes
 pub record CallReady (s : Stored) (w os ns vs stamps f : List ℕ) : Type 0 where
   pub formed : Formed s
   pub event : EventThere w
-  pub not-full : s .points < mostPoints
+  pub not-full : s .points + pointsAdded w ≤ mostPoints
   pub stamps-now : stamps ≡ s .times ++ getD w 0 0 ∷ []
   pub entries-are : s .entries ≡ entriesFrom os ns vs 0 (length os)
   pub numbers-there : length os ≤ length ns

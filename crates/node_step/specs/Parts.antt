@@ -11,7 +11,7 @@ use Rattle.meaning.specs.Kept.{Entry}
 use Rattle.meaning.specs.declared.Point.{Point}
 use Rattle.meaning.specs.declared.Node.{Node}
 use Rattle.method.specs.Settle.{Inputs, settle}
-use Rattle.method.specs.Step.{newPairs}
+use Rattle.method.specs.Step.{newPairs, pointsAdded}
 use Rattle.rowset.specs.Rows.{rowsFrom}
 use Rattle.kinds.specs.Kinds.{EventThere}
 use Rattle.room.specs.Room.{setIn, setAt, SetsInOrder, Sets}
@@ -85,12 +85,17 @@ pub record LeafReady (b w rows at : List ℕ) (x n : ℕ) : Type 0 where
   pub node : x < nodeCount b
   pub alone : childrenOf (nodeAt b x) ≡ []
   pub event : EventThere w
-  pub space : Space rows at n mostRows
+  pub space : pointsAdded w ≡ 1 → Space rows at n mostRows
 
 -- so that its set is the same whatever else stands, and at any point
 abbrev pub LeafSettled : List ℕ → List ℕ → List ℕ → List ℕ → ℕ → ℕ → List ℕ → List ℕ → Bool → Type 0
 LeafSettled b w rows at x n rows' at' done =
     (times : List ℕ) (base : Point) (oldAges oldValues : List ℕ) (left right : Child) (start i : Point) → NextSettled b w rows at times base oldAges oldValues left right n start i (nodeAt b x) rows' at' done
+
+-- where a point is added it is settled; where none is, nothing moves
+pub record LeafStep (b w rows at : List ℕ) (x n : ℕ) (rows' at' : List ℕ) (done : Bool) : Type 0 where
+  pub one : pointsAdded w ≡ 1 → LeafSettled b w rows at x n rows' at' done
+  pub none : pointsAdded w ≡ 0 → (done ≡ true) × (rows' ≡ rows) × (at' ≡ at)
 
 module _ (b w rows at times : List ℕ) (base : Point) (oldAges oldValues : List ℕ) (left right : Child) (n : ℕ) (start end : Point) (node : Node) where
   -- a Inputs that say of the node's children what stands in any words whose first n sets are these

@@ -1,5 +1,6 @@
 // A node's own step in a call: its kept sets are loaded behind its children's, its newly settled points are settled, what is still wanted of it is kept, and its sets take the place of its children's.
 use meaning::Children;
+use meaning::LogEnd;
 use meaning::MOST_NODES;
 use meaning::MOST_ROWS;
 use meaning::Node;
@@ -17,7 +18,7 @@ ghost use Rattle.rowset.specs.Sets.{SetRoom};
 ghost use Rattle.entries.specs.Appended.{Space};
 ghost use Rattle.node_step.specs.Figures.{called, CallReady, nodeWords};
 ghost use Rattle.node_step.specs.Walks.{setWords, RoomFor, ChildrenStand, OutThere, Walks};
-ghost use Rattle.node_step.specs.Parts.{childIn, ChildFigures, ChildSetsAre, OwnFigures, agesOf, SetPushed, NextReady, NextSettled, LeafReady, LeafSettled, PointsReady, PointsSettled, PairsReady, PairsKept, BlockReady, BlockKept};
+ghost use Rattle.node_step.specs.Parts.{childIn, ChildFigures, ChildSetsAre, OwnFigures, agesOf, SetPushed, NextReady, NextSettled, LeafReady, LeafStep, PointsReady, PointsSettled, PairsReady, PairsKept, BlockReady, BlockKept};
 
 // Where a node's step begins: so many sets are below its children's, so many stand in all, left's and right's begin at these sets, and so many entries are kept.
 pub struct Spot {
@@ -354,7 +355,7 @@ pub fn own_step(
     numbers: &[u32],
     values: &[u32],
     stamps: &[u32],
-    points: u32,
+    log: LogEnd,
     event: &[u32],
     rows: &mut [u32],
     at: &mut [u32],
@@ -364,17 +365,17 @@ pub fn own_step(
     x: u8,
     spot: Spot,
 ) -> Place
-    requires { ⌜ CallReady (called (now rule) points (now stamps) (now owners) (now numbers) (now values)) (now event) (now owners) (now numbers) (now values) (now stamps) (now figures) ⌝ }
+    requires { ⌜ CallReady (called (now rule) log (now stamps) (now owners) (now numbers) (now values)) (now event) (now owners) (now numbers) (now values) (now stamps) (now figures) ⌝ }
     requires { ⌜ (x < nodeCount (now rule)) × (spot .below ≤ spot .sets) ⌝ }
-    requires { ⌜ RoomFor (now rows) (now at) (spot .sets) (setsMost (called (now rule) points (now stamps) (now owners) (now numbers) (now values)) (now event) x) (rowsMost (called (now rule) points (now stamps) (now owners) (now numbers) (now values)) (now event) x) ⌝ }
-    requires { ⌜ ChildrenStand (called (now rule) points (now stamps) (now owners) (now numbers) (now values)) (now event) (now rows) (now at) (spot .sets) (childrenOf (nodeAt (now rule) x)) (spot .left) (spot .right) ⌝ }
-    requires { ⌜ OutThere (called (now rule) points (now stamps) (now owners) (now numbers) (now values)) (now event) (now «out_numbers») (now «out_values») (now blocks) (spot .kept) ⌝ }
-    ensures { λ r. ⌜ Walks (called (now (rule .entry)) points (now (stamps .entry)) (now (owners .entry)) (now (numbers .entry)) (now (values .entry))) (now (event .entry)) (λ y. y ≡ x) (length (entriesNow (called (now (rule .entry)) points (now (stamps .entry)) (now (owners .entry)) (now (numbers .entry)) (now (values .entry))) (now (event .entry)) x)) x (spot .below) (now (rows .entry)) (now (at .entry)) (now (rows .exit)) (now (at .exit)) (now («out_numbers» .entry)) (now («out_values» .entry)) (now (blocks .entry)) (now («out_numbers» .exit)) (now («out_values» .exit)) (now (blocks .exit)) (spot .kept) r ⌝ }
+    requires { ⌜ RoomFor (now rows) (now at) (spot .sets) (setsMost (called (now rule) log (now stamps) (now owners) (now numbers) (now values)) (now event) x) (rowsMost (called (now rule) log (now stamps) (now owners) (now numbers) (now values)) (now event) x) ⌝ }
+    requires { ⌜ ChildrenStand (called (now rule) log (now stamps) (now owners) (now numbers) (now values)) (now event) (now rows) (now at) (spot .sets) (childrenOf (nodeAt (now rule) x)) (spot .left) (spot .right) ⌝ }
+    requires { ⌜ OutThere (called (now rule) log (now stamps) (now owners) (now numbers) (now values)) (now event) (now «out_numbers») (now «out_values») (now blocks) (spot .kept) ⌝ }
+    ensures { λ r. ⌜ Walks (called (now (rule .entry)) log (now (stamps .entry)) (now (owners .entry)) (now (numbers .entry)) (now (values .entry))) (now (event .entry)) (λ y. y ≡ x) (length (entriesNow (called (now (rule .entry)) log (now (stamps .entry)) (now (owners .entry)) (now (numbers .entry)) (now (values .entry))) (now (event .entry)) x)) x (spot .below) (now (rows .entry)) (now (at .entry)) (now (rows .exit)) (now (at .exit)) (now («out_numbers» .entry)) (now («out_values» .entry)) (now (blocks .entry)) (now («out_numbers» .exit)) (now («out_values» .exit)) (now (blocks .exit)) (spot .kept) r ⌝ }
 {
     let node = rulenodes::node_at(rule, x);
     let children = children_at(figures, node, spot.left, spot.right);
     let own = own_figures(figures, x);
-    let base = Point(points + 1 - stamps.len() as u32);
+    let base = Point(log.points + 1 - stamps.len() as u32);
     let loaded = (own.before - own.low.0) as usize;
     let made = (own.after - own.low.0) as usize;
     let from = own.pairs;
@@ -437,7 +438,7 @@ pub fn own_step(
     Place { kept, low: NO_NODE }
 }
 
-// Settles the newest point of node x, which has no children, and puts its set behind n others; false where it has more than 32 rows. The set is made in `out`.
+// Settles the point that is added, of node x, which has no children, and puts its set behind n others; false where it has more than 32 rows. A notice adds none, and then nothing is done. The set is made in `out`.
 fn settle_leaf(
     rule: &[u8],
     event: &[u32],
@@ -449,15 +450,18 @@ fn settle_leaf(
 ) -> bool
     requires { ⌜ LeafReady (now rule) (now event) (now rows) (now at) x n ⌝ }
     requires { ⌜ SetRoom (now out) 0 ⌝ }
-    ensures { λ r. ⌜ LeafSettled (now (rule .entry)) (now (event .entry)) (now (rows .entry)) (now (at .entry)) x n (now (rows .exit)) (now (at .exit)) r ⌝ }
+    ensures { λ r. ⌜ LeafStep (now (rule .entry)) (now (event .entry)) (now (rows .entry)) (now (at .entry)) x n (now (rows .exit)) (now (at .exit)) r ⌝ }
 {
+    if progress::points_added(event) == 0 {
+        return true;
+    }
     let atom = rulenodes::atom_at(rule, x);
     let terms = atom.terms;
     let k = kinds::atom(atom.relation as u32, terms, event, out, 0);
     push_set(out, k, rows, at, n)
 }
 
-// The step of node x, which has no children, behind h sets: it is an atom, which settles the newest point and has no pairs. The owners, the times and the number of points are there for the contract, which says what is stored.
+// The step of node x, which has no children, behind h sets: it is an atom, which settles the point that is added and has no pairs. The owners, the times and where the log ended are there for the contract, which says what is stored.
 pub fn leaf_step(
     rule: &[u8],
     figures: &[u32],
@@ -465,7 +469,7 @@ pub fn leaf_step(
     numbers: &[u32],
     values: &[u32],
     stamps: &[u32],
-    points: u32,
+    log: LogEnd,
     event: &[u32],
     rows: &mut [u32],
     at: &mut [u32],
@@ -476,11 +480,11 @@ pub fn leaf_step(
     h: usize,
     kept: usize,
 ) -> Place
-    requires { ⌜ CallReady (called (now rule) points (now stamps) (now owners) (now numbers) (now values)) (now event) (now owners) (now numbers) (now values) (now stamps) (now figures) ⌝ }
+    requires { ⌜ CallReady (called (now rule) log (now stamps) (now owners) (now numbers) (now values)) (now event) (now owners) (now numbers) (now values) (now stamps) (now figures) ⌝ }
     requires { ⌜ (x < nodeCount (now rule)) × (childrenOf (nodeAt (now rule) x) ≡ []) ⌝ }
-    requires { ⌜ RoomFor (now rows) (now at) h (setsMost (called (now rule) points (now stamps) (now owners) (now numbers) (now values)) (now event) x) (rowsMost (called (now rule) points (now stamps) (now owners) (now numbers) (now values)) (now event) x) ⌝ }
-    requires { ⌜ OutThere (called (now rule) points (now stamps) (now owners) (now numbers) (now values)) (now event) (now «out_numbers») (now «out_values») (now blocks) kept ⌝ }
-    ensures { λ r. ⌜ Walks (called (now (rule .entry)) points (now (stamps .entry)) (now (owners .entry)) (now (numbers .entry)) (now (values .entry))) (now (event .entry)) (λ y. y ≡ x) (length (entriesNow (called (now (rule .entry)) points (now (stamps .entry)) (now (owners .entry)) (now (numbers .entry)) (now (values .entry))) (now (event .entry)) x)) x h (now (rows .entry)) (now (at .entry)) (now (rows .exit)) (now (at .exit)) (now («out_numbers» .entry)) (now («out_values» .entry)) (now (blocks .entry)) (now («out_numbers» .exit)) (now («out_values» .exit)) (now (blocks .exit)) kept r ⌝ }
+    requires { ⌜ RoomFor (now rows) (now at) h (setsMost (called (now rule) log (now stamps) (now owners) (now numbers) (now values)) (now event) x) (rowsMost (called (now rule) log (now stamps) (now owners) (now numbers) (now values)) (now event) x) ⌝ }
+    requires { ⌜ OutThere (called (now rule) log (now stamps) (now owners) (now numbers) (now values)) (now event) (now «out_numbers») (now «out_values») (now blocks) kept ⌝ }
+    ensures { λ r. ⌜ Walks (called (now (rule .entry)) log (now (stamps .entry)) (now (owners .entry)) (now (numbers .entry)) (now (values .entry))) (now (event .entry)) (λ y. y ≡ x) (length (entriesNow (called (now (rule .entry)) log (now (stamps .entry)) (now (owners .entry)) (now (numbers .entry)) (now (values .entry))) (now (event .entry)) x)) x h (now (rows .entry)) (now (at .entry)) (now (rows .exit)) (now (at .exit)) (now («out_numbers» .entry)) (now («out_values» .entry)) (now (blocks .entry)) (now («out_numbers» .exit)) (now («out_values» .exit)) (now (blocks .exit)) kept r ⌝ }
 {
     let own = own_figures(figures, x);
     let loaded = (own.before - own.low.0) as usize;

@@ -7,6 +7,7 @@ use Rattle.meaning.specs.View.{viewOf}
 use Rattle.meaning.specs.RuleFile.{bodies, bodyAt, nodeAt, childrenOf}
 use Rattle.meaning.specs.declared.Point.{Point}
 use Rattle.meaning.specs.declared.Stamp.{Stamp}
+use Rattle.meaning.specs.declared.LogEnd.{LogEnd}
 use Rattle.meaning.specs.declared.Window.{Window}
 use Rattle.meaning.specs.declared.Times.{Times}
 use Rattle.meaning.specs.declared.Times.the-variants.{Here, Future}
@@ -15,8 +16,8 @@ use Rattle.method.specs.Stored.{leastOf}
 use Rattle.method.specs.Counts.{untilCount, advanceBy, advance}
 
 -- until's count from equal parts
-pub until-as : (τ : Point → Stamp) (n m : ℕ) {d d' from from' r : ℕ} → r ≡ untilCount τ n d m from → d ≡ d' → from ≡ from' → r ≡ untilCount τ n d' m from'
-until-as τ n m e p q = rw (p, q) at e
+pub until-as : (τ : Point → Stamp) (l : LogEnd) (m : ℕ) {d d' from from' r : ℕ} → r ≡ untilCount τ l d m from → d ≡ d' → from ≡ from' → r ≡ untilCount τ l d' m from'
+until-as τ l m e p q = rw (p, q) at e
 
 module _ (b : List ℕ) (x : ℕ) {t : Times} (e : t ≡ viewOf (nodeAt b x) .times) where
   -- until's window ends where its body says
@@ -27,7 +28,7 @@ module _ (b : List ℕ) (x : ℕ) {t : Times} (e : t ≡ viewOf (nodeAt b x) .ti
       none h = let z : _≡_ {A = ℕ} 0 1 = cc in absurd (omega arith)
 
   -- the count of node x
-  pub counted : (τ : Point → Stamp) (n : ℕ) (count : ℕ → ℕ) (from : ℕ) {cs : List ℕ} {m r : ℕ} → cs ≡ childrenOf (nodeAt b x) → m ≡ leastOf n (map count cs)
-      → {k : Times} → t ≡ k → r ≡ advanceBy τ n m from (viewOf (nodeAt b x) .window .end) k → r ≡ advance τ n count from (viewOf (nodeAt b x))
-  counted τ n count from p q f g =
-      g ∙ ap₂ (λ m t. advanceBy τ n m from (viewOf (nodeAt b x) .window .end) t) (q ∙ ap (λ ys. leastOf n (map count ys)) p) (sym f ∙ e)
+  pub counted : (τ : Point → Stamp) (l : LogEnd) (count : ℕ → ℕ) (from : ℕ) {cs : List ℕ} {m r : ℕ} → cs ≡ childrenOf (nodeAt b x) → m ≡ leastOf (l .points) (map count cs)
+      → {k : Times} → t ≡ k → r ≡ advanceBy τ l m from (viewOf (nodeAt b x) .window .end) k → r ≡ advance τ l count from (viewOf (nodeAt b x))
+  counted τ l count from p q f g =
+      g ∙ ap₂ (λ m t. advanceBy τ l m from (viewOf (nodeAt b x) .window .end) t) (q ∙ ap (λ ys. leastOf (l .points) (map count ys)) p) (sym f ∙ e)

@@ -8,6 +8,7 @@ use lib.Dec.{ltb, leb}
 use Rattle.meaning.specs.Log.{point}
 use Rattle.meaning.specs.declared.Point.{Point}
 use Rattle.meaning.specs.declared.Stamp.{Stamp}
+use Rattle.meaning.specs.declared.LogEnd.{LogEnd}
 use Rattle.method.specs.Counts.{scan, untilCount}
 
 module _ (τ : Point → Stamp) (d : ℕ) (bound : Stamp) (i m : ℕ) where
@@ -28,7 +29,7 @@ module _ (τ : Point → Stamp) (d : ℕ) (bound : Stamp) (i m : ℕ) where
       let s : m - i ≡ 0 = omega arith in
       rw s
 
--- the count from the bound's point, its time stamp and the first point that is open
-pub until-same : (τ : Point → Stamp) (n d m from : ℕ) {p first : Point} {t : Stamp} → p ≡ point (cond (ltb m n) m (n - 1)) → t ≡ τ p → first ≡ scan τ d t (point from) (m - from) → first .0 ≡ untilCount τ n d m from
+-- the count from the time by which windows have to end, and the first point that is open
+pub until-same : (τ : Point → Stamp) (l : LogEnd) (d m from : ℕ) {first : Point} {t : Stamp} → t ≡ cond (ltb m (l .points)) (τ (point m)) (l .latest) → first ≡ scan τ d t (point from) (m - from) → first .0 ≡ untilCount τ l d m from
 unfolding untilCount
-until-same τ n d m from e f g = cc
+until-same τ l d m from e g = cc

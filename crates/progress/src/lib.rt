@@ -1,5 +1,6 @@
-// How many points each node has settled, from the time stamps alone.
+// How many points each node has settled, from the time stamps and the latest known time alone; and how many points words add.
 use meaning::Children;
+use meaning::LogEnd;
 use meaning::Point;
 use meaning::Stamp;
 use meaning::Times;
@@ -14,6 +15,7 @@ ghost use Rattle.meaning.specs.View.{viewOf, childrenIn};
 ghost use Rattle.meaning.specs.RuleFile.{nodeCount, bodies, bodyAt, nodeAt};
 ghost use Rattle.method.specs.Stored.{stampIn, leastOf};
 ghost use Rattle.method.specs.Counts.{scan, untilCount, advance};
+ghost use Rattle.method.specs.Step.{pointsAdded};
 ghost use Rattle.progress.specs.Filled.{Filled};
 
 // A difference that stops at 0, as it does in the definitions.
@@ -67,19 +69,22 @@ fn first_open(times: &[u32], base: Point, d: u32, bound: Stamp, from: Point, m: 
     Point(i)
 }
 
-// The point whose time stamp bounds the windows that have ended: the first that the children have not settled, or the last of all.
-fn bound_at(n: u32, m: u32) -> Point
-    ensures { λ r. ⌜ r ≡ point (cond (ltb m n) m (n - 1)) ⌝ }
+// The time by which a window has to end: that of the first point that the children have not settled, or where they have settled all the latest known time.
+fn bound(times: &[u32], base: Point, log: LogEnd, m: u32) -> Stamp
+    ensures { λ r. ⌜ r ≡ cond (ltb m (log .points)) (stampIn base (now (times .entry)) (point m)) (log .latest) ⌝ }
 {
-    if m < n { Point(m) } else { Point(less(n, 1)) }
+    if m < log.points {
+        return time_in(times, base, Point(m));
+    }
+    log.latest
 }
 
-// How many points until has settled, where its children have settled m of n.
-pub fn until_count(times: &[u32], base: Point, n: u32, d: u32, m: u32, from: u32) -> u32
-    ensures { λ r. ⌜ r ≡ untilCount (stampIn base (now (times .entry))) n d m from ⌝ }
+// How many points until has settled, where its children have settled m points of a log that ends so.
+pub fn until_count(times: &[u32], base: Point, log: LogEnd, d: u32, m: u32, from: u32) -> u32
+    ensures { λ r. ⌜ r ≡ untilCount (stampIn base (now (times .entry))) log d m from ⌝ }
 {
-    let bound = time_in(times, base, bound_at(n, m));
-    let open = first_open(times, base, d, bound, Point(from), Point(m));
+    let by = bound(times, base, log, m);
+    let open = first_open(times, base, d, by, Point(from), Point(m));
     open.0
 }
 
@@ -108,15 +113,23 @@ fn one_more(n: u32, m: u32) -> u32
     if m < n { m + 1 } else { n }
 }
 
-// How many points node x has settled that is an until, where its children have settled m of n.
-fn until_of(rule: &[u8], times: &[u32], base: Point, n: u32, m: u32, from: &[u32], x: u8) -> u32
+// How many points node x has settled that is an until, where its children have settled m points.
+fn until_of(
+    rule: &[u8],
+    times: &[u32],
+    base: Point,
+    log: LogEnd,
+    m: u32,
+    from: &[u32],
+    x: u8,
+) -> u32
     requires { ⌜ (length (now rule) ≡ 12 + 20 * nodeCount (now rule)) × (x < nodeCount (now rule)) ⌝ }
-    ensures { λ r. ⌜ r ≡ untilCount (stampIn base (now (times .entry))) n (bodyAt (bodies (now (rule .entry))) x .word1) m (getD (now (from .entry)) x 0) ⌝ }
+    ensures { λ r. ⌜ r ≡ untilCount (stampIn base (now (times .entry))) log (bodyAt (bodies (now (rule .entry))) x .word1) m (getD (now (from .entry)) x 0) ⌝ }
 {
     until_count(
         times,
         base,
-        n,
+        log,
         rulenodes::end_at(rule, x),
         m,
         count_at(from, x),
@@ -128,35 +141,42 @@ fn count_of(
     rule: &[u8],
     times: &[u32],
     base: Point,
-    n: u32,
+    log: LogEnd,
     below: &[u32],
     from: &[u32],
     x: u8,
 ) -> u32
     requires { ⌜ (length (now rule) ≡ 12 + 20 * nodeCount (now rule)) × (x < nodeCount (now rule)) ⌝ }
-    ensures { λ r. ⌜ r ≡ advance (stampIn base (now (times .entry))) n (λ y. getD (now (below .entry)) y 0) (getD (now (from .entry)) x 0) (viewOf (nodeAt (now (rule .entry)) x)) ⌝ }
+    ensures { λ r. ⌜ r ≡ advance (stampIn base (now (times .entry))) log (λ y. getD (now (below .entry)) y 0) (getD (now (from .entry)) x 0) (viewOf (nodeAt (now (rule .entry)) x)) ⌝ }
 {
-    let m = least_of(below, n, rulenodes::children_at(rule, x));
+    let m = least_of(below, log.points, rulenodes::children_at(rule, x));
     let look = rulenodes::times_at(rule, x);
     match look {
         Times::Here => m,
-        Times::Before => one_more(n, m),
+        Times::Before => one_more(log.points, m),
         Times::After => less(m, 1),
         Times::Past => m,
-        Times::Future => until_of(rule, times, base, n, m, from, x),
+        Times::Future => until_of(rule, times, base, log, m, from, x),
     }
 }
 
 // The counts of every node of a rule, lowest first; words past them stay.
-pub fn counts(rule: &[u8], times: &[u32], base: Point, n: u32, from: &[u32], out: &mut [u32])
+pub fn counts(rule: &[u8], times: &[u32], base: Point, log: LogEnd, from: &[u32], out: &mut [u32])
     requires { ⌜ (length (now rule) ≡ 12 + 20 * nodeCount (now rule)) × (nodeCount (now rule) ≤ length (now out)) ⌝ }
-    ensures { λ _. ⌜ Filled (now (rule .entry)) (stampIn base (now (times .entry))) n (now (from .entry)) (now (out .entry)) (now (out .exit)) ⌝ }
+    ensures { λ _. ⌜ Filled (now (rule .entry)) (stampIn base (now (times .entry))) log (now (from .entry)) (now (out .entry)) (now (out .exit)) ⌝ }
 {
     let nodes = rule[2];
     let mut x: u8 = 0;
     while x < nodes {
         let k = x as usize;
-        out[k] = count_of(rule, times, base, n, &out[0..k], from, x);
+        out[k] = count_of(rule, times, base, log, &out[0..k], from, x);
         x += 1;
     }
+}
+
+// How many points words add: an event one, which has two words or more, and a notice, which is one word, none.
+pub fn points_added(words: &[u32]) -> u32
+    ensures { λ r. ⌜ r ≡ pointsAdded (now (words .entry)) ⌝ }
+{
+    if 1 < words.len() { 1 } else { 0 }
 }

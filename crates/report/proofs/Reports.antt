@@ -15,7 +15,7 @@ use Rattle.meaning.specs.Formula.{free, variables}
 use Rattle.meaning.specs.RuleFile.{nodeCount, lastNode, pattern}
 use Rattle.meaning.specs.Event.{isEvent, rowCount, rowFits}
 use Rattle.meaning.specs.Report.{reportWords, pointsIn}
-use Rattle.meaning.specs.Keeper.{reportRow, weighRows, weighCrowds, admitted, weighed}
+use Rattle.meaning.specs.Keeper.{Fed, event, notice, reportRow, weighRows, weighCrowds, admitted, admits, weighed, backlogOf}
 use Rattle.meaning.specs.declared.Point.{Point}
 use Rattle.meaning.specs.declared.Stamp.{Stamp}
 use Rattle.meaning.proofs.Accepted.{last-is-node}
@@ -23,9 +23,9 @@ use Rattle.meaning.proofs.Points.{from-first}
 use Rattle.meaning.proofs.Rows.{neither}
 use Rattle.method.specs.Stored.{Stored}
 use Rattle.method.specs.Settle.{rowsOfTurn}
-use Rattle.method.specs.Step.{countBefore, openStored, stampsNow, countAfter, turn, storedNow, crowdedNow, reportedNow, reportNow, latestStored, answerNow}
+use Rattle.method.specs.Step.{wordsOf, pointsAdded, countBefore, openStored, stampsNow, countAfter, turn, storedNow, crowdedNow, reportedNow, reportNow, answerNow}
 use Rattle.method.specs.WellFormed.{wellFormed, Formed}
-use Rattle.method.proofs.Bounds.{after-most}
+use Rattle.method.proofs.Bounds.{one-added, after-most}
 use Rattle.method.proofs.Formed.{formed}
 use Rattle.method.proofs.Sets.{turn-rows}
 use Rattle.report.specs.Reports.{longestReport, Reports}
@@ -95,7 +95,7 @@ module _ (s : Stored) (f : Formed s) (w : List ℕ) where
   -- no more points are newly settled than were open, and the new one
   new-points : countAfter s w last - countBefore s last ≤ 33
   unfolding openStored
-  new-points = omega (arith, f .few-open, after-most s (f .accepted .0) (f .accepted .1) (f .few-times) (f .times-many) w last last-node)
+  new-points = omega (arith, f .few-open, after-most s (f .accepted .0) (f .accepted .1) (f .few-times) (f .times-many) w last last-node, one-added w)
 
   made : WellMade width (reportedNow s w)
   made = well-made (free (pattern b)) (stampsNow s w) (rowsOfTurn (turn s w last)) (turn-rows s f w last last-node) (point (countBefore s last)) (countAfter s w last - countBefore s last) new-points
@@ -114,18 +114,26 @@ module _ (s : Stored) (f : Formed s) (w : List ℕ) where
       let rows : rowTotal (reportedNow s w) ≤ mostRows * (countAfter s w last - countBefore s last) = rows-few (free (pattern b)) (stampsNow s w) (rowsOfTurn (turn s w last)) (point (countBefore s last)) (countAfter s w last - countBefore s last) e in
       rw (report-is, words-length width (reportedNow s w) (made .widths)) (omega (arith, made .few-points, new-points, mul-le-mul-right (rowTotal (reportedNow s w)) (made .few-free)))
 
-  fits : (room : ℕ) → longestReport ≤ room → NotShort (answerNow s w room)
-  unfolding answerNow
-  fits room h =
-      admitted-on b w (latestStored s w) (s .points) _
-      (weighed-on (crowdedNow s w) (nodeCount b) (s .points + 1 - countAfter s w last) (length (storedNow s w .entries)) (length (reportNow s w)) room (λ calm. omega (arith, few-words (calm last last-node))))
+-- the first refusals aren't 16
+admits-on : (b : List ℕ) (f : Fed) (last : Stamp) (points : ℕ) (rest : Outcome ℕ) → NotShort rest → NotShort (admits b f last points rest)
+admits-on b (event w) last points rest h = admitted-on b w last points rest h
+admits-on b (notice t) last points rest h = go-on (ltb t (last .0)) 11 0 rest (λ e. omega arith) (λ u. h)
 
-pub reports : (s : Stored) → wellFormed s ≡ true → (w : List ℕ) → Reports s w
-reports s ok w =
+fits : (s : Stored) (k : Formed s) (f : Fed) (room : ℕ) → longestReport ≤ room → NotShort (answerNow s f room)
+unfolding answerNow
+fits s k f room h =
+    let w : List ℕ = wordsOf f in
+    let x : ℕ = lastNode (s .rule) in
+    admits-on (s .rule) f (s .latest) (s .points) _
+    (weighed-on (crowdedNow s w) (nodeCount (s .rule)) (backlogOf f (s .points + pointsAdded w - countAfter s w x)) (length (storedNow s w .entries)) (length (reportNow s w)) room (λ calm. omega (arith, few-words s k w (calm x (last-node s k w)))))
+
+pub reports : (s : Stored) → wellFormed s ≡ true → (f : Fed) → Reports s f
+reports s ok f =
+    let w : List ℕ = wordsOf f in
     record {
       few-points = few-points s (formed s ok) w;
       in-form = λ rest. rw (report-is s (formed s ok) w) (in-form _ (reportedNow s w) rest (made s (formed s ok) w));
       reads-back = λ rest. rw (report-is s (formed s ok) w) (read-back _ (reportedNow s w) rest (made s (formed s ok) w));
       few-words = few-words s (formed s ok) w;
-      never-short = λ room place h e. subst NotShort e (fits s (formed s ok) w room h) refl;
+      never-short = λ room place h e. subst NotShort e (fits s (formed s ok) f room h) refl;
     }

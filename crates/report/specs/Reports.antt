@@ -10,7 +10,8 @@ use Rattle.meaning.specs.Log.{point, stamp}
 use Rattle.meaning.specs.RuleFile.{lastNode}
 use Rattle.meaning.specs.Report.{Reported, pointsIn, pointIn, countIn, rowsIn, inForm, readCount, readRows}
 use Rattle.method.specs.Stored.{Stored}
-use Rattle.method.specs.Step.{crowdedNow, reportedNow, reportNow, answerNow}
+use Rattle.meaning.specs.Keeper.{Fed}
+use Rattle.method.specs.Step.{wordsOf, crowdedNow, reportedNow, reportNow, answerNow}
 
 -- "The report buffer has 4,326 words, so 16 is never printed": 3 words, and 33 points of 3 words and 32 rows of 4
 abbrev pub longestReport : ℕ
@@ -29,14 +30,14 @@ pub record ReadsBack (r : List ℕ) (k : ℕ) (e : Reported) : Type 0 where
 abbrev pub nothing : Reported
 nothing = record { at = point 0; time = stamp 0; rows = [] }
 
--- The report of a call with event words w, for any w.
-pub record Reports (s : Stored) (w : List ℕ) : Type 0 where
+-- The report of a call with what is fed, an event's words or a notice's time, for any of them.
+pub record Reports (s : Stored) (f : Fed) : Type 0 where
   -- "P points (0 to 33)"
-  pub few-points : pointsIn (reportNow s w) ≤ mostReported
+  pub few-points : pointsIn (reportNow s (wordsOf f)) ≤ mostReported
   -- "trailing words are ignored": in form, and read back, whatever words follow
-  pub in-form : (rest : List ℕ) → inForm (reportNow s w ++ rest) ≡ true
-  pub reads-back : (rest : List ℕ) (k : ℕ) → k < length (reportedNow s w) → ReadsBack (reportNow s w ++ rest) k (getD (reportedNow s w) k nothing)
+  pub in-form : (rest : List ℕ) → inForm (reportNow s (wordsOf f) ++ rest) ≡ true
+  pub reads-back : (rest : List ℕ) (k : ℕ) → k < length (reportedNow s (wordsOf f)) → ReadsBack (reportNow s (wordsOf f) ++ rest) k (getD (reportedNow s (wordsOf f)) k nothing)
   -- where 13 doesn't apply to the last node
-  pub few-words : crowdedNow s w (lastNode (s .rule)) ≡ false → length (reportNow s w) ≤ longestReport
+  pub few-words : crowdedNow s (wordsOf f) (lastNode (s .rule)) ≡ false → length (reportNow s (wordsOf f)) ≤ longestReport
   -- a buffer of so many words never meets 16
-  pub never-short : (room place : ℕ) → longestReport ≤ room → answerNow s w room ≡ refused bufferShort place → ⊥
+  pub never-short : (room place : ℕ) → longestReport ≤ room → answerNow s f room ≡ refused bufferShort place → ⊥

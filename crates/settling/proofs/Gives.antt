@@ -7,7 +7,7 @@ use mathlib.Core.List.{List, [], _++_, map, cons≢nil}
 use lib.Dec.{ltb, eqb}
 use borrow.Author.Tests.{ltb-true}
 use Rattle.meaning.specs.Lists.{range, select}
-use Rattle.meaning.specs.Log.{elapsed, pointBefore, pointAfter}
+use Rattle.meaning.specs.Log.{relationIn, elapsed, pointBefore, pointAfter}
 use Rattle.meaning.specs.Event.{rowCount, rowOf}
 use Rattle.meaning.specs.Formula.{atom, termsOf, inWindow, compares}
 use Rattle.meaning.specs.Definition2.{value}
@@ -71,7 +71,7 @@ module _ (b w rows at times : List ℕ) (base : Point) (oldAges oldValues : List
 
   -- the rows that node's kind gives
   abbrev pub given : Node → List (List ℕ)
-  given (Atom r t) = atomRows r (termsOf t) (map (rowOf b w) (range 0 (rowCount w)))
+  given (Atom r t) = atomRows (termsOf t) (relationIn r (map (rowOf b w) (range 0 (rowCount w))))
   given (And x y) = andRows (inMask (left .mask)) (inMask (right .mask)) (childSet rows at left i) (childSet rows at right i)
   given (AndNot x y) = select (λ u. not (lookUp (cutTo (inMask (right .mask)) (valuationOf u)) (childSet rows at right i))) (childSet rows at left i)
   given (Keep x c s) = select (λ u. compares c (value (valuationOf u) (s .first)) (value (valuationOf u) (s .second))) (childSet rows at left i)
@@ -117,7 +117,7 @@ module _ (b w rows at times : List ℕ) (base : Point) (oldAges oldValues : List
 
     -- a Inputs that say what stands gives the same
     given-same : (node : Node) → asked b w rows at oldAges oldValues left right start i node → InputsStand v b w rows at times base left right node → given node ≡ candidates v (heldIn oldAges oldValues) start i node
-    given-same (Atom r t) d s = ap (atomRows r (termsOf t)) (sym (s .event))
+    given-same (Atom r t) d s = ap (atomRows (termsOf t)) (sym (s .event r))
     given-same (And x y) d s =
         let (p, q) = s .children in
         let (h, k) = d .children in

@@ -6,7 +6,7 @@ use mathlib.Core.List.{List, [], _∷_, map}
 use lib.ListN.{length}
 use Rattle.meaning.specs.Lists.{range}
 use Rattle.meaning.specs.Outcome.{mostRows}
-use Rattle.meaning.specs.Log.{point, pointBefore}
+use Rattle.meaning.specs.Log.{relationIn, point, pointBefore}
 use Rattle.meaning.specs.Order.{ascending}
 use Rattle.meaning.specs.Event.{rowCount, rowOf}
 use Rattle.meaning.specs.View.{viewOf}
@@ -44,7 +44,7 @@ ChildrenInputs v rows at (x ∷ y ∷ ys) left right = ChildInputs v rows at x l
 -- Inputs say of the log, the event and the node's children what stands in the words; b is the rule's bytes and w the event's words
 pub record InputsStand (v : Inputs) (b w rows at times : List ℕ) (base : Point) (left right : Child) (node : Node) : Type 0 where
   pub stamps : v .stamps ≡ stampIn base times
-  pub event : v .event ≡ map (rowOf b w) (range 0 (rowCount w))
+  pub event : (r : ℕ) → v .event r ≡ relationIn r (map (rowOf b w) (range 0 (rowCount w)))
   pub children : ChildrenInputs v rows at (childrenOf node) left right
 
 -- what must stand of a child's sets for a node at point i, whose first newly settled point is start

@@ -1,5 +1,6 @@
 // The walk over a rule's tree in a call: a node's children first, of two the heavier first, then the node itself, whose sets take the place of its children's.
 use meaning::Children;
+use meaning::LogEnd;
 use node_step::NO_NODE;
 use node_step::NODE_WORDS;
 use node_step::Place;
@@ -127,7 +128,7 @@ fn climb(
     numbers: &[u32],
     values: &[u32],
     stamps: &[u32],
-    points: u32,
+    log: LogEnd,
     event: &[u32],
     rows: &mut [u32],
     at: &mut [u32],
@@ -138,9 +139,9 @@ fn climb(
     h: usize,
     p: Place,
 ) -> Place
-    requires { ⌜ CallReady (called (now rule) points (now stamps) (now owners) (now numbers) (now values)) (now event) (now owners) (now numbers) (now values) (now stamps) (now figures) ⌝ }
-    requires { ⌜ FirstWalked (called (now rule) points (now stamps) (now owners) (now numbers) (now values)) (now event) (now rows) (now at) (now «out_numbers») (now «out_values») (now blocks) x h p ⌝ }
-    ensures { λ r. ⌜ Climbs (called (now (rule .entry)) points (now (stamps .entry)) (now (owners .entry)) (now (numbers .entry)) (now (values .entry))) (now (event .entry)) x h (now (rows .entry)) (now (at .entry)) (now («out_numbers» .entry)) (now («out_values» .entry)) (now (blocks .entry)) p (now (rows .exit)) (now (at .exit)) (now («out_numbers» .exit)) (now («out_values» .exit)) (now (blocks .exit)) r ⌝ }
+    requires { ⌜ CallReady (called (now rule) log (now stamps) (now owners) (now numbers) (now values)) (now event) (now owners) (now numbers) (now values) (now stamps) (now figures) ⌝ }
+    requires { ⌜ FirstWalked (called (now rule) log (now stamps) (now owners) (now numbers) (now values)) (now event) (now rows) (now at) (now «out_numbers») (now «out_values») (now blocks) x h p ⌝ }
+    ensures { λ r. ⌜ Climbs (called (now (rule .entry)) log (now (stamps .entry)) (now (owners .entry)) (now (numbers .entry)) (now (values .entry))) (now (event .entry)) x h (now (rows .entry)) (now (at .entry)) (now («out_numbers» .entry)) (now («out_values» .entry)) (now (blocks .entry)) p (now (rows .exit)) (now (at .exit)) (now («out_numbers» .exit)) (now («out_values» .exit)) (now (blocks .exit)) r ⌝ }
 {
     let children = children_at(rule, x);
     match children {
@@ -164,7 +165,7 @@ fn climb(
                 numbers,
                 values,
                 stamps,
-                points,
+                log,
                 event,
                 rows,
                 at,
@@ -186,7 +187,7 @@ fn climb(
                 numbers,
                 values,
                 stamps,
-                points,
+                log,
                 event,
                 rows,
                 at,
@@ -215,7 +216,7 @@ fn climb(
                 numbers,
                 values,
                 stamps,
-                points,
+                log,
                 event,
                 rows,
                 at,
@@ -237,7 +238,7 @@ fn second_tree(
     numbers: &[u32],
     values: &[u32],
     stamps: &[u32],
-    points: u32,
+    log: LogEnd,
     event: &[u32],
     rows: &mut [u32],
     at: &mut [u32],
@@ -248,9 +249,9 @@ fn second_tree(
     h: usize,
     kept: usize,
 ) -> Place
-    requires { ⌜ CallReady (called (now rule) points (now stamps) (now owners) (now numbers) (now values)) (now event) (now owners) (now numbers) (now values) (now stamps) (now figures) ⌝ }
-    requires { ⌜ TreeReady (called (now rule) points (now stamps) (now owners) (now numbers) (now values)) (now event) (now rows) (now at) (now «out_numbers») (now «out_values») (now blocks) x h kept ⌝ }
-    ensures { λ r. ⌜ TreeWalks (called (now (rule .entry)) points (now (stamps .entry)) (now (owners .entry)) (now (numbers .entry)) (now (values .entry))) (now (event .entry)) x h (now (rows .entry)) (now (at .entry)) (now (rows .exit)) (now (at .exit)) (now («out_numbers» .entry)) (now («out_values» .entry)) (now (blocks .entry)) (now («out_numbers» .exit)) (now («out_values» .exit)) (now (blocks .exit)) kept r ⌝ }
+    requires { ⌜ CallReady (called (now rule) log (now stamps) (now owners) (now numbers) (now values)) (now event) (now owners) (now numbers) (now values) (now stamps) (now figures) ⌝ }
+    requires { ⌜ TreeReady (called (now rule) log (now stamps) (now owners) (now numbers) (now values)) (now event) (now rows) (now at) (now «out_numbers») (now «out_values») (now blocks) x h kept ⌝ }
+    ensures { λ r. ⌜ TreeWalks (called (now (rule .entry)) log (now (stamps .entry)) (now (owners .entry)) (now (numbers .entry)) (now (values .entry))) (now (event .entry)) x h (now (rows .entry)) (now (at .entry)) (now (rows .exit)) (now (at .exit)) (now («out_numbers» .entry)) (now («out_values» .entry)) (now (blocks .entry)) (now («out_numbers» .exit)) (now («out_values» .exit)) (now (blocks .exit)) kept r ⌝ }
 {
     let children = children_at(rule, x);
     let Children::None = children else {
@@ -261,7 +262,7 @@ fn second_tree(
             numbers,
             values,
             stamps,
-            points,
+            log,
             event,
             rows,
             at,
@@ -280,7 +281,7 @@ fn second_tree(
         numbers,
         values,
         stamps,
-        points,
+        log,
         event,
         rows,
         at,
@@ -301,7 +302,7 @@ fn tree(
     numbers: &[u32],
     values: &[u32],
     stamps: &[u32],
-    points: u32,
+    log: LogEnd,
     event: &[u32],
     rows: &mut [u32],
     at: &mut [u32],
@@ -312,9 +313,9 @@ fn tree(
     h: usize,
     kept: usize,
 ) -> Place
-    requires { ⌜ CallReady (called (now rule) points (now stamps) (now owners) (now numbers) (now values)) (now event) (now owners) (now numbers) (now values) (now stamps) (now figures) ⌝ }
-    requires { ⌜ TreeReady (called (now rule) points (now stamps) (now owners) (now numbers) (now values)) (now event) (now rows) (now at) (now «out_numbers») (now «out_values») (now blocks) x h kept ⌝ }
-    ensures { λ r. ⌜ TreeWalks (called (now (rule .entry)) points (now (stamps .entry)) (now (owners .entry)) (now (numbers .entry)) (now (values .entry))) (now (event .entry)) x h (now (rows .entry)) (now (at .entry)) (now (rows .exit)) (now (at .exit)) (now («out_numbers» .entry)) (now («out_values» .entry)) (now (blocks .entry)) (now («out_numbers» .exit)) (now («out_values» .exit)) (now (blocks .exit)) kept r ⌝ }
+    requires { ⌜ CallReady (called (now rule) log (now stamps) (now owners) (now numbers) (now values)) (now event) (now owners) (now numbers) (now values) (now stamps) (now figures) ⌝ }
+    requires { ⌜ TreeReady (called (now rule) log (now stamps) (now owners) (now numbers) (now values)) (now event) (now rows) (now at) (now «out_numbers») (now «out_values») (now blocks) x h kept ⌝ }
+    ensures { λ r. ⌜ TreeWalks (called (now (rule .entry)) log (now (stamps .entry)) (now (owners .entry)) (now (numbers .entry)) (now (values .entry))) (now (event .entry)) x h (now (rows .entry)) (now (at .entry)) (now (rows .exit)) (now (at .exit)) (now («out_numbers» .entry)) (now («out_values» .entry)) (now (blocks .entry)) (now («out_numbers» .exit)) (now («out_values» .exit)) (now (blocks .exit)) kept r ⌝ }
 {
     let mut path = [0u8; meaning::MOST_NODES];
     let mut k = descend(rule, figures, &mut path, x);
@@ -325,7 +326,7 @@ fn tree(
         numbers,
         values,
         stamps,
-        points,
+        log,
         event,
         rows,
         at,
@@ -345,7 +346,7 @@ fn tree(
             numbers,
             values,
             stamps,
-            points,
+            log,
             event,
             rows,
             at,
@@ -368,7 +369,7 @@ pub fn walk(
     numbers: &[u32],
     values: &[u32],
     stamps: &[u32],
-    points: u32,
+    log: LogEnd,
     event: &[u32],
     rows: &mut [u32],
     at: &mut [u32],
@@ -376,10 +377,10 @@ pub fn walk(
     out_values: &mut [u32],
     blocks: &mut [u32],
 ) -> Place
-    requires { ⌜ CallReady (called (now rule) points (now stamps) (now owners) (now numbers) (now values)) (now event) (now owners) (now numbers) (now values) (now stamps) (now figures) ⌝ }
-    requires { ⌜ (rowsNeeded (called (now rule) points (now stamps) (now owners) (now numbers) (now values)) (now event) * 4 ≤ length (now rows)) × (marksNeeded (called (now rule) points (now stamps) (now owners) (now numbers) (now values)) (now event) < length (now at)) ⌝ }
-    requires { ⌜ OutThere (called (now rule) points (now stamps) (now owners) (now numbers) (now values)) (now event) (now «out_numbers») (now «out_values») (now blocks) 0 ⌝ }
-    ensures { λ r. ⌜ Walked (called (now (rule .entry)) points (now (stamps .entry)) (now (owners .entry)) (now (numbers .entry)) (now (values .entry))) (now (event .entry)) (now (rows .exit)) (now (at .exit)) (now («out_numbers» .exit)) (now («out_values» .exit)) (now (blocks .exit)) (length (now («out_numbers» .entry))) r ⌝ }
+    requires { ⌜ CallReady (called (now rule) log (now stamps) (now owners) (now numbers) (now values)) (now event) (now owners) (now numbers) (now values) (now stamps) (now figures) ⌝ }
+    requires { ⌜ (rowsNeeded (called (now rule) log (now stamps) (now owners) (now numbers) (now values)) (now event) * 4 ≤ length (now rows)) × (marksNeeded (called (now rule) log (now stamps) (now owners) (now numbers) (now values)) (now event) < length (now at)) ⌝ }
+    requires { ⌜ OutThere (called (now rule) log (now stamps) (now owners) (now numbers) (now values)) (now event) (now «out_numbers») (now «out_values») (now blocks) 0 ⌝ }
+    ensures { λ r. ⌜ Walked (called (now (rule .entry)) log (now (stamps .entry)) (now (owners .entry)) (now (numbers .entry)) (now (values .entry))) (now (event .entry)) (now (rows .exit)) (now (at .exit)) (now («out_numbers» .exit)) (now («out_values» .exit)) (now (blocks .exit)) (length (now («out_numbers» .entry))) r ⌝ }
 {
     at[0] = 0;
     let x = rule[2] - 1;
@@ -390,7 +391,7 @@ pub fn walk(
         numbers,
         values,
         stamps,
-        points,
+        log,
         event,
         rows,
         at,

@@ -2,6 +2,7 @@
 use call::Settled;
 use limits::Refusal;
 use limits::Weighed;
+use meaning::LogEnd;
 use meaning::MOST_KEPT;
 use meaning::MOST_NODES;
 use node_step::SET_WORDS;
@@ -65,7 +66,7 @@ struct Needs {
 
 // How often a room's function calls itself: never, which the compiler can't tell. It merges a function that is called in one place into its caller, and then every event would take the frame of the largest room; one that calls itself stays apart. A log has at most 10,000,000 points.
 fn never(points: u32) -> u32
-    requires { ⌜ points < mostPoints ⌝ }
+    requires { ⌜ points ≤ mostPoints ⌝ }
     ensures { λ r. ⌜ r ≡ 0 ⌝ }
 {
     points / 4_000_000_000
@@ -77,7 +78,7 @@ fn settle_small_few(
     rule: &[u8],
     figures: &[u32],
     stamps: &[u32],
-    points: u32,
+    log: LogEnd,
     event: &[u32],
     owners: &mut [u32],
     numbers: &mut [u32],
@@ -86,9 +87,9 @@ fn settle_small_few(
     report: &mut [u32],
 ) -> Settled
     requires { ⌜ again ≡ 0 ⌝ }
-    requires { ⌜ ReadyIn (now rule) points (now stamps) (now owners) (now numbers) (now values) count (now event) (now figures) ⌝ }
-    requires { ⌜ CallFits (callIn (now rule) points (now stamps) (now owners) (now numbers) (now values) count) (now event) smallRows fewMarks ⌝ }
-    ensures { λ r. ⌜ Tried (callIn (now (rule .entry)) points (now (stamps .entry)) (now (owners .entry)) (now (numbers .entry)) (now (values .entry)) count) (now (event .entry)) (now (report .entry)) (now (report .exit)) (now (owners .entry)) (now (numbers .entry)) (now (values .entry)) (now (owners .exit)) (now (numbers .exit)) (now (values .exit)) r ⌝ }
+    requires { ⌜ ReadyIn (now rule) log (now stamps) (now owners) (now numbers) (now values) count (now event) (now figures) ⌝ }
+    requires { ⌜ CallFits (callIn (now rule) log (now stamps) (now owners) (now numbers) (now values) count) (now event) smallRows fewMarks ⌝ }
+    ensures { λ r. ⌜ Tried (callIn (now (rule .entry)) log (now (stamps .entry)) (now (owners .entry)) (now (numbers .entry)) (now (values .entry)) count) (now (event .entry)) (now (report .entry)) (now (report .exit)) (now (owners .entry)) (now (numbers .entry)) (now (values .entry)) (now (owners .exit)) (now (numbers .exit)) (now (values .exit)) r ⌝ }
 {
     if 0 < again {
         return settle_small_few(
@@ -96,7 +97,7 @@ fn settle_small_few(
             rule,
             figures,
             stamps,
-            points,
+            log,
             event,
             owners,
             numbers,
@@ -114,7 +115,7 @@ fn settle_small_few(
         rule,
         figures,
         stamps,
-        points,
+        log,
         event,
         owners,
         numbers,
@@ -135,7 +136,7 @@ fn settle_double_few(
     rule: &[u8],
     figures: &[u32],
     stamps: &[u32],
-    points: u32,
+    log: LogEnd,
     event: &[u32],
     owners: &mut [u32],
     numbers: &mut [u32],
@@ -144,9 +145,9 @@ fn settle_double_few(
     report: &mut [u32],
 ) -> Settled
     requires { ⌜ again ≡ 0 ⌝ }
-    requires { ⌜ ReadyIn (now rule) points (now stamps) (now owners) (now numbers) (now values) count (now event) (now figures) ⌝ }
-    requires { ⌜ CallFits (callIn (now rule) points (now stamps) (now owners) (now numbers) (now values) count) (now event) doubleRows fewMarks ⌝ }
-    ensures { λ r. ⌜ Tried (callIn (now (rule .entry)) points (now (stamps .entry)) (now (owners .entry)) (now (numbers .entry)) (now (values .entry)) count) (now (event .entry)) (now (report .entry)) (now (report .exit)) (now (owners .entry)) (now (numbers .entry)) (now (values .entry)) (now (owners .exit)) (now (numbers .exit)) (now (values .exit)) r ⌝ }
+    requires { ⌜ ReadyIn (now rule) log (now stamps) (now owners) (now numbers) (now values) count (now event) (now figures) ⌝ }
+    requires { ⌜ CallFits (callIn (now rule) log (now stamps) (now owners) (now numbers) (now values) count) (now event) doubleRows fewMarks ⌝ }
+    ensures { λ r. ⌜ Tried (callIn (now (rule .entry)) log (now (stamps .entry)) (now (owners .entry)) (now (numbers .entry)) (now (values .entry)) count) (now (event .entry)) (now (report .entry)) (now (report .exit)) (now (owners .entry)) (now (numbers .entry)) (now (values .entry)) (now (owners .exit)) (now (numbers .exit)) (now (values .exit)) r ⌝ }
 {
     if 0 < again {
         return settle_double_few(
@@ -154,7 +155,7 @@ fn settle_double_few(
             rule,
             figures,
             stamps,
-            points,
+            log,
             event,
             owners,
             numbers,
@@ -172,7 +173,7 @@ fn settle_double_few(
         rule,
         figures,
         stamps,
-        points,
+        log,
         event,
         owners,
         numbers,
@@ -193,7 +194,7 @@ fn settle_small_some(
     rule: &[u8],
     figures: &[u32],
     stamps: &[u32],
-    points: u32,
+    log: LogEnd,
     event: &[u32],
     owners: &mut [u32],
     numbers: &mut [u32],
@@ -202,9 +203,9 @@ fn settle_small_some(
     report: &mut [u32],
 ) -> Settled
     requires { ⌜ again ≡ 0 ⌝ }
-    requires { ⌜ ReadyIn (now rule) points (now stamps) (now owners) (now numbers) (now values) count (now event) (now figures) ⌝ }
-    requires { ⌜ CallFits (callIn (now rule) points (now stamps) (now owners) (now numbers) (now values) count) (now event) smallRows fewMarks ⌝ }
-    ensures { λ r. ⌜ Tried (callIn (now (rule .entry)) points (now (stamps .entry)) (now (owners .entry)) (now (numbers .entry)) (now (values .entry)) count) (now (event .entry)) (now (report .entry)) (now (report .exit)) (now (owners .entry)) (now (numbers .entry)) (now (values .entry)) (now (owners .exit)) (now (numbers .exit)) (now (values .exit)) r ⌝ }
+    requires { ⌜ ReadyIn (now rule) log (now stamps) (now owners) (now numbers) (now values) count (now event) (now figures) ⌝ }
+    requires { ⌜ CallFits (callIn (now rule) log (now stamps) (now owners) (now numbers) (now values) count) (now event) smallRows fewMarks ⌝ }
+    ensures { λ r. ⌜ Tried (callIn (now (rule .entry)) log (now (stamps .entry)) (now (owners .entry)) (now (numbers .entry)) (now (values .entry)) count) (now (event .entry)) (now (report .entry)) (now (report .exit)) (now (owners .entry)) (now (numbers .entry)) (now (values .entry)) (now (owners .exit)) (now (numbers .exit)) (now (values .exit)) r ⌝ }
 {
     if 0 < again {
         return settle_small_some(
@@ -212,7 +213,7 @@ fn settle_small_some(
             rule,
             figures,
             stamps,
-            points,
+            log,
             event,
             owners,
             numbers,
@@ -230,7 +231,7 @@ fn settle_small_some(
         rule,
         figures,
         stamps,
-        points,
+        log,
         event,
         owners,
         numbers,
@@ -251,7 +252,7 @@ fn settle_medium_some(
     rule: &[u8],
     figures: &[u32],
     stamps: &[u32],
-    points: u32,
+    log: LogEnd,
     event: &[u32],
     owners: &mut [u32],
     numbers: &mut [u32],
@@ -260,9 +261,9 @@ fn settle_medium_some(
     report: &mut [u32],
 ) -> Settled
     requires { ⌜ again ≡ 0 ⌝ }
-    requires { ⌜ ReadyIn (now rule) points (now stamps) (now owners) (now numbers) (now values) count (now event) (now figures) ⌝ }
-    requires { ⌜ CallFits (callIn (now rule) points (now stamps) (now owners) (now numbers) (now values) count) (now event) mediumRows someMarks ⌝ }
-    ensures { λ r. ⌜ Tried (callIn (now (rule .entry)) points (now (stamps .entry)) (now (owners .entry)) (now (numbers .entry)) (now (values .entry)) count) (now (event .entry)) (now (report .entry)) (now (report .exit)) (now (owners .entry)) (now (numbers .entry)) (now (values .entry)) (now (owners .exit)) (now (numbers .exit)) (now (values .exit)) r ⌝ }
+    requires { ⌜ ReadyIn (now rule) log (now stamps) (now owners) (now numbers) (now values) count (now event) (now figures) ⌝ }
+    requires { ⌜ CallFits (callIn (now rule) log (now stamps) (now owners) (now numbers) (now values) count) (now event) mediumRows someMarks ⌝ }
+    ensures { λ r. ⌜ Tried (callIn (now (rule .entry)) log (now (stamps .entry)) (now (owners .entry)) (now (numbers .entry)) (now (values .entry)) count) (now (event .entry)) (now (report .entry)) (now (report .exit)) (now (owners .entry)) (now (numbers .entry)) (now (values .entry)) (now (owners .exit)) (now (numbers .exit)) (now (values .exit)) r ⌝ }
 {
     if 0 < again {
         return settle_medium_some(
@@ -270,7 +271,7 @@ fn settle_medium_some(
             rule,
             figures,
             stamps,
-            points,
+            log,
             event,
             owners,
             numbers,
@@ -288,7 +289,7 @@ fn settle_medium_some(
         rule,
         figures,
         stamps,
-        points,
+        log,
         event,
         owners,
         numbers,
@@ -309,7 +310,7 @@ fn settle_medium_many(
     rule: &[u8],
     figures: &[u32],
     stamps: &[u32],
-    points: u32,
+    log: LogEnd,
     event: &[u32],
     owners: &mut [u32],
     numbers: &mut [u32],
@@ -318,9 +319,9 @@ fn settle_medium_many(
     report: &mut [u32],
 ) -> Settled
     requires { ⌜ again ≡ 0 ⌝ }
-    requires { ⌜ ReadyIn (now rule) points (now stamps) (now owners) (now numbers) (now values) count (now event) (now figures) ⌝ }
-    requires { ⌜ CallFits (callIn (now rule) points (now stamps) (now owners) (now numbers) (now values) count) (now event) mediumRows marks ⌝ }
-    ensures { λ r. ⌜ Tried (callIn (now (rule .entry)) points (now (stamps .entry)) (now (owners .entry)) (now (numbers .entry)) (now (values .entry)) count) (now (event .entry)) (now (report .entry)) (now (report .exit)) (now (owners .entry)) (now (numbers .entry)) (now (values .entry)) (now (owners .exit)) (now (numbers .exit)) (now (values .exit)) r ⌝ }
+    requires { ⌜ ReadyIn (now rule) log (now stamps) (now owners) (now numbers) (now values) count (now event) (now figures) ⌝ }
+    requires { ⌜ CallFits (callIn (now rule) log (now stamps) (now owners) (now numbers) (now values) count) (now event) mediumRows marks ⌝ }
+    ensures { λ r. ⌜ Tried (callIn (now (rule .entry)) log (now (stamps .entry)) (now (owners .entry)) (now (numbers .entry)) (now (values .entry)) count) (now (event .entry)) (now (report .entry)) (now (report .exit)) (now (owners .entry)) (now (numbers .entry)) (now (values .entry)) (now (owners .exit)) (now (numbers .exit)) (now (values .exit)) r ⌝ }
 {
     if 0 < again {
         return settle_medium_many(
@@ -328,7 +329,7 @@ fn settle_medium_many(
             rule,
             figures,
             stamps,
-            points,
+            log,
             event,
             owners,
             numbers,
@@ -346,7 +347,7 @@ fn settle_medium_many(
         rule,
         figures,
         stamps,
-        points,
+        log,
         event,
         owners,
         numbers,
@@ -367,7 +368,7 @@ fn settle_usual_many(
     rule: &[u8],
     figures: &[u32],
     stamps: &[u32],
-    points: u32,
+    log: LogEnd,
     event: &[u32],
     owners: &mut [u32],
     numbers: &mut [u32],
@@ -376,9 +377,9 @@ fn settle_usual_many(
     report: &mut [u32],
 ) -> Settled
     requires { ⌜ again ≡ 0 ⌝ }
-    requires { ⌜ ReadyIn (now rule) points (now stamps) (now owners) (now numbers) (now values) count (now event) (now figures) ⌝ }
-    requires { ⌜ CallFits (callIn (now rule) points (now stamps) (now owners) (now numbers) (now values) count) (now event) usualRows marks ⌝ }
-    ensures { λ r. ⌜ Tried (callIn (now (rule .entry)) points (now (stamps .entry)) (now (owners .entry)) (now (numbers .entry)) (now (values .entry)) count) (now (event .entry)) (now (report .entry)) (now (report .exit)) (now (owners .entry)) (now (numbers .entry)) (now (values .entry)) (now (owners .exit)) (now (numbers .exit)) (now (values .exit)) r ⌝ }
+    requires { ⌜ ReadyIn (now rule) log (now stamps) (now owners) (now numbers) (now values) count (now event) (now figures) ⌝ }
+    requires { ⌜ CallFits (callIn (now rule) log (now stamps) (now owners) (now numbers) (now values) count) (now event) usualRows marks ⌝ }
+    ensures { λ r. ⌜ Tried (callIn (now (rule .entry)) log (now (stamps .entry)) (now (owners .entry)) (now (numbers .entry)) (now (values .entry)) count) (now (event .entry)) (now (report .entry)) (now (report .exit)) (now (owners .entry)) (now (numbers .entry)) (now (values .entry)) (now (owners .exit)) (now (numbers .exit)) (now (values .exit)) r ⌝ }
 {
     if 0 < again {
         return settle_usual_many(
@@ -386,7 +387,7 @@ fn settle_usual_many(
             rule,
             figures,
             stamps,
-            points,
+            log,
             event,
             owners,
             numbers,
@@ -404,7 +405,7 @@ fn settle_usual_many(
         rule,
         figures,
         stamps,
-        points,
+        log,
         event,
         owners,
         numbers,
@@ -436,7 +437,7 @@ fn settle_large(
     rule: &[u8],
     figures: &[u32],
     stamps: &[u32],
-    points: u32,
+    log: LogEnd,
     event: &[u32],
     owners: &mut [u32],
     numbers: &mut [u32],
@@ -445,9 +446,9 @@ fn settle_large(
     report: &mut [u32],
 ) -> Weighed
     requires { ⌜ again ≡ 0 ⌝ }
-    requires { ⌜ ReadyIn (now rule) points (now stamps) (now owners) (now numbers) (now values) count (now event) (now figures) ⌝ }
-    requires { ⌜ CallFits (callIn (now rule) points (now stamps) (now owners) (now numbers) (now values) count) (now event) largeRows marks ⌝ }
-    ensures { λ r. ⌜ SettledCall (callIn (now (rule .entry)) points (now (stamps .entry)) (now (owners .entry)) (now (numbers .entry)) (now (values .entry)) count) (now (event .entry)) (now (report .entry)) (now (report .exit)) (now (owners .entry)) (now (numbers .entry)) (now (values .entry)) (now (owners .exit)) (now (numbers .exit)) (now (values .exit)) r ⌝ }
+    requires { ⌜ ReadyIn (now rule) log (now stamps) (now owners) (now numbers) (now values) count (now event) (now figures) ⌝ }
+    requires { ⌜ CallFits (callIn (now rule) log (now stamps) (now owners) (now numbers) (now values) count) (now event) largeRows marks ⌝ }
+    ensures { λ r. ⌜ SettledCall (callIn (now (rule .entry)) log (now (stamps .entry)) (now (owners .entry)) (now (numbers .entry)) (now (values .entry)) count) (now (event .entry)) (now (report .entry)) (now (report .exit)) (now (owners .entry)) (now (numbers .entry)) (now (values .entry)) (now (owners .exit)) (now (numbers .exit)) (now (values .exit)) r ⌝ }
 {
     if 0 < again {
         return settle_large(
@@ -455,7 +456,7 @@ fn settle_large(
             rule,
             figures,
             stamps,
-            points,
+            log,
             event,
             owners,
             numbers,
@@ -473,7 +474,7 @@ fn settle_large(
         rule,
         figures,
         stamps,
-        points,
+        log,
         event,
         owners,
         numbers,
@@ -495,7 +496,7 @@ fn settle_largest(
     rule: &[u8],
     figures: &[u32],
     stamps: &[u32],
-    points: u32,
+    log: LogEnd,
     event: &[u32],
     owners: &mut [u32],
     numbers: &mut [u32],
@@ -504,9 +505,9 @@ fn settle_largest(
     report: &mut [u32],
 ) -> Weighed
     requires { ⌜ again ≡ 0 ⌝ }
-    requires { ⌜ ReadyIn (now rule) points (now stamps) (now owners) (now numbers) (now values) count (now event) (now figures) ⌝ }
-    requires { ⌜ CallFits (callIn (now rule) points (now stamps) (now owners) (now numbers) (now values) count) (now event) largestRows marks ⌝ }
-    ensures { λ r. ⌜ SettledCall (callIn (now (rule .entry)) points (now (stamps .entry)) (now (owners .entry)) (now (numbers .entry)) (now (values .entry)) count) (now (event .entry)) (now (report .entry)) (now (report .exit)) (now (owners .entry)) (now (numbers .entry)) (now (values .entry)) (now (owners .exit)) (now (numbers .exit)) (now (values .exit)) r ⌝ }
+    requires { ⌜ ReadyIn (now rule) log (now stamps) (now owners) (now numbers) (now values) count (now event) (now figures) ⌝ }
+    requires { ⌜ CallFits (callIn (now rule) log (now stamps) (now owners) (now numbers) (now values) count) (now event) largestRows marks ⌝ }
+    ensures { λ r. ⌜ SettledCall (callIn (now (rule .entry)) log (now (stamps .entry)) (now (owners .entry)) (now (numbers .entry)) (now (values .entry)) count) (now (event .entry)) (now (report .entry)) (now (report .exit)) (now (owners .entry)) (now (numbers .entry)) (now (values .entry)) (now (owners .exit)) (now (numbers .exit)) (now (values .exit)) r ⌝ }
 {
     if 0 < again {
         return settle_largest(
@@ -514,7 +515,7 @@ fn settle_largest(
             rule,
             figures,
             stamps,
-            points,
+            log,
             event,
             owners,
             numbers,
@@ -532,7 +533,7 @@ fn settle_largest(
         rule,
         figures,
         stamps,
-        points,
+        log,
         event,
         owners,
         numbers,
@@ -568,7 +569,7 @@ fn settle_smaller(
     rule: &[u8],
     figures: &[u32],
     stamps: &[u32],
-    points: u32,
+    log: LogEnd,
     event: &[u32],
     owners: &mut [u32],
     numbers: &mut [u32],
@@ -578,9 +579,9 @@ fn settle_smaller(
     needs: Needs,
 ) -> Settled
     requires { ⌜ again ≡ 0 ⌝ }
-    requires { ⌜ ReadyIn (now rule) points (now stamps) (now owners) (now numbers) (now values) count (now event) (now figures) ⌝ }
-    requires { ⌜ NeedsAre (callIn (now rule) points (now stamps) (now owners) (now numbers) (now values) count) (now event) needs ⌝ }
-    ensures { λ r. ⌜ Tried (callIn (now (rule .entry)) points (now (stamps .entry)) (now (owners .entry)) (now (numbers .entry)) (now (values .entry)) count) (now (event .entry)) (now (report .entry)) (now (report .exit)) (now (owners .entry)) (now (numbers .entry)) (now (values .entry)) (now (owners .exit)) (now (numbers .exit)) (now (values .exit)) r ⌝ }
+    requires { ⌜ ReadyIn (now rule) log (now stamps) (now owners) (now numbers) (now values) count (now event) (now figures) ⌝ }
+    requires { ⌜ NeedsAre (callIn (now rule) log (now stamps) (now owners) (now numbers) (now values) count) (now event) needs ⌝ }
+    ensures { λ r. ⌜ Tried (callIn (now (rule .entry)) log (now (stamps .entry)) (now (owners .entry)) (now (numbers .entry)) (now (values .entry)) count) (now (event .entry)) (now (report .entry)) (now (report .exit)) (now (owners .entry)) (now (numbers .entry)) (now (values .entry)) (now (owners .exit)) (now (numbers .exit)) (now (values .exit)) r ⌝ }
 {
     if has_room(needs, SMALL_ROWS, FEW_MARKS, FEW_KEPT) {
         return settle_small_few(
@@ -588,7 +589,7 @@ fn settle_smaller(
             rule,
             figures,
             stamps,
-            points,
+            log,
             event,
             owners,
             numbers,
@@ -603,7 +604,7 @@ fn settle_smaller(
             rule,
             figures,
             stamps,
-            points,
+            log,
             event,
             owners,
             numbers,
@@ -618,7 +619,7 @@ fn settle_smaller(
             rule,
             figures,
             stamps,
-            points,
+            log,
             event,
             owners,
             numbers,
@@ -633,7 +634,7 @@ fn settle_smaller(
             rule,
             figures,
             stamps,
-            points,
+            log,
             event,
             owners,
             numbers,
@@ -648,7 +649,7 @@ fn settle_smaller(
             rule,
             figures,
             stamps,
-            points,
+            log,
             event,
             owners,
             numbers,
@@ -663,7 +664,7 @@ fn settle_smaller(
             rule,
             figures,
             stamps,
-            points,
+            log,
             event,
             owners,
             numbers,
@@ -681,7 +682,7 @@ fn settle_all(
     rule: &[u8],
     figures: &[u32],
     stamps: &[u32],
-    points: u32,
+    log: LogEnd,
     event: &[u32],
     owners: &mut [u32],
     numbers: &mut [u32],
@@ -691,9 +692,9 @@ fn settle_all(
     needs: Needs,
 ) -> Weighed
     requires { ⌜ again ≡ 0 ⌝ }
-    requires { ⌜ ReadyIn (now rule) points (now stamps) (now owners) (now numbers) (now values) count (now event) (now figures) ⌝ }
-    requires { ⌜ NeedsAre (callIn (now rule) points (now stamps) (now owners) (now numbers) (now values) count) (now event) needs ⌝ }
-    ensures { λ r. ⌜ SettledCall (callIn (now (rule .entry)) points (now (stamps .entry)) (now (owners .entry)) (now (numbers .entry)) (now (values .entry)) count) (now (event .entry)) (now (report .entry)) (now (report .exit)) (now (owners .entry)) (now (numbers .entry)) (now (values .entry)) (now (owners .exit)) (now (numbers .exit)) (now (values .exit)) r ⌝ }
+    requires { ⌜ ReadyIn (now rule) log (now stamps) (now owners) (now numbers) (now values) count (now event) (now figures) ⌝ }
+    requires { ⌜ NeedsAre (callIn (now rule) log (now stamps) (now owners) (now numbers) (now values) count) (now event) needs ⌝ }
+    ensures { λ r. ⌜ SettledCall (callIn (now (rule .entry)) log (now (stamps .entry)) (now (owners .entry)) (now (numbers .entry)) (now (values .entry)) count) (now (event .entry)) (now (report .entry)) (now (report .exit)) (now (owners .entry)) (now (numbers .entry)) (now (values .entry)) (now (owners .exit)) (now (numbers .exit)) (now (values .exit)) r ⌝ }
 {
     if needs.rows <= LARGE_ROWS {
         return settle_large(
@@ -701,7 +702,7 @@ fn settle_all(
             rule,
             figures,
             stamps,
-            points,
+            log,
             event,
             owners,
             numbers,
@@ -715,7 +716,7 @@ fn settle_all(
         rule,
         figures,
         stamps,
-        points,
+        log,
         event,
         owners,
         numbers,
@@ -730,7 +731,7 @@ pub fn settle_in_room(
     rule: &[u8],
     figures: &[u32],
     stamps: &[u32],
-    points: u32,
+    log: LogEnd,
     event: &[u32],
     owners: &mut [u32],
     numbers: &mut [u32],
@@ -739,23 +740,23 @@ pub fn settle_in_room(
     report: &mut [u32],
     needed: u32,
 ) -> Weighed
-    requires { ⌜ ReadyIn (now rule) points (now stamps) (now owners) (now numbers) (now values) count (now event) (now figures) ⌝ }
-    requires { ⌜ rowsNeeded (callIn (now rule) points (now stamps) (now owners) (now numbers) (now values) count) (now event) ≤ needed ⌝ }
-    ensures { λ r. ⌜ SettledCall (callIn (now (rule .entry)) points (now (stamps .entry)) (now (owners .entry)) (now (numbers .entry)) (now (values .entry)) count) (now (event .entry)) (now (report .entry)) (now (report .exit)) (now (owners .entry)) (now (numbers .entry)) (now (values .entry)) (now (owners .exit)) (now (numbers .exit)) (now (values .exit)) r ⌝ }
+    requires { ⌜ ReadyIn (now rule) log (now stamps) (now owners) (now numbers) (now values) count (now event) (now figures) ⌝ }
+    requires { ⌜ rowsNeeded (callIn (now rule) log (now stamps) (now owners) (now numbers) (now values) count) (now event) ≤ needed ⌝ }
+    ensures { λ r. ⌜ SettledCall (callIn (now (rule .entry)) log (now (stamps .entry)) (now (owners .entry)) (now (numbers .entry)) (now (values .entry)) count) (now (event .entry)) (now (report .entry)) (now (report .exit)) (now (owners .entry)) (now (numbers .entry)) (now (values .entry)) (now (owners .exit)) (now (numbers .exit)) (now (values .exit)) r ⌝ }
 {
     // `never` keeps each room's function apart from this one, so that a call has the frame of its own room alone.
-    let again = never(points);
+    let again = never(log.points);
     let needs = Needs {
         rows: needed as usize,
         marks: MARKS_TO_TIME * stamps.len(),
-        entries: count + event[1] as usize,
+        entries: count + kinds::row_total(event),
     };
     let tried = settle_smaller(
         again,
         rule,
         figures,
         stamps,
-        points,
+        log,
         event,
         owners,
         numbers,
@@ -771,7 +772,7 @@ pub fn settle_in_room(
             rule,
             figures,
             stamps,
-            points,
+            log,
             event,
             owners,
             numbers,

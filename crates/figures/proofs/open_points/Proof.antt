@@ -21,7 +21,7 @@ figures-fit-requires c κs = search needs
 returns : tie.Need-returns
 returns c =
     let a = c .before .before .before .before .before .before .before .args in
-    not-open _ (figures-out (now (a .rule)) (a .bytes) (a .points) (now (a .times)) (a .retained) (now (a .owners)) (now (a .numbers)) (now (a .values)) (a .count) (sym (c .before .figures-fit .ensures) ∙ not-true _ (c .if1 .taken)))
+    not-open _ (figures-out (now (a .rule)) (a .bytes) (a .log) (now (a .times)) (a .retained) (now (a .owners)) (now (a .numbers)) (now (a .values)) (a .count) (sym (c .before .figures-fit .ensures) ∙ not-true _ (c .if1 .taken)))
 
 sub-open-stored : tie.Need-sub-open-stored
 sub-open-stored c = search needs
@@ -52,7 +52,7 @@ returns-2 c =
     let l = c .before .before .before in
     let s = l .before .before .before .before .before .before .before in
     let a = s .args in
-    rw (front-parts (now (a .rule)) (a .bytes) (a .points) (now (a .times)) (a .retained) (now (a .owners)) (now (a .numbers)) (now (a .values)) (a .count) (omega (arith, s .pre, few l)) (omega (arith, s .pre, few l)))
+    rw (front-parts (now (a .rule)) (a .bytes) (a .log) (now (a .times)) (a .retained) (now (a .owners)) (now (a .numbers)) (now (a .values)) (a .count) (omega (arith, s .pre, few l)) (omega (arith, s .pre, few l)))
     at (c .open-stored .ensures)
 
 pub open-points-spec : {M : Type 1} → statement M

@@ -15,7 +15,7 @@ use Rattle.figures.proofs.open_stored.Tie as tie
 -- past the first test the state is well formed
 well : (c : tie.Else1)
     → let a = c .before .before .before .before .before .before .before .before .before .before .before .before .before .before .before .before .before .args in
-    wellFormed (storedIn (now (a .rule)) (a .points) (now (a .times)) (now (a .owners)) (now (a .numbers)) (now (a .values)) (a .count)) ≡ true
+    wellFormed (storedIn (now (a .rule)) (a .log) (now (a .times)) (now (a .owners)) (now (a .numbers)) (now (a .values)) (a .count)) ≡ true
 well c = sym (c .before .before .before .before .before .before .well-formed .ensures .0) ∙ not-false _ (c .if1 .left)
 
 slice-aggregate-well-formed : tie.Need-slice-aggregate-well-formed
@@ -55,10 +55,10 @@ array-read-t32 : tie.Need-array-read-t32
 array-read-t32 c = omega (arith, node-sizes (formed _ (well (c .before))))
 
 sub-t33 : tie.Need-sub-t33
-sub-t33 c = last-most _ (well (c .before)) (c .before .before .before .before .before .before .before .well-formed .ensures .1 .0 (not-false _ (c .before .if1 .left)))
+sub-t33 c = last-most _ (well (c .before .before)) (c .before .before .before .before .before .before .before .before .well-formed .ensures .1 .0 (not-false _ (c .before .before .if1 .left)))
 
 returns-2 : tie.Need-returns-2
-returns-2 c = open-counted _ (well (c .before)) (c .before .before .before .before .before .before .before .well-formed .ensures .1 .0 (not-false _ (c .before .if1 .left)))
+returns-2 c = open-counted _ (well (c .before .before)) (c .before .before .before .before .before .before .before .before .well-formed .ensures .1 .0 (not-false _ (c .before .before .if1 .left)))
 
 pub open-stored-spec : {M : Type 1} → statement M
 open-stored-spec =

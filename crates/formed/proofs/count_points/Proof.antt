@@ -15,4 +15,4 @@ count-points-spec =
     (λ c. search needs)
     (λ c.
     let s = c .before .before .before .before .before .before .before .before .before in
-    counted (s .args .rule .now) (s .args .points) (s .args .times .now) (s .pre .1) (c .before .before .before .before .before .less .ensures) (c .before .before .counts .ensures)))
+    counted (s .args .rule .now) (s .args .log) (s .args .times .now) (s .pre .1) (c .before .before .before .before .before .less .ensures) (c .before .before .counts .ensures)))

@@ -24,7 +24,7 @@ rule-is c = is-accepted _ (passes c)
 returns : tie.Need-returns
 returns c =
     let a = c .before .before .before .before .before .before .before .before .before .before .before .before .before .before .before .args in
-    (well-refused (a .rule .now) (a .points) (a .times .now) (a .owners .now) (a .numbers .now) (a .values .now) (a .count) (sym (c .before .before .before .accepts .ensures .0) ∙ not-true _ (c .if1 .taken)), (λ e. absurd (false≢true e), λ e. absurd (false≢true e)))
+    (well-refused (a .rule .now) (a .log) (a .times .now) (a .owners .now) (a .numbers .now) (a .values .now) (a .count) (sym (c .before .before .before .accepts .ensures .0) ∙ not-true _ (c .if1 .taken)), (λ e. absurd (false≢true e), λ e. absurd (false≢true e)))
 
 times-fit-requires : tie.Need-times-fit-requires
 times-fit-requires c κs =
@@ -36,7 +36,7 @@ returns-2 : tie.Need-returns-2
 returns-2 c =
     let p = c .before .before .before .before .before in
     let a = p .before .before .before .before .before .before .before .before .before .before .before .before .before .before .before .args in
-    (well-times (a .rule .now) (a .points) (a .times .now) (a .owners .now) (a .numbers .now) (a .values .now) (a .count) (passes p) (sym (c .before .before .before .times-fit .ensures .0) ∙ not-true _ (c .if2 .taken)), (λ e. absurd (false≢true e), λ e. absurd (false≢true e)))
+    (well-times (a .rule .now) (a .log) (a .times .now) (a .owners .now) (a .numbers .now) (a .values .now) (a .count) (passes p) (sym (c .before .before .before .times-fit .ensures .0) ∙ not-true _ (c .if2 .taken)), (λ e. absurd (false≢true e), λ e. absurd (false≢true e)))
 
 shared-slice-read-n : tie.Need-shared-slice-read-n
 shared-slice-read-n c = let (a, e) = rule-is (c .before .before .before .before .before .before) in omega (arith, accepted _ a e .long)
@@ -48,7 +48,7 @@ part-kept-fit-end c = let (a, e) = rule-is (c .before .before .before .before .b
 counts-stand : (c : tie.Else2) →
     let p = c .before .before .before .before .before in
     let a = p .before .before .before .before .before .before .before .before .before .before .before .before .before .before .before .args in
-    (a .points ≤ mostPoints) × CountsStand (a .rule .now) (a .points) (a .times .now) (c .before .before .before .times-fit .last .1 .1 .1 .0)
+    (a .log .points ≤ mostPoints) × CountsStand (a .rule .now) (a .log) (a .times .now) (c .before .before .before .times-fit .last .1 .1 .1 .0)
 counts-stand c = c .before .before .before .times-fit .ensures .1 (not-false _ (c .if2 .left))
 
 kept-fit-requires : tie.Need-kept-fit-requires
@@ -68,10 +68,10 @@ returns-3 c =
     let a = p .before .before .before .before .before .before .before .before .before .before .before .before .before .before .before .args in
     let k = counts-stand q .1 in
     let fit = c .before .before .before .before .before .before .kept-fit in (
-      fit .ensures .0 ∙ well-kept (a .rule .now) (a .points) (a .times .now) (a .owners .now) (a .numbers .now) (a .values .now) (a .count) (passes p) (sym (q .before .before .before .times-fit .ensures .0) ∙ not-false _ (q .if2 .left)) k,
+      fit .ensures .0 ∙ well-kept (a .rule .now) (a .log) (a .times .now) (a .owners .now) (a .numbers .now) (a .values .now) (a .count) (passes p) (sym (q .before .before .before .times-fit .ensures .0) ∙ not-false _ (q .if2 .left)) k,
       (
-        λ t. known (a .rule .now) (a .points) (a .times .now) (a .owners .now) (a .numbers .now) (a .values .now) (a .count) _ _ _ (p .before .before .before .accepts .ensures .1 (not-false _ (p .if1 .left))) k (fit .ensures .1 .0 t),
-        λ t. places (a .rule .now) (a .points) (a .times .now) (a .owners .now) (a .numbers .now) (a .values .now) (a .count) _ _ _ k (fit .ensures .1 .1 t),
+        λ t. known (a .rule .now) (a .log) (a .times .now) (a .owners .now) (a .numbers .now) (a .values .now) (a .count) _ _ _ (p .before .before .before .accepts .ensures .1 (not-false _ (p .if1 .left))) k (fit .ensures .1 .0 t),
+        λ t. places (a .rule .now) (a .log) (a .times .now) (a .owners .now) (a .numbers .now) (a .values .now) (a .count) _ _ _ k (fit .ensures .1 .1 t),
       ),
     )
 

@@ -1,13 +1,14 @@
 -- `atom_row` meets its contract: the relation is tested first.
 use mathlib.Core.Path.{_≡_, refl, ap₂}
-use mathlib.Core.Bool.{cond}
+use mathlib.Core.Bool.{cond, _&&_}
 use mathlib.Core.List.{[], _∷_}
+use lib.ListN.{take}
+use lib.Dec.{eqb}
 use borrow.Author.Tests.{eq-eqb, ne-eqb}
 use Rattle.meaning.specs.Formula.{termsOf}
 use Rattle.meaning.specs.Evaluator.{matches}
 use Rattle.rowset.specs.Rows.{wordsOf}
 use Rattle.rowset.proofs.Growing.{added-as}
-use Rattle.kinds.specs.Kinds.{rowFrom}
 use borrow.Author.Needs.{needs}
 use Rattle.kinds.proofs.atom_row.Statement.{statement}
 use Rattle.kinds.proofs.atom_row.Tie as tie
@@ -15,7 +16,7 @@ use Rattle.kinds.proofs.atom_row.Tie as tie
 returns : tie.Need-returns
 returns c =
     let a = c .before .before .before .before .before .before .before .before .args in
-    let e : c .before .before .before .before .before .columns-match .result ≡ matches (a .relation) (termsOf (a .ts)) (rowFrom (a .ts .count) (a .found) (wordsOf (a .c))) = rw (eq-eqb _ _ (c .before .before .before .before .before .before .if1 .taken)) (c .before .before .before .before .before .columns-match .ensures) in
+    let e : c .before .before .before .before .before .columns-match .result ≡ eqb (a .found) (a .relation) && matches (termsOf (a .ts)) (take (a .ts .count) (wordsOf (a .c))) = rw (eq-eqb _ _ (c .before .before .before .before .before .before .if1 .taken)) (c .before .before .before .before .before .columns-match .ensures) in
     added-as (c .before .before .add-if .ensures) (ap₂ (λ t r. cond t (r ∷ []) []) e (c .before .before .before .before .bound-row .ensures))
 
 returns-2 : tie.Need-returns-2

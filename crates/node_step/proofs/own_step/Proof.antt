@@ -22,20 +22,20 @@ abbrev entry : tie.After-own-figures → tie.Start
 entry c = c .before .before .before .before .before .before .before .before .before .before .before .before .before .before .before
 
 abbrev figured : tie.After-load-sets → tie.After-own-figures
-figured c = c .before .before .before .before .before .before .before
+figured c = c .before .before .before .before .before .before .before .before
 
 abbrev loaded : tie.After-settle-points → tie.After-load-sets
 loaded c = c .before .before .before .before .before .before .before .before .before
 
 -- the node's figures, and what stands once its kept sets are loaded
 numbers-at : (c : tie.After-own-figures)
-    → Numbers (entry c .args .points) (entry c .args .x) (length (entry c .args .stamps .now)) (length (entry c .args .owners .now)) (length (entry c .args .numbers .now)) (length (entry c .args .values .now)) (length (entry c .args .figures .now)) (c .own-figures .result)
+    → Numbers (entry c .args .log .points) (entry c .args .x) (length (entry c .args .stamps .now)) (length (entry c .args .owners .now)) (length (entry c .args .numbers .now)) (length (entry c .args .values .now)) (length (entry c .args .figures .now)) (c .own-figures .result)
 numbers-at c = numbers (entry c .pre .0) (entry c .args .x) (entry c .pre .1 .0 .0) (c .own-figures .ensures)
 
 loads-at : (c : tie.After-load-sets)
-    → Loads (called (entry (figured c) .args .rule .now) (entry (figured c) .args .points) (entry (figured c) .args .stamps .now) (entry (figured c) .args .owners .now) (entry (figured c) .args .numbers .now) (entry (figured c) .args .values .now))
+    → Loads (called (entry (figured c) .args .rule .now) (entry (figured c) .args .log) (entry (figured c) .args .stamps .now) (entry (figured c) .args .owners .now) (entry (figured c) .args .numbers .now) (entry (figured c) .args .values .now))
     (entry (figured c) .args .event .now) (entry (figured c) .args .owners .now) (entry (figured c) .args .numbers .now) (entry (figured c) .args .values .now) (entry (figured c) .args .stamps .now) (entry (figured c) .args .figures .now) (entry (figured c) .args .x)
-    (figured c .own-figures .result) (entry (figured c) .args .spot) (entry (figured c) .args .rows .now) (entry (figured c) .args .at .now) (c .before .before .before .before .before .before .before .before .children-at .result .left) (c .before .before .before .before .before .before .before .before .children-at .result .right) (c .before .before .before .before .before .before .before .before .before .node-at .result) (c .load-sets .last .1 .1 .1 .1 .1 .1 .0) (c .load-sets .last .1 .1 .1 .1 .1 .1 .1 .0)
+    (figured c .own-figures .result) (entry (figured c) .args .spot) (entry (figured c) .args .rows .now) (entry (figured c) .args .at .now) (c .before .before .before .before .before .before .before .before .before .children-at .result .left) (c .before .before .before .before .before .before .before .before .before .children-at .result .right) (c .before .before .before .before .before .before .before .before .before .before .node-at .result) (c .load-sets .last .1 .1 .1 .1 .1 .1 .0) (c .load-sets .last .1 .1 .1 .1 .1 .1 .1 .0)
 loads-at c =
     let s = entry (figured c) in
     record {
@@ -45,8 +45,8 @@ loads-at c =
       room = s .pre .1 .1 .0;
       stand = s .pre .1 .1 .1 .0;
       figures = figured c .own-figures .ensures;
-      decoded = c .before .before .before .before .before .before .before .before .before .node-at .ensures;
-      children = c .before .before .before .before .before .before .before .before .children-at .ensures;
+      decoded = c .before .before .before .before .before .before .before .before .before .before .node-at .ensures;
+      children = c .before .before .before .before .before .before .before .before .before .children-at .ensures;
       read = c .load-sets .ensures;
     }
 
@@ -61,7 +61,7 @@ children-at-requires c κs = let s = c .before .before .before .before .before .
 
 load-sets-requires : tie.Need-load-sets-requires
 load-sets-requires c κs =
-    let d = c .before .before .before .before .before .before in
+    let d = c .before .before .before .before .before .before .before in
     let s = entry d in
     load-ready (s .pre .0) (s .args .x) (s .pre .1 .0 .0) (d .own-figures .ensures) (s .pre .1 .1 .0)
 
@@ -103,23 +103,23 @@ own-step-spec =
     node-at-requires
     children-at-requires
     (λ c κs. let s = c .before .before .before .before .before .before .before .before .before .before .before .before .before .before in omega (arith, s .pre .0 .figures-there, s .pre .1 .0 .0))
-    (λ c. omega (arith, numbers-at c .few-points))
-    (λ c. omega (arith, numbers-at c .few-points, numbers-at c .few-stamps))
-    (λ c. omega (arith, numbers-at c .few-stamps))
-    (λ c. omega (arith, numbers-at (c .before) .low-before))
+    (λ c. omega (arith, numbers-at (c .before) .few-points))
+    (λ c. omega (arith, numbers-at (c .before) .few-points, numbers-at (c .before) .few-stamps))
+    (λ c. omega (arith, numbers-at (c .before) .few-stamps))
+    (λ c. omega (arith, numbers-at (c .before .before) .low-before))
     (λ c. search needs)
-    (λ c. omega (arith, numbers-at (c .before .before) .low-before, numbers-at (c .before .before) .before-after))
+    (λ c. omega (arith, numbers-at (c .before .before .before) .low-before, numbers-at (c .before .before .before) .before-after))
     (λ c. search needs)
-    (λ c. omega (arith, numbers-at (c .before .before)))
-    (λ c. omega (arith, numbers-at (c .before .before)))
-    (λ c. omega (arith, numbers-at (c .before .before)))
-    (λ c. omega (arith, numbers-at (c .before .before)))
     (λ c. omega (arith, numbers-at (c .before .before .before)))
     (λ c. omega (arith, numbers-at (c .before .before .before)))
     (λ c. omega (arith, numbers-at (c .before .before .before)))
     (λ c. omega (arith, numbers-at (c .before .before .before)))
-    (λ c. omega (arith, numbers-at (c .before .before .before)))
-    (λ c. omega (arith, numbers-at (c .before .before .before)))
+    (λ c. omega (arith, numbers-at (c .before .before .before .before)))
+    (λ c. omega (arith, numbers-at (c .before .before .before .before)))
+    (λ c. omega (arith, numbers-at (c .before .before .before .before)))
+    (λ c. omega (arith, numbers-at (c .before .before .before .before)))
+    (λ c. omega (arith, numbers-at (c .before .before .before .before)))
+    (λ c. omega (arith, numbers-at (c .before .before .before .before)))
     load-sets-requires
     (λ c. omega (arith, points-ready (loads-at (c .before .before .before .before .before .before .before)) .small))
     (λ c. omega arith)
@@ -131,7 +131,7 @@ own-step-spec =
     (λ c. c .before .before .blocks2 .given .1)
     returns
     keep-node-requires
-    (λ c. c .before .before .before .before .before .before .before .before .before .before .before .before .before .before .before .before .before .before .before .before .before .before .before .before .before .before .before .before .before .before .before .before .before .before .before .before .before .before .before .before .before .before .before .before .before .before .before .before .before .before .before .before .before .pre .1 .0 .1)
+    (λ c. c .before .before .before .before .before .before .before .before .before .before .before .before .before .before .before .before .before .before .before .before .before .before .before .before .before .before .before .before .before .before .before .before .before .before .before .before .before .before .before .before .before .before .before .before .before .before .before .before .before .before .before .before .before .before .pre .1 .0 .1)
     move-down-requires
     (λ c. c .before .before .before .before .move-down .ensures .more .rowsLong ∙ c .before .before .before .before .before .before .before .before .before .before .before .before .before .before .before .before .before .before .before .before .before .before .before .before .before .before .before .settle-points .ensures .stay .rowsLong ∙ c .before .before .before .before .before .before .before .before .before .before .before .before .before .before .before .before .before .before .before .before .before .before .before .before .before .before .before .before .before .before .before .before .before .before .before .before .load-sets .ensures .more .rowsLong)
     (λ c. c .before .before .before .before .move-down .ensures .more .atLong ∙ c .before .before .before .before .before .before .before .before .before .before .before .before .before .before .before .before .before .before .before .before .before .before .before .before .before .before .before .settle-points .ensures .stay .atLong ∙ c .before .before .before .before .before .before .before .before .before .before .before .before .before .before .before .before .before .before .before .before .before .before .before .before .before .before .before .before .before .before .before .before .before .before .before .before .load-sets .ensures .more .atLong)

@@ -15,11 +15,11 @@ use Rattle.progress.proofs.count_of.Tie as tie
 
 -- the answer at a return, from what was read of the node
 answered : (s : tie.Start) {cs : List ℕ} {m r : ℕ} {t k : Times} → cs ≡ childrenOf (nodeAt (s .args .rule .now) (s .args .x))
-    → m ≡ leastOf (s .args .n) (map (λ y. getD (s .args .below .now) y 0) cs)
+    → m ≡ leastOf (s .args .log .points) (map (λ y. getD (s .args .below .now) y 0) cs)
     → t ≡ viewOf (nodeAt (s .args .rule .now) (s .args .x)) .times → t ≡ k
-    → r ≡ advanceBy (stampIn (s .args .base) (s .args .times .now)) (s .args .n) m (getD (s .args .from .now) (s .args .x) 0) (viewOf (nodeAt (s .args .rule .now) (s .args .x)) .window .end) k
-    → r ≡ advance (stampIn (s .args .base) (s .args .times .now)) (s .args .n) (λ y. getD (s .args .below .now) y 0) (getD (s .args .from .now) (s .args .x) 0) (viewOf (nodeAt (s .args .rule .now) (s .args .x)))
-answered s p q e f = counted (s .args .rule .now) (s .args .x) e (stampIn (s .args .base) (s .args .times .now)) (s .args .n) (λ y. getD (s .args .below .now) y 0) (getD (s .args .from .now) (s .args .x) 0) p q f
+    → r ≡ advanceBy (stampIn (s .args .base) (s .args .times .now)) (s .args .log) m (getD (s .args .from .now) (s .args .x) 0) (viewOf (nodeAt (s .args .rule .now) (s .args .x)) .window .end) k
+    → r ≡ advance (stampIn (s .args .base) (s .args .times .now)) (s .args .log) (λ y. getD (s .args .below .now) y 0) (getD (s .args .from .now) (s .args .x) 0) (viewOf (nodeAt (s .args .rule .now) (s .args .x)))
+answered s p q e f = counted (s .args .rule .now) (s .args .x) e (stampIn (s .args .base) (s .args .times .now)) (s .args .log) (λ y. getD (s .args .below .now) y 0) (getD (s .args .from .now) (s .args .x) 0) p q f
 
 returns : tie.Need-returns
 returns c = answered (c .before .before .before .before .before .before .before .before .before) (c .before .before .before .before .children-at .ensures) (c .before .before .before .least-of .ensures) (c .before .before .times-at .ensures) (c .enum-told .given .1) (refl)
@@ -36,7 +36,7 @@ returns-4 c = answered (c .before .before .before .before .before .before .befor
 returns-5 : tie.Need-returns-5
 returns-5 c =
     let a = c .before .before .before .before .before .before .before .before .before .before .args in
-    answered (c .before .before .before .before .before .before .before .before .before .before) (c .before .before .before .before .before .children-at .ensures) (c .before .before .before .before .least-of .ensures) (c .before .before .before .times-at .ensures) (c .before .enum-told5 .given .1) (until-as (stampIn (a .base) (a .times .now)) (a .n) _ (c .until-of .ensures) (end-read (a .rule .now) (a .x) (c .before .before .before .times-at .ensures) (c .before .enum-told5 .given .1)) refl)
+    answered (c .before .before .before .before .before .before .before .before .before .before) (c .before .before .before .before .before .children-at .ensures) (c .before .before .before .before .least-of .ensures) (c .before .before .before .times-at .ensures) (c .before .enum-told5 .given .1) (until-as (stampIn (a .base) (a .times .now)) (a .log) _ (c .until-of .ensures) (end-read (a .rule .now) (a .x) (c .before .before .before .times-at .ensures) (c .before .enum-told5 .given .1)) refl)
 
 pub count-of-spec : {M : Type 1} → statement M
 count-of-spec =

@@ -10,10 +10,10 @@ use Rattle.progress.proofs.counts.Statement.{statement}
 use Rattle.progress.proofs.counts.Tie as tie
 
 abbrev Inv-loop : tie.InvT-loop
-Inv-loop rule times base n from out₀ nodes x₀ out x = (nodes ≡ nodeCount rule) × Filling rule (stampIn base times) n from out₀ x out
+Inv-loop rule times base log from out₀ nodes x₀ out x = (nodes ≡ nodeCount rule) × Filling rule (stampIn base times) log from out₀ x out
 
 abbrev μ-loop : tie.MeasureT-loop
-μ-loop rule times base n from out₀ nodes x₀ out x = nodes - x
+μ-loop rule times base log from out₀ nodes x₀ out x = nodes - x
 
 shared-slice-read-nodes : tie.Need-shared-slice-read-nodes Inv-loop μ-loop
 shared-slice-read-nodes c = search needs

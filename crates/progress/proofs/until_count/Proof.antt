@@ -4,18 +4,15 @@ use borrow.Author.Needs.{needs}
 use Rattle.progress.proofs.until_count.Statement.{statement}
 use Rattle.progress.proofs.until_count.Tie as tie
 
-bound-at-requires : tie.Need-bound-at-requires
-bound-at-requires c κs = search needs
-
-time-in-requires : tie.Need-time-in-requires
-time-in-requires c κs = search needs
+bound-requires : tie.Need-bound-requires
+bound-requires c κs = search needs
 
 first-open-requires : tie.Need-first-open-requires
 first-open-requires c κs = search needs
 
 returns : tie.Need-returns
-returns c = until-same _ _ _ _ _ (c .before .before .bound-at .ensures) (c .before .time-in .ensures) (c .first-open .ensures)
+returns c = until-same _ _ _ _ _ (c .before .bound .ensures) (c .first-open .ensures)
 
 pub until-count-spec : {M : Type 1} → statement M
 until-count-spec =
-    tie.close (tie.spec bound-at-requires time-in-requires first-open-requires returns)
+    tie.close (tie.spec bound-requires first-open-requires returns)

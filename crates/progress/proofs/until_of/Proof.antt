@@ -8,7 +8,7 @@ use Rattle.progress.proofs.until_of.Tie as tie
 returns : tie.Need-returns
 returns c =
     let a = c .before .before .before .before .before .before .args in
-    until-as (stampIn (a .base) (a .times .now)) (a .n) (a .m) (c .until-count .ensures) (c .before .before .end-at .ensures) (c .before .count-at .ensures)
+    until-as (stampIn (a .base) (a .times .now)) (a .log) (a .m) (c .until-count .ensures) (c .before .before .end-at .ensures) (c .before .count-at .ensures)
 
 pub until-of-spec : {M : Type 1} → statement M
 until-of-spec =

@@ -1,10 +1,11 @@
 -- `settle_point` meets its contract, kind by kind: what is asked for the node is asked for its kind, and what the kind gives the node gives.
 use Prim.Native.Nat.{ℕ}
 use native.Mathlib.Omega.{arith}
-use mathlib.Core.Path.{_≡_, refl, subst}
+use mathlib.Core.Path.{_≡_, refl, ap, subst}
 use mathlib.Core.List.{List}
 use borrow.Author.Needs.{needs}
 use Rattle.meaning.specs.Formula.{termsOf}
+use Rattle.meaning.specs.Evaluator.{atomRows}
 use Rattle.meaning.specs.declared.Node.{Node}
 use Rattle.rowset.specs.Sets.{Added}
 use Rattle.rowset.proofs.Growing.{added-as}
@@ -120,7 +121,7 @@ returns c =
     let s = c .before .before .before .before .before .before .before .before .before .before .before .before .before .before .before in
     let n = c .before .before .before .before .before .node .given in
     gives s (n .1)
-    (added-as (c .before .before .atom .ensures) (atom-reads (s .args .rule .now) (s .args .event .now) (n .0 .0) (n .0 .1 .0 .count) (termsOf (n .0 .1 .0)) (told s (n .1) .terms _ _ refl)))
+    (added-as (c .before .before .atom .ensures) (ap (atomRows (termsOf (n .0 .1 .0))) (atom-reads (s .args .rule .now) (s .args .event .now) (n .0 .0) (n .0 .1 .0 .count) (told s (n .1) .terms _ _ refl))))
 
 returns-2 : tie.Need-returns-2
 returns-2 c = gives (c .before .before .before .before .before .before .before .before .before .before .before .before .before .before) (c .before .before .before .before .enum-told .given .1) (c .before .before .and-at .ensures)

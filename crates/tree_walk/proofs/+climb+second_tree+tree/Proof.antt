@@ -80,11 +80,11 @@ no-children t c = sym (c .before .before .children-at .ensures) ∙ ap childrenI
 
 -- the loop of `tree`: k steps are left of the k₀ that the path has, and its node k's tree is walked
 abbrev tree-Inv-loop : tree-lts.InvT-loop
-tree-Inv-loop rule figures owners numbers values stamps points event rows₀ at₀ out-numbers₀ out-values₀ blocks₀ x h kept path k₀ p₀ rows at out-numbers out-values blocks k p =
-    (k ≤ k₀) × Climbed (called rule points stamps owners numbers values) event h (getD path k₀ 0) (getD path k 0) rows₀ at₀ out-numbers₀ out-values₀ blocks₀ p₀ rows at out-numbers out-values blocks p
+tree-Inv-loop rule figures owners numbers values stamps log event rows₀ at₀ out-numbers₀ out-values₀ blocks₀ x h kept path k₀ p₀ rows at out-numbers out-values blocks k p =
+    (k ≤ k₀) × Climbed (called rule log stamps owners numbers values) event h (getD path k₀ 0) (getD path k 0) rows₀ at₀ out-numbers₀ out-values₀ blocks₀ p₀ rows at out-numbers out-values blocks p
 
 abbrev tree-μ-loop : tree-lts.MeasureT-loop
-tree-μ-loop rule figures owners numbers values stamps points event rows₀ at₀ out-numbers₀ out-values₀ blocks₀ x h kept path k₀ p₀ rows at out-numbers out-values blocks k p =
+tree-μ-loop rule figures owners numbers values stamps log event rows₀ at₀ out-numbers₀ out-values₀ blocks₀ x h kept path k₀ p₀ rows at out-numbers out-values blocks k p =
     k
 
 pub +climb+second-tree+tree-spec : {M : Type 1} → statement M

@@ -32,11 +32,10 @@ pub settle-in-room-spec : {M : Type 1} → statement M
 settle-in-room-spec =
     tie.close
     (tie.spec
-    (λ c κs. c .before .before .before .before .before .before .before .before .pre .0 .ready .not-full)
+    (λ c κs. omega (arith, c .before .before .before .before .before .before .before .before .pre .0 .ready .not-full))
     (λ c. omega (arith, stamps-few (c .before .before .before .before .before .before .before .before .before .pre .0)))
-    (λ c. omega (arith, c .before .before .before .before .before .before .before .before .before .before .pre .0 .ready .event .there))
-    (λ c. search needs)
-    (λ c. omega (arith, c .before .before .before .before .before .before .before .before .before .before .pre .0 .few-kept, c .shared-slice-known5 .given 1))
+    (λ c κs. search needs)
+    (λ c. let s = c .before .before .before .before .before .before .before .before .before .before in omega (arith, s .pre .0 .few-kept, s .pre .0 .ready .event .most, c .row-total .ensures))
     settle-smaller-requires
     (λ c. search needs)
     (λ c. search needs)
