@@ -2,19 +2,22 @@
 use Prim.Native.Nat.{ℕ, _+_, _-_, _*_, _≤_, _<_}
 use native.Mathlib.Omega.{arith}
 use mathlib.Core.Path.{_≡_, refl, sym, _∙_, ap, ap₂, subst}
-use mathlib.Core.List.{List, [], _∷_, _++_}
+use mathlib.Core.Bool.{Bool, true, false, cond}
+use mathlib.Core.List.{List, [], _∷_, _++_, append-nil}
 use lib.ListN.{length, getD, take, drop, length-append, length-drop}
-use lib.Seq.{length-take-le, getD-take, take-append-seam}
+use lib.Seq.{length-take-le, getD-take, take-take, take-append-seam}
 use Rattle.meaning.specs.Log.{pointsFrom}
 use Rattle.meaning.specs.Lists.{gather}
 use Rattle.meaning.specs.Outcome.{mostPoints}
-use Rattle.meaning.specs.RuleFile.{nodeCount, lastNode}
+use lib.Dec.{ltb}
+use Rattle.meaning.specs.RuleFile.{nodeCount, lastNode, oneIf}
 use Rattle.meaning.specs.Kept.{entryOf}
 use Rattle.meaning.specs.Keeper.{bufferAfter}
 use Rattle.meaning.specs.declared.Point.{Point}
+use Rattle.meaning.specs.declared.LogEnd.{LogEnd}
 use Rattle.meaning.proofs.Accepted.{nodes-most, last-is-node}
 use Rattle.method.specs.Stored.{Stored, held, firstRetained}
-use Rattle.method.specs.Step.{wantedFrom, countsStored, countBefore, stampsNow, countsAfter, countAfter, storedNow, reportNow}
+use Rattle.method.specs.Step.{pointsAdded, timesAdded, wantedFrom, countsStored, countBefore, stampsNow, countsAfter, countAfter, storedNow, reportNow}
 use Rattle.method.specs.Room.{rowsMost, rowsNeeded}
 use Rattle.method.specs.WellFormed.{Formed}
 use Rattle.method.proofs.Room.{entries-rows}
@@ -53,16 +56,24 @@ module _ (os ns vs : List ℕ) (count : ℕ) where
       same k u =
           rw (getD-take count os k 0 u, getD-take count ns k 0 u, getD-take (count * 4) vs (k * 4) 0 (omega arith), getD-take (count * 4) vs (k * 4 + 1) 0 (omega arith), getD-take (count * 4) vs (k * 4 + 2) 0 (omega arith), getD-take (count * 4) vs (k * 4 + 3) 0 (omega arith))
 
-module _ (b : List ℕ) (points : ℕ) (times os ns vs : List ℕ) (count : ℕ) (f : Formed (storedIn b points times os ns vs count)) where
+-- as many times are added as points
+added-times : (w : List ℕ) → length (timesAdded w) ≡ pointsAdded w
+added-times w = go (ltb 1 (length w))
+  where
+    go : (t : Bool) → length (cond t (getD w 0 0 ∷ []) []) ≡ oneIf t
+    go true = refl
+    go false = refl
+
+module _ (b : List ℕ) (log : LogEnd) (times os ns vs : List ℕ) (count : ℕ) (f : Formed (storedIn b log times os ns vs count)) where
   abbrev s : Stored
-  s = storedIn b points times os ns vs count
+  s = storedIn b log times os ns vs count
 
   -- ---- what the counts start from
 
-  pub counting : {masks counts lows ts : List ℕ} → StateFigures s masks counts lows → (n : ℕ) → n ≡ nodeCount b → ts ≡ times → Counting (bare b points ts) (take n counts)
+  pub counting : {masks counts lows ts : List ℕ} → StateFigures s masks counts lows → (n : ℕ) → n ≡ nodeCount b → ts ≡ times → Counting (bare b log ts) (take n counts)
   unfolding countsStored
   counting {masks} {counts} k n e et =
-      subst (λ q. Counting (bare b points q) (take n counts)) (sym et)
+      subst (λ q. Counting (bare b log q) (take n counts)) (sym et)
       (record { accepted = f .accepted; few-points = f .few-points; few-times = f .few-times; times-many = f .times-many; counts = ap (λ q. take q counts) e ∙ k .counts-stored })
 
   -- no node has more rows than there are entries
@@ -71,23 +82,23 @@ module _ (b : List ℕ) (points : ℕ) (times os ns vs : List ℕ) (count : ℕ)
 
   module _ (w : List ℕ) where
     -- no count depends on the entries
-    bare-count : (x : ℕ) → countAfter (bare b points times) w x ≡ countAfter s w x
+    bare-count : (x : ℕ) → countAfter (bare b log times) w x ≡ countAfter s w x
     unfolding countAfter countsAfter countBefore countsStored stampsNow
     bare-count x = refl
 
-    bare-counts : countsAfter (bare b points times) w ≡ countsAfter s w
+    bare-counts : countsAfter (bare b log times) w ≡ countsAfter s w
     unfolding countsAfter countBefore countsStored stampsNow
     bare-counts = refl
 
-    bare-wanted : (x : ℕ) → wantedFrom b (countAfter (bare b points times) w) x ≡ wantedFrom b (countAfter s w) x
+    bare-wanted : (x : ℕ) → wantedFrom b (countAfter (bare b log times) w) x ≡ wantedFrom b (countAfter s w) x
     unfolding countAfter countsAfter countBefore countsStored stampsNow
     bare-wanted x = refl
 
     module _ {masks counts lows begins pairs ts times₀ stamps₀ after table : List ℕ} {retained needed : ℕ} (z : SizedWords times₀ os ns vs retained count) (k : StateFigures s masks counts lows) (p : EntryPlaces s os ns vs count begins pairs)
-        (n : ℕ) (e : n ≡ nodeCount b) (et : ts ≡ times) (t₀ : CallTable (bare b points ts) w masks (take n counts) lows begins pairs stamps₀ after table needed)
+        (n : ℕ) (e : n ≡ nodeCount b) (et : ts ≡ times) (t₀ : CallTable (bare b log ts) w masks (take n counts) lows begins pairs stamps₀ after table needed)
         (m : ℕ) (em : m ≡ length times + 1) where
-      t : CallTable (bare b points times) w masks (take n counts) lows begins pairs stamps₀ after table needed
-      t = subst (λ q. CallTable (bare b points q) w masks (take n counts) lows begins pairs stamps₀ after table needed) et t₀
+      t : CallTable (bare b log times) w masks (take n counts) lows begins pairs stamps₀ after table needed
+      t = subst (λ q. CallTable (bare b log q) w masks (take n counts) lows begins pairs stamps₀ after table needed) et t₀
 
       abbrev stamps : List ℕ
       stamps = take m stamps₀
@@ -110,8 +121,8 @@ module _ (b : List ℕ) (points : ℕ) (times os ns vs : List ℕ) (count : ℕ)
           rw (now, l) (take-append-seam times (getD w 0 0 ∷ []))
 
       -- what is stored as the call begins is the state
-      call-is : callIn b points stamps os ns vs count ≡ s
-      call-is = ap₂ (λ ts es. record { rule = b; points = points; times = ts; entries = es }) times-taken entries-taken
+      call-is : callIn b log stamps os ns vs count ≡ s
+      call-is = ap₂ (λ ts es. record { rule = b; points = log .points; latest = log .latest; times = ts; entries = es }) times-taken entries-taken
 
       before-is : (x : ℕ) → x < nodeCount b → getD (take n counts) x 0 ≡ countBefore s x
       unfolding countBefore
@@ -142,7 +153,7 @@ module _ (b : List ℕ) (points : ℕ) (times os ns vs : List ℕ) (count : ℕ)
             }
 
         -- what the walk asks
-        pub call-ready : EventThere w → points < mostPoints → 288 ≤ length table → ReadyIn b points stamps os ns vs count w table
+        pub call-ready : EventThere w → log .points + pointsAdded w ≤ mostPoints → 288 ≤ length table → ReadyIn b log stamps os ns vs count w table
         call-ready event room long =
             record {
               ready =
@@ -172,7 +183,7 @@ module _ (b : List ℕ) (points : ℕ) (times os ns vs : List ℕ) (count : ℕ)
           = sym (entries-rows (λ j. entryOf x 0 (j .0)) (held (s .entries) x) (pointsFrom (wantedFrom b (countBefore s) x) (countBefore s x - wantedFrom b (countBefore s) x .0))) ∙ ap length (sym (p .rows-there x o)) ∙ run-many os ns vs (getD begins x 0) (getD pairs x 0 - getD begins x 0) in
           omega (arith, kept, t .begin x o, t .pair x o, t .after-call x o ∙ bare-count x, t .before-call x o ∙ before-is x o)
 
-      pub rows-enough : rowsNeeded (callIn b points stamps os ns vs count) w ≤ needed
+      pub rows-enough : rowsNeeded (callIn b log stamps os ns vs count) w ≤ needed
       rows-enough =
           let (a, ok) = f .accepted in
           let same = need-agrees b a ok (rowsMost s w) (rowsIn table) rows-same (lastNode b) (last-is-node b a ok) in
@@ -180,13 +191,26 @@ module _ (b : List ℕ) (points : ℕ) (times os ns vs : List ℕ) (count : ℕ)
 
       -- ---- what the call leaves
 
+      -- the times of the points, of which the last may be added
+      first-times : take (length times + pointsAdded w) stamps₀ ≡ times ++ timesAdded w
+      first-times = go (ltb 1 (length w)) refl
+        where
+          go : (u : Bool) → ltb 1 (length w) ≡ u → take (length times + oneIf u) stamps₀ ≡ times ++ cond u (getD w 0 0 ∷ []) []
+          go true e = t .stamps-now
+          go false e =
+              let q : length times + 0 ≡ length times = omega arith in
+              ap (λ j. take j stamps₀) q ∙ sym (take-take (length times) (length times + 1) stamps₀ (omega arith)) ∙ ap (take (length times)) (t .stamps-now) ∙ take-append-seam times (getD w 0 0 ∷ []) ∙ sym (append-nil times)
+
       -- what is weighed, once the times are retained, is what the method says of the call
-      pub taken-now : {buffer buffer' times' os' ns' vs' : List ℕ} {r : Weighed} {q : Taken}
-          → SettledCall (callIn b points stamps os ns vs count) w buffer buffer' os ns vs os' ns' vs' r → Finishes (points + 1) (take n after) stamps times₀ times' r q
+      pub taken-now : {buffer buffer' times' os' ns' vs' : List ℕ} {r : Weighed} {q : Taken} {added : ℕ} (first : ℕ) → added ≡ pointsAdded w → first ≡ length times + pointsAdded w
+          → SettledCall (callIn b log stamps os ns vs count) w buffer buffer' os ns vs os' ns' vs' r → Finishes (log .points + added) (take n after) (take first stamps₀) times₀ times' r q
           → TakesIn s w buffer buffer' times₀ os ns vs times' os' ns' vs' (weighedNow s w (length buffer)) q
       unfolding storedNow
-      taken-now {buffer} {buffer'} {times'} {os'} {ns'} {vs'} {r} a₀ h =
+      taken-now {buffer} {buffer'} {times'} {os'} {ns'} {vs'} {r} {q} {added} first ea ef a₀ h₀ =
           let a = subst (λ q. SettledCall q w buffer buffer' os ns vs os' ns' vs' r) call-is a₀ in
+          let ft : take first stamps₀ ≡ times ++ timesAdded w = ap (λ j. take j stamps₀) ef ∙ first-times in
+          let h : Finishes (log .points + pointsAdded w) (take n after) (times ++ timesAdded w) times₀ times' r q
+          = subst (λ j. Finishes (log .points + j) (take n after) (times ++ timesAdded w) times₀ times' r q) ea (subst (λ ts. Finishes (log .points + added) (take n after) ts times₀ times' r q) ft h₀) in
           record {
             outcome = h .outcome ∙ a .outcome;
             written = a .written ∙ ap (λ o. bufferAfter o (reportNow s w) buffer) (sym (h .outcome));
@@ -194,11 +218,11 @@ module _ (b : List ℕ) (points : ℕ) (times os ns vs : List ℕ) (count : ℕ)
                 let (ew, ets, er) = h .done words retained kept d in
                 let (ek, few, es) = a .stored words kept ew in
                 let ec : take n after ≡ countsAfter s w = ap (λ q. take q after) e ∙ t .counts-now ∙ bare-counts in
-                let el : points + 1 - length stamps ≡ points - length times = omega (arith, ap length now, length-append times (getD w 0 0 ∷ [])) in
-                let dropped : drop (firstRetained (points + 1) (take n after) .0 - (points + 1 - length stamps)) stamps ≡ storedNow s w .times = rw (ec, el, now) in
+                let el : log .points + pointsAdded w - length (times ++ timesAdded w) ≡ log .points - length times = omega (arith, length-append times (timesAdded w), added-times w) in
+                let dropped : drop (firstRetained (log .points + pointsAdded w) (take n after) .0 - (log .points + pointsAdded w - length (times ++ timesAdded w))) (times ++ timesAdded w) ≡ storedNow s w .times = rw (ec, el) in
                 record {
                   times-stored = ets ∙ ap (λ ts. atFront ts times₀) dropped;
-                  retained-are = er ∙ sym (length-drop _ stamps) ∙ ap length dropped;
+                  retained-are = er ∙ sym (length-drop _ (times ++ timesAdded w)) ∙ ap length dropped;
                   entries-stored = es;
                   kept-are = ek;
                 };

@@ -5,7 +5,7 @@ use mathlib.Core.Bool.{cond}
 use mathlib.Core.List.{List}
 use lib.ListN.{length, drop}
 use Rattle.meaning.specs.Outcome.{Outcome, refused, given, notWellFormed}
-use Rattle.meaning.specs.Keeper.{bufferAfter}
+use Rattle.meaning.specs.Keeper.{Fed, bufferAfter}
 use Rattle.method.specs.Stored.{Stored, firstRetained}
 use Rattle.method.specs.Step.{storedNow, reportNow, answerNow}
 use Rattle.method.specs.WellFormed.{wellFormed}
@@ -22,9 +22,9 @@ abbrev pub takenOf : Taken → Outcome ℕ
 takenOf (Refused r) = refusalOf r
 takenOf (Done words retained kept) = given words
 
--- what a taking of an event answers, whatever is stored
-unfoldable pub takeAnswer : Stored → List ℕ → ℕ → Outcome ℕ
-takeAnswer s w room = cond (wellFormed s) (answerNow s w room) (refused notWellFormed 0)
+-- what a taking answers, whatever is stored
+unfoldable pub takeAnswer : Stored → Fed → ℕ → Outcome ℕ
+takeAnswer s f room = cond (wellFormed s) (answerNow s f room) (refused notWellFormed 0)
 
 -- the words that are lent, where s is then stored in them: its times and entries at the front, every word behind them as it was; and how many they are
 pub record WordsStored (s : Stored) (times os ns vs times' os' ns' vs' : List ℕ) (retained kept : ℕ) : Type 0 where
@@ -40,7 +40,7 @@ pub record Finishes (points : ℕ) (after stamps times times' : List ℕ) (w : W
       → (w ≡ weighed.Written words kept) × (times' ≡ atFront (drop (firstRetained points after .0 - (points - length stamps)) stamps) times) × (retained ≡ length stamps - (firstRetained points after .0 - (points - length stamps)))
   pub stays : (e : Refusal) → r ≡ Refused e → (w ≡ weighed.Refused e) × (times' ≡ times)
 
--- What a step of a taking leaves: the answer, the buffer, and the words that are lent; on a refusal every word as it was.
+-- What a step of a taking with the words w leaves: the answer, the buffer, and the words that are lent; on a refusal every word as it was.
 pub record TakesIn (s : Stored) (w buffer buffer' times os ns vs times' os' ns' vs' : List ℕ) (answer : Outcome ℕ) (r : Taken) : Type 0 where
   pub outcome : takenOf r ≡ answer
   pub written : buffer' ≡ bufferAfter (takenOf r) (reportNow s w) buffer

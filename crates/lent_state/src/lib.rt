@@ -1,11 +1,13 @@
-// Taking an event in memory that the caller lends: the checks in the order of their refusals, the figures of the call, and the call settled; what is stored is changed in place, and a refusal changes nothing.
+// Taking an event or a notice in memory that the caller lends: the checks in the order of their refusals, the figures of the call, and the call settled; what is stored is changed in place, and a refusal changes nothing.
 use events::Admitted;
+use events::Handed;
 use limits::Refusal;
 use limits::Weighed;
+use meaning::LogEnd;
 use meaning::MOST_KEPT;
 use meaning::MOST_NODES;
-use meaning::Point;
 use meaning::RULE_BYTES;
+use meaning::Stamp;
 use meaning::TIME_WORDS;
 use node_step::NODE_WORDS;
 ghost use mathlib.Core.Path.{_≡_};
@@ -15,7 +17,9 @@ ghost use Rattle.meaning.specs.Outcome.{Outcome, mostNodes, mostPoints};
 ghost use Rattle.method.specs.WellFormed.{Formed};
 ghost use Rattle.kinds.specs.Kinds.{EventThere};
 ghost use Rattle.formed.specs.StateFigures.{storedIn, StateFigures, EntryPlaces};
-ghost use Rattle.events.specs.Answers.{outcomeOf};
+ghost use Rattle.meaning.specs.Keeper.{event as eventOf, notice};
+ghost use Rattle.method.specs.Step.{pointsAdded};
+ghost use Rattle.events.specs.Answers.{outcomeOf, fedOf, HandedWhole};
 ghost use Rattle.events.specs.declared.Admitted.the-variants.{Fine};
 ghost use Rattle.limits.specs.Weighs.{refusalOf};
 ghost use Rattle.call.specs.Settles.{weighedNow};
@@ -32,9 +36,9 @@ pub enum Answer {
     Refused(Refusal),
 }
 
-// What a taking leaves beside the slices: the points accepted, how many times are retained and entries kept, all as they were on a refusal; and the answer.
+// What a taking leaves beside the slices: where the log ends, how many times are retained and entries kept, all as they were on a refusal; and the answer.
 pub struct Returned {
-    pub points: u32,
+    pub log: LogEnd,
     pub retained: u32,
     pub count: u32,
     pub answer: Answer,
@@ -60,17 +64,17 @@ fn finish(weighed: Weighed, after: &[u32], points: u32, stamps: &[u32], times: &
     }
 }
 
-// An event that passes 9 to 12, taken in a state that is well formed. For each node of the rule there are the mask of its free variables, how many points it has settled, from which point on its rows are kept, and where its entries and its pairs begin.
+// The words of what passes the first checks, an event's or a notice's one, taken in a state that is well formed. For each node of the rule there are the mask of its free variables, how many points it has settled, from which point on its rows are kept, and where its entries and its pairs begin.
 fn take_admitted(
     rule: &[u8],
-    points: u32,
+    log: LogEnd,
     times: &mut [u32],
     retained: usize,
     owners: &mut [u32],
     numbers: &mut [u32],
     values: &mut [u32],
     count: usize,
-    event: &[u32],
+    words: &[u32],
     report: &mut [u32],
     masks: &[u8],
     counts: &[u32],
@@ -79,11 +83,11 @@ fn take_admitted(
     pairs: &[u32],
 ) -> Taken
     requires { ⌜ SizedWords (now times) (now owners) (now numbers) (now values) retained count ⌝ }
-    requires { ⌜ Formed (storedIn (now rule) points (take retained (now times)) (now owners) (now numbers) (now values) count) ⌝ }
-    requires { ⌜ StateFigures (storedIn (now rule) points (take retained (now times)) (now owners) (now numbers) (now values) count) (now masks) (now counts) (now lows) × EntryPlaces (storedIn (now rule) points (take retained (now times)) (now owners) (now numbers) (now values) count) (now owners) (now numbers) (now values) count (now begins) (now pairs) ⌝ }
-    requires { ⌜ EventThere (now event) × (points < mostPoints) ⌝ }
+    requires { ⌜ Formed (storedIn (now rule) log (take retained (now times)) (now owners) (now numbers) (now values) count) ⌝ }
+    requires { ⌜ StateFigures (storedIn (now rule) log (take retained (now times)) (now owners) (now numbers) (now values) count) (now masks) (now counts) (now lows) × EntryPlaces (storedIn (now rule) log (take retained (now times)) (now owners) (now numbers) (now values) count) (now owners) (now numbers) (now values) count (now begins) (now pairs) ⌝ }
+    requires { ⌜ EventThere (now words) × (0 < length (now words)) × (log .points + pointsAdded (now words) ≤ mostPoints) ⌝ }
     requires { ⌜ (mostNodes ≤ length (now masks)) × (mostNodes ≤ length (now counts)) × (mostNodes ≤ length (now lows)) × (mostNodes + 1 ≤ length (now begins)) × (mostNodes ≤ length (now pairs)) ⌝ }
-    ensures { λ r. ⌜ TakesIn (storedIn (now (rule .entry)) points (take retained (now (times .entry))) (now (owners .entry)) (now (numbers .entry)) (now (values .entry)) count) (now (event .entry)) (now (report .entry)) (now (report .exit)) (now (times .entry)) (now (owners .entry)) (now (numbers .entry)) (now (values .entry)) (now (times .exit)) (now (owners .exit)) (now (numbers .exit)) (now (values .exit)) (weighedNow (storedIn (now (rule .entry)) points (take retained (now (times .entry))) (now (owners .entry)) (now (numbers .entry)) (now (values .entry)) count) (now (event .entry)) (length (now (report .entry)))) r ⌝ }
+    ensures { λ r. ⌜ TakesIn (storedIn (now (rule .entry)) log (take retained (now (times .entry))) (now (owners .entry)) (now (numbers .entry)) (now (values .entry)) count) (now (words .entry)) (now (report .entry)) (now (report .exit)) (now (times .entry)) (now (owners .entry)) (now (numbers .entry)) (now (values .entry)) (now (times .exit)) (now (owners .exit)) (now (numbers .exit)) (now (values .exit)) (weighedNow (storedIn (now (rule .entry)) log (take retained (now (times .entry))) (now (owners .entry)) (now (numbers .entry)) (now (values .entry)) count) (now (words .entry)) (length (now (report .entry)))) r ⌝ }
 {
     let n = figures::node_total(rule);
     let k = retained + 1;
@@ -92,9 +96,9 @@ fn take_admitted(
     let mut table = [0u32; MOST_NODES * NODE_WORDS];
     let needed = figures::call_table(
         rule,
-        points,
+        log,
         &times[0..retained],
-        event,
+        words,
         masks,
         &counts[0..n],
         lows,
@@ -108,8 +112,8 @@ fn take_admitted(
         rule,
         &table,
         &stamps[0..k],
-        points,
-        event,
+        log,
+        words,
         owners,
         numbers,
         values,
@@ -117,10 +121,18 @@ fn take_admitted(
         report,
         needed,
     );
-    finish(weighed, &after[0..n], points + 1, &stamps[0..k], times)
+    let added = progress::points_added(words);
+    let m = retained + added as usize;
+    finish(
+        weighed,
+        &after[0..n],
+        log.points + added,
+        &stamps[0..m],
+        times,
+    )
 }
 
-// The refusal that the first checks of an event give.
+// The refusal that the first checks give.
 fn refusal_of(admitted: Admitted) -> Refusal
     requires { ⌜ (admitted ≡ Fine → ⊥) ⌝ }
     ensures { λ r. ⌜ ((rest : Outcome ℕ) → refusalOf r ≡ outcomeOf admitted rest) ⌝ }
@@ -134,21 +146,22 @@ fn refusal_of(admitted: Admitted) -> Refusal
     }
 }
 
-// An event in any state that stands in the slices: 8, then 9 to 12, then what follows.
+// What is handed in, in any state that stands in the slices: 8, then the first checks, then what follows.
 fn take_stored(
+    handed: Handed,
     rule: &[u8],
-    points: u32,
+    log: LogEnd,
     times: &mut [u32],
     retained: usize,
     owners: &mut [u32],
     numbers: &mut [u32],
     values: &mut [u32],
     count: usize,
-    event: &[u32],
+    words: &[u32],
     report: &mut [u32],
 ) -> Taken
-    requires { ⌜ SizedWords (now times) (now owners) (now numbers) (now values) retained count ⌝ }
-    ensures { λ r. ⌜ TakesIn (storedIn (now (rule .entry)) points (take retained (now (times .entry))) (now (owners .entry)) (now (numbers .entry)) (now (values .entry)) count) (now (event .entry)) (now (report .entry)) (now (report .exit)) (now (times .entry)) (now (owners .entry)) (now (numbers .entry)) (now (values .entry)) (now (times .exit)) (now (owners .exit)) (now (numbers .exit)) (now (values .exit)) (takeAnswer (storedIn (now (rule .entry)) points (take retained (now (times .entry))) (now (owners .entry)) (now (numbers .entry)) (now (values .entry)) count) (now (event .entry)) (length (now (report .entry)))) r ⌝ }
+    requires { ⌜ SizedWords (now times) (now owners) (now numbers) (now values) retained count × HandedWhole handed (now words) ⌝ }
+    ensures { λ r. ⌜ TakesIn (storedIn (now (rule .entry)) log (take retained (now (times .entry))) (now (owners .entry)) (now (numbers .entry)) (now (values .entry)) count) (now (words .entry)) (now (report .entry)) (now (report .exit)) (now (times .entry)) (now (owners .entry)) (now (numbers .entry)) (now (values .entry)) (now (times .exit)) (now (owners .exit)) (now (numbers .exit)) (now (values .exit)) (takeAnswer (storedIn (now (rule .entry)) log (take retained (now (times .entry))) (now (owners .entry)) (now (numbers .entry)) (now (values .entry)) count) (fedOf handed (now (words .entry))) (length (now (report .entry)))) r ⌝ }
 {
     let mut masks = [0u8; MOST_NODES];
     let mut counts = [0u32; MOST_NODES];
@@ -157,7 +170,7 @@ fn take_stored(
     let mut pairs = [0u32; MOST_NODES];
     if !formed::well_formed(
         rule,
-        points,
+        log,
         &times[0..retained],
         owners,
         numbers,
@@ -171,21 +184,20 @@ fn take_stored(
     ) {
         return Taken::Refused(Refusal::NotWellFormed);
     }
-    let latest = figures::latest(&times[0..retained]);
-    let admitted = events::admit(rule, event, latest, points);
+    let admitted = events::admit_handed(handed, rule, words, log);
     let Admitted::Fine = admitted else {
         return Taken::Refused(refusal_of(admitted));
     };
     take_admitted(
         rule,
-        points,
+        log,
         times,
         retained,
         owners,
         numbers,
         values,
         count,
-        event,
+        words,
         report,
         &masks,
         &counts,
@@ -221,14 +233,66 @@ pub fn lengths_fit(
 }
 
 // What a refusal leaves beside the slices.
-fn as_it_was(points: u32, times: u32, entries: u32, refusal: Refusal) -> Returned
-    ensures { λ r. ⌜ r ≡ record { points = points; retained = times; count = entries; answer = Refused refusal } ⌝ }
+fn as_it_was(end: LogEnd, times: u32, entries: u32, refusal: Refusal) -> Returned
+    ensures { λ r. ⌜ r ≡ record { log = end; retained = times; count = entries; answer = Refused refusal } ⌝ }
 {
     Returned {
-        points,
+        log: end,
         retained: times,
         count: entries,
         answer: Answer::Refused(refusal),
+    }
+}
+
+// Takes what is handed in: the one way for both.
+pub fn take_handed(
+    handed: Handed,
+    rule: &[u8],
+    bytes: u32,
+    log: LogEnd,
+    times: &mut [u32],
+    retained: u32,
+    owners: &mut [u32],
+    numbers: &mut [u32],
+    values: &mut [u32],
+    count: u32,
+    words: &[u32],
+    report: &mut [u32],
+) -> Returned
+    requires { ⌜ HandedWhole handed (now words) ⌝ }
+    ensures { λ r. ⌜ TakesLent (lent (now (rule .entry)) bytes log (now (times .entry)) retained (now (owners .entry)) (now (numbers .entry)) (now (values .entry)) count) (fedOf handed (now (words .entry))) (now (report .entry)) (r .answer) (lent (now (rule .entry)) bytes (r .log) (now (times .exit)) (r .retained) (now (owners .exit)) (now (numbers .exit)) (now (values .exit)) (r .count)) (now (report .exit)) ⌝ }
+{
+    if !lengths_fit(rule, times, owners, numbers, values) {
+        return as_it_was(log, retained, count, Refusal::NotWellFormed);
+    }
+    if !figures::figures_fit(bytes, retained, count) {
+        return as_it_was(log, retained, count, Refusal::NotWellFormed);
+    }
+    let n = bytes as usize;
+    let taken = take_stored(
+        handed,
+        &rule[0..n],
+        log,
+        times,
+        retained as usize,
+        owners,
+        numbers,
+        values,
+        count as usize,
+        words,
+        report,
+    );
+    match taken {
+        Taken::Refused(refusal) => as_it_was(log, retained, count, refusal),
+        Taken::Done(written, kept_times, kept) => Returned {
+            log: LogEnd {
+                points: log.points + progress::points_added(words),
+                latest: Stamp(words[0]),
+            },
+            retained: kept_times,
+            count: kept,
+            answer: Answer::Written(written),
+        },
     }
 }
 
@@ -236,7 +300,7 @@ fn as_it_was(points: u32, times: u32, entries: u32, refusal: Refusal) -> Returne
 pub fn take(
     rule: &[u8],
     bytes: u32,
-    points: u32,
+    log: LogEnd,
     times: &mut [u32],
     retained: u32,
     owners: &mut [u32],
@@ -246,34 +310,53 @@ pub fn take(
     event: &[u32],
     report: &mut [u32],
 ) -> Returned
-    ensures { λ r. ⌜ TakesLent (lent (now (rule .entry)) bytes points (now (times .entry)) retained (now (owners .entry)) (now (numbers .entry)) (now (values .entry)) count) (now (event .entry)) (now (report .entry)) (r .answer) (lent (now (rule .entry)) bytes (r .points) (now (times .exit)) (r .retained) (now (owners .exit)) (now (numbers .exit)) (now (values .exit)) (r .count)) (now (report .exit)) ⌝ }
+    ensures { λ r. ⌜ TakesLent (lent (now (rule .entry)) bytes log (now (times .entry)) retained (now (owners .entry)) (now (numbers .entry)) (now (values .entry)) count) (eventOf (now (event .entry))) (now (report .entry)) (r .answer) (lent (now (rule .entry)) bytes (r .log) (now (times .exit)) (r .retained) (now (owners .exit)) (now (numbers .exit)) (now (values .exit)) (r .count)) (now (report .exit)) ⌝ }
 {
-    if !lengths_fit(rule, times, owners, numbers, values) {
-        return as_it_was(points, retained, count, Refusal::NotWellFormed);
-    }
-    if !figures::figures_fit(bytes, retained, count) {
-        return as_it_was(points, retained, count, Refusal::NotWellFormed);
-    }
-    let n = bytes as usize;
-    let taken = take_stored(
-        &rule[0..n],
-        points,
+    take_handed(
+        Handed::Event,
+        rule,
+        bytes,
+        log,
         times,
-        retained as usize,
+        retained,
         owners,
         numbers,
         values,
-        count as usize,
+        count,
         event,
         report,
-    );
-    match taken {
-        Taken::Refused(refusal) => as_it_was(points, retained, count, refusal),
-        Taken::Done(words, kept_times, kept) => Returned {
-            points: points + 1,
-            retained: kept_times,
-            count: kept,
-            answer: Answer::Written(words),
-        },
-    }
+    )
+}
+
+// Takes a clock notice, a time and no point, in the same way.
+pub fn notice(
+    rule: &[u8],
+    bytes: u32,
+    log: LogEnd,
+    times: &mut [u32],
+    retained: u32,
+    owners: &mut [u32],
+    numbers: &mut [u32],
+    values: &mut [u32],
+    count: u32,
+    time: u32,
+    report: &mut [u32],
+) -> Returned
+    ensures { λ r. ⌜ TakesLent (lent (now (rule .entry)) bytes log (now (times .entry)) retained (now (owners .entry)) (now (numbers .entry)) (now (values .entry)) count) (notice time) (now (report .entry)) (r .answer) (lent (now (rule .entry)) bytes (r .log) (now (times .exit)) (r .retained) (now (owners .exit)) (now (numbers .exit)) (now (values .exit)) (r .count)) (now (report .exit)) ⌝ }
+{
+    let words = [time; 1];
+    take_handed(
+        Handed::Notice,
+        rule,
+        bytes,
+        log,
+        times,
+        retained,
+        owners,
+        numbers,
+        values,
+        count,
+        &words,
+        report,
+    )
 }

@@ -1,13 +1,14 @@
 // An event taken in place, and its answer put behind the text so far.
 use crate::text::put_answer;
+use meaning::LogEnd;
 ghost use Prim.Native.Nat.{_+_, _≤_};
 ghost use lib.ListN.{length};
 ghost use Rattle.lent_state.specs.Lent.{lent};
 ghost use Rattle.listing.specs.Events.{EventAnswered};
 
-// A state's figures: the points accepted, the times retained and the entries kept.
+// A state's figures: where its log ends, the times retained and the entries kept.
 pub struct Figures {
-    pub points: u32,
+    pub log: LogEnd,
     pub retained: u32,
     pub count: u32,
 }
@@ -33,13 +34,14 @@ pub fn take_event(
     at: usize,
 ) -> Answered
     requires { ⌜ (at + 53504 ≤ length (now text)) × (length (now report) ≤ 4326) ⌝ }
-    ensures { λ r. ⌜ EventAnswered (lent (now (rule .entry)) bytes (figures .points) (now (times .entry)) (figures .retained) (now (owners .entry)) (now (numbers .entry)) (now (values .entry)) (figures .count)) (now (event .entry)) (now (report .entry)) (now (text .entry)) at (lent (now (rule .entry)) bytes (r .figures .points) (now (times .exit)) (r .figures .retained) (now (owners .exit)) (now (numbers .exit)) (now (values .exit)) (r .figures .count)) (now (report .exit)) (now (text .exit)) (r .end) ⌝ }
+    ensures { λ r. ⌜ EventAnswered (lent (now (rule .entry)) bytes (figures .log) (now (times .entry)) (figures .retained) (now (owners .entry)) (now (numbers .entry)) (now (values .entry)) (figures .count)) (now (event .entry)) (now (report .entry)) (now (text .entry)) at (lent (now (rule .entry)) bytes (r .figures .log) (now (times .exit)) (r .figures .retained) (now (owners .exit)) (now (numbers .exit)) (now (values .exit)) (r .figures .count)) (now (report .exit)) (now (text .exit)) (r .end) ⌝ }
     ensures { λ r. ⌜ r .end ≤ at + 53504 ⌝ }
 {
+    let log = figures.log;
     let left = lent_state::take(
         rule,
         bytes,
-        figures.points,
+        log,
         times,
         figures.retained,
         owners,
@@ -49,10 +51,11 @@ pub fn take_event(
         event,
         report,
     );
+    let log_now = left.log;
     let answer = left.answer;
     let end = put_answer(text, at, answer, report);
     let after = Figures {
-        points: left.points,
+        log: log_now,
         retained: left.retained,
         count: left.count,
     };

@@ -13,8 +13,10 @@ use lines::Next;
 use lines::next_event;
 use lines::put_checked;
 use lines::rule_in;
+use meaning::LogEnd;
 use meaning::MOST_ROWS;
 use meaning::RULE_BYTES;
+use meaning::Stamp;
 use monitor::State;
 use rulefile::Checked;
 use text::put_end;
@@ -51,7 +53,10 @@ fn take_all(first: State) {
     let mut numbers = first.numbers;
     let mut values = first.values;
     let mut figures = Figures {
-        points: first.points,
+        log: LogEnd {
+            points: first.points,
+            latest: Stamp(first.latest),
+        },
         retained: first.retained,
         count: first.count,
     };
@@ -73,10 +78,12 @@ fn take_all(first: State) {
         }
         let next = next_event(&bytes[from..to], &mut event);
         let Next::Event(n) = next else {
+            let log = figures.log;
             let state = State {
                 rule,
                 bytes: first.bytes,
-                points: figures.points,
+                points: log.points,
+                latest: log.latest.0,
                 times,
                 retained: figures.retained,
                 owners,

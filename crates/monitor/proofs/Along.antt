@@ -5,27 +5,28 @@ use mathlib.Core.Bool.{true}
 use mathlib.Core.List.{List, [], _∷_, _++_, append-nil, append-assoc}
 use lib.ListN.{length}
 use Rattle.meaning.specs.Outcome.{Outcome, refused, given}
-use Rattle.meaning.specs.Log.{Log}
+use Rattle.meaning.specs.Log.{Log, logOf}
 use Rattle.meaning.specs.RuleFile.{Accepted, checking}
-use Rattle.meaning.specs.Keeper.{Taking, Given, bufferAfter, answered, keeper}
+use Rattle.meaning.specs.Keeper.{Fed, Taking, Given, bufferAfter, answered, keeper}
 use Rattle.method.specs.Stored.{Stored, storedOf}
-use Rattle.method.specs.Step.{answerNow, storedAfter, reportNow, givenBy, storedBy}
+use Rattle.method.specs.Step.{wordsOf, answerNow, storedAfter, reportNow, givenBy, storedBy}
 use Rattle.method.specs.WellFormed.{wellFormed, Formed}
-use Rattle.method.proofs.Whole.{step-stored, step-given, log-ordered}
+use Rattle.method.proofs.Whole.{step-stored, step-given}
+use Rattle.meaning.proofs.Takings.{keeper-ordered}
 use Rattle.method.proofs.Formed.{formed}
 use Rattle.method.proofs.Reached.{reached, stored-well-formed}
 use Rattle.lent_state.specs.Answers.{takeAnswer}
 use Rattle.lent_state.specs.Lent.{Lent, fitting, stored, lentWith, answerIn, lentAfter}
 use Rattle.lent_state.proofs.Stores.{stored-with, fitting-with}
-use Rattle.monitor.specs.Reports.{logOf}
+use Rattle.monitor.specs.Reports.{takenOver, logOver}
 use Rattle.monitor.proofs.Logs.{log-then}
 
 -- what a taking gives back of memory m, and how it leaves m
 abbrev pub givenIn : Lent → Taking → Given
-givenIn m t = record { answer = answerIn m (t .event) (length (t .buffer)); buffer = bufferAfter (answerIn m (t .event) (length (t .buffer))) (reportNow (stored m) (t .event)) (t .buffer) }
+givenIn m t = record { answer = answerIn m (t .fed) (length (t .buffer)); buffer = bufferAfter (answerIn m (t .fed) (length (t .buffer))) (reportNow (stored m) (wordsOf (t .fed))) (t .buffer) }
 
 abbrev pub lentBy : Lent → Taking → Lent
-lentBy m t = lentAfter (answerIn m (t .event) (length (t .buffer))) m (t .event)
+lentBy m t = lentAfter (answerIn m (t .fed) (length (t .buffer))) m (t .fed)
 
 abbrev pub givenAll : Lent → List Taking → List Given
 givenAll m [] = []
@@ -41,19 +42,19 @@ pub record Stores (b : List ℕ) (l : Log) (m : Lent) : Type 0 where
   pub stores : stored m ≡ storedOf b l
 
 -- memory once a log is stored in it, or left as it was
-after : (b : List ℕ) (l : Log) (m : Lent) (w : List ℕ) → fitting m ≡ true → Formed (storedOf b l) → storedOf b l .rule ≡ stored m .rule → (o : Outcome ℕ) → storedAfter (stored m) w o ≡ storedOf b l → Stores b l (lentAfter o m w)
+after : (b : List ℕ) (l : Log) (m : Lent) (f : Fed) → fitting m ≡ true → Formed (storedOf b l) → storedOf b l .rule ≡ stored m .rule → (o : Outcome ℕ) → storedAfter (stored m) (wordsOf f) o ≡ storedOf b l → Stores b l (lentAfter o m f)
 unfolding storedAfter
 after b l m w fit f r (refused number place) e = record { fits = fit; stores = e }
 after b l m w fit f r (given words) e = subst (λ s. Stores b l (lentWith s m)) (sym e) (record { fits = fitting-with m (storedOf b l) f fit; stores = stored-with m (storedOf b l) f r })
 
 module _ (b : List ℕ) (a : Accepted) (ok : checking b ≡ given a) where
-  pub well : (ts : List Taking) → wellFormed (storedOf b (logOf b ts)) ≡ true
-  well ts = stored-well-formed b a ok (logOf b ts) (reached b a ok ts)
+  pub well : (ts : List Taking) → wellFormed (storedOf b (logOver b ts)) ≡ true
+  well ts = stored-well-formed b a ok (logOver b ts) (reached b a ok ts)
 
-  module _ (ts : List Taking) (m : Lent) (h : Stores b (logOf b ts) m) where
+  module _ (ts : List Taking) (m : Lent) (h : Stores b (logOver b ts) m) where
     -- a taking gives what the keeper gives, and leaves what the keeper's log stores
     module _ (t : Taking) where
-      answers : answerIn m (t .event) (length (t .buffer)) ≡ answerNow (stored m) (t .event) (length (t .buffer))
+      answers : answerIn m (t .fed) (length (t .buffer)) ≡ answerNow (stored m) (t .fed) (length (t .buffer))
       unfolding answerIn takeAnswer
       answers =
           let w : wellFormed (stored m) ≡ true = rw (h .stores) (well ts) in
@@ -63,29 +64,29 @@ module _ (b : List ℕ) (a : Accepted) (ok : checking b ≡ given a) where
       unfolding givenBy
       given-by = rw answers
 
-      one-given : givenIn m t ≡ answered b (logOf b ts) t
-      one-given = given-by ∙ ap (λ q. givenBy q t) (h .stores) ∙ step-given b a ok (logOf b ts) (log-ordered b ts) t
+      one-given : givenIn m t ≡ answered b (takenOver b ts) t
+      one-given = given-by ∙ ap (λ q. givenBy q t) (h .stores) ∙ step-given b a ok (takenOver b ts) (keeper-ordered b ts) t
 
-      stored-by : storedAfter (stored m) (t .event) (answerIn m (t .event) (length (t .buffer))) ≡ storedOf b (logOf b (ts ++ t ∷ []))
+      stored-by : storedAfter (stored m) (wordsOf (t .fed)) (answerIn m (t .fed) (length (t .buffer))) ≡ storedOf b (logOver b (ts ++ t ∷ []))
       unfolding storedBy
       stored-by =
-          ap (storedAfter (stored m) (t .event)) answers ∙ ap (λ q. storedBy q t) (h .stores) ∙ step-stored b a ok (logOf b ts) (log-ordered b ts) t
-          ∙ ap (storedOf b) (sym (log-then b [] ts (t ∷ [])))
+          ap (storedAfter (stored m) (wordsOf (t .fed))) answers ∙ ap (λ q. storedBy q t) (h .stores) ∙ step-stored b a ok (takenOver b ts) (keeper-ordered b ts) t
+          ∙ ap (λ es. storedOf b (logOf es)) (sym (log-then b [] ts (t ∷ [])))
 
-      one-stored : Stores b (logOf b (ts ++ t ∷ [])) (lentBy m t)
+      one-stored : Stores b (logOver b (ts ++ t ∷ [])) (lentBy m t)
       unfolding storedOf
-      one-stored = after b (logOf b (ts ++ t ∷ [])) m (t .event) (h .fits) (formed _ (well (ts ++ t ∷ []))) (ap (λ (q : Stored). q .rule) (sym (h .stores))) (answerIn m (t .event) (length (t .buffer))) stored-by
+      one-stored = after b (logOver b (ts ++ t ∷ [])) m (t .fed) (h .fits) (formed _ (well (ts ++ t ∷ []))) (ap (λ (q : Stored). q .rule) (sym (h .stores))) (answerIn m (t .fed) (length (t .buffer))) stored-by
 
   -- over further takings
   pub record Along (ts : List Taking) (m : Lent) (us : List Taking) : Type 0 where
-    pub gives : givenAll m us ≡ keeper b (logOf b ts) us
-    pub leaves : Stores b (logOf b (ts ++ us)) (lentAll m us)
+    pub gives : givenAll m us ≡ keeper b (takenOver b ts) us
+    pub leaves : Stores b (logOver b (ts ++ us)) (lentAll m us)
 
-  pub along : (ts : List Taking) (m : Lent) → Stores b (logOf b ts) m → (us : List Taking) → Along ts m us
+  pub along : (ts : List Taking) (m : Lent) → Stores b (logOver b ts) m → (us : List Taking) → Along ts m us
   along ts m h [] = record { gives = refl; leaves = rw append-nil h }
   along ts m h (t ∷ us) =
       let rest : Along (ts ++ t ∷ []) (lentBy m t) us = along (ts ++ t ∷ []) (lentBy m t) (one-stored ts m h t) us in
       record {
-        gives = ap₂ (λ g gs. g ∷ gs) (one-given ts m h t) (rest .gives ∙ ap (λ l. keeper b l us) (log-then b [] ts (t ∷ [])));
+        gives = ap₂ (λ g gs. g ∷ gs) (one-given ts m h t) (rest .gives ∙ ap (λ es. keeper b es us) (log-then b [] ts (t ∷ [])));
         leaves = rw append-assoc at (rest .leaves);
       }

@@ -10,6 +10,7 @@ use lib.Seq.{drop-at}
 use types.Run.{OneOf, miss}
 use denote.Enum.Declared.{tagOf}
 use Rattle.meaning.specs.Outcome.{given, Outcome, refused}
+use Rattle.meaning.specs.Log.{size, latest, logOf}
 use Rattle.meaning.specs.RuleFile.{Accepted as Answer, checking, isAccepted, nodeCount}
 use Rattle.meaning.specs.Kept.{entriesOf, entries}
 use Rattle.meaning.proofs.Accepted.{accepted, nodes-most}
@@ -31,7 +32,7 @@ use Rattle.monitor.proofs.Along.{Stores}
 
 -- the state of a rule: its bytes copied to the front of zeros
 pub rule-in : (z : State) (b bytes : List ℕ) → z ≡ blank → length b ≤ 652 → bytes ≡ atFront b (replicate 652 0)
-    → record { rule = bytes; bytes = length b; points = z .points; times = z .times; retained = z .retained; owners = z .owners; numbers = z .numbers; values = z .values; count = z .count } ≡ startState b
+    → record { rule = bytes; bytes = length b; points = z .points; latest = z .latest; times = z .times; retained = z .retained; owners = z .owners; numbers = z .numbers; values = z .values; count = z .count } ≡ startState b
 unfolding startState
 rule-in z b bytes e l t =
     let n : length b + (652 - length b) ≡ 652 = omega arith in
@@ -44,13 +45,13 @@ pub rule-fits : (b : List ℕ) (a : Answer) → checking b ≡ given a → lengt
 rule-fits b a ok = omega (arith, accepted b a ok .long, nodes-most b a ok)
 
 -- what the start's state stores is the empty log
-pub start-stores : (b : List ℕ) (a : Answer) → checking b ≡ given a → Stores b [] (lentOf (startState b))
-unfolding startState storedOf entries entriesFrom
+pub start-stores : (b : List ℕ) (a : Answer) → checking b ≡ given a → Stores b (logOf []) (lentOf (startState b))
+unfolding startState storedOf entries entriesFrom logOf size latest
 start-stores b a ok =
     let l : length b ≤ 652 = rule-fits b a ok in
     record {
       fits = sized-fits (record { rule-long = simp (length-append, length-replicate) (omega arith); times-long = length-replicate {A = ℕ} 65 0; owners-long = length-replicate {A = ℕ} 512 0; numbers-long = length-replicate {A = ℕ} 512 0; values-long = length-replicate {A = ℕ} 2048 0 });
-      stores = rw (front-read b (replicate (652 - length b) 0), zero-sub, gather-none (entriesOf b []) 0 (nodeCount b) (λ x u o. empty-entries b x));
+      stores = rw (front-read b (replicate (652 - length b) 0), zero-sub, gather-none (entriesOf b (logOf [])) 0 (nodeCount b) (λ x u o. empty-entries b x));
     }
 
 -- the kinds of answers of checking that are refusals

@@ -1,9 +1,10 @@
--- What starting and taking give back, for any bytes, any state, any event words and any buffer.
+-- What starting and taking give back, for any bytes, any state, any event words or notice's time and any buffer.
 use Prim.Native.Nat.{ℕ}
 use mathlib.Core.Path.{_≡_}
 use mathlib.Core.List.{List}
 use Rattle.meaning.specs.Outcome.{Outcome, refused, given}
 use Rattle.meaning.specs.RuleFile.{Accepted, checking}
+use Rattle.meaning.specs.Keeper.{Fed}
 use Rattle.rulefile.specs.Checked.{answerOf as checkedOf}
 use Rattle.lent_state.specs.Lent.{TakesLent}
 use Rattle.monitor.specs.State.{lentOf, startState, blank}
@@ -21,6 +22,6 @@ pub record Starts (b : List ℕ) (r : Started) : Type 0 where
   pub answered : checkedOf (r .checked) ≡ checking b
   pub started : r .state ≡ stateFor b (checking b)
 
--- "Take an event": what a taking promises of the parts that it is lent
-abbrev pub Takes : State → List ℕ → List ℕ → Step → List ℕ → Type 0
-Takes s w buffer r buffer' = TakesLent (lentOf s) w buffer (r .answer) (lentOf (r .state)) buffer'
+-- "Take an event", or a notice: what a taking promises of the parts that it is lent
+abbrev pub Takes : State → Fed → List ℕ → Step → List ℕ → Type 0
+Takes s f buffer r buffer' = TakesLent (lentOf s) f buffer (r .answer) (lentOf (r .state)) buffer'

@@ -1,26 +1,32 @@
-// The monitor: its state, starting it, taking events, and the figures to be read off it.
+// The monitor: its state, starting it, taking events and notices, and the figures to be read off it.
+use events::Handed;
 use figures::Open;
 use lent_state::Answer;
+use meaning::LogEnd;
 use meaning::MOST_KEPT;
 use meaning::RULE_BYTES;
+use meaning::Stamp;
 use meaning::TIME_WORDS;
 use rulefile::Checked;
 ghost use mathlib.Core.Path.{_≡_};
 ghost use Prim.Native.Nat.{_≤_};
 ghost use lib.ListN.{length};
 ghost use Rattle.meaning.specs.Outcome.{mostBytes};
+ghost use Rattle.meaning.specs.Keeper.{event as eventOf, notice};
 ghost use Rattle.method.specs.Step.{keptStored};
+ghost use Rattle.events.specs.Answers.{fedOf, HandedWhole};
 ghost use Rattle.figures.specs.Fronts.{openOf, openAnswer};
 ghost use Rattle.entries.specs.Appended.{atFront};
 ghost use Rattle.monitor.specs.State.{stored, startState, blank};
 ghost use Rattle.monitor.specs.Contracts.{Starts, Takes};
 
-// What is kept between calls, by value: the rule's bytes and how many they are; the points accepted; the retained times and how many they are; the kept entries, each with its owner (a node twice, and 1 more for a pair), the number of its point or its age, and its four values; and their count.
+// What is kept between calls, by value: the rule's bytes and how many they are; the points accepted; the latest known time, of a point or a notice; the retained times and how many they are; the kept entries, each with its owner (a node twice, and 1 more for a pair), the number of its point or its age, and its four values; and their count.
 #[repr(C)]
 pub struct State {
     pub rule: [u8; RULE_BYTES],
     pub bytes: u32,
     pub points: u32,
+    pub latest: u32,
     pub times: [u32; TIME_WORDS],
     pub retained: u32,
     pub owners: [u32; MOST_KEPT],
@@ -62,6 +68,7 @@ fn zeros() -> State
         rule: [0; RULE_BYTES],
         bytes: 0,
         points: 0,
+        latest: 0,
         times: [0; TIME_WORDS],
         retained: 0,
         owners: [0; MOST_KEPT],
@@ -98,32 +105,39 @@ pub fn start(rule: &[u8]) -> Started
     Started { checked, state }
 }
 
-// Takes an event: any state, any event words, any report buffer.
-pub fn take(state: State, event: &[u32], report: &mut [u32]) -> Step
-    ensures { λ r. ⌜ Takes state (now (event .entry)) (now (report .entry)) r (now (report .exit)) ⌝ }
+// Takes what is handed in: the one way for both.
+fn take_handed(state: State, handed: Handed, words: &[u32], report: &mut [u32]) -> Step
+    requires { ⌜ HandedWhole handed (now words) ⌝ }
+    ensures { λ r. ⌜ Takes state (fedOf handed (now (words .entry))) (now (report .entry)) r (now (report .exit)) ⌝ }
 {
     let mut times = state.times;
     let mut owners = state.owners;
     let mut numbers = state.numbers;
     let mut values = state.values;
-    let left = lent_state::take(
+    let left = lent_state::take_handed(
+        handed,
         &state.rule,
         state.bytes,
-        state.points,
+        LogEnd {
+            points: state.points,
+            latest: Stamp(state.latest),
+        },
         &mut times,
         state.retained,
         &mut owners,
         &mut numbers,
         &mut values,
         state.count,
-        event,
+        words,
         report,
     );
     let rule = state.rule;
+    let log = left.log;
     let next = State {
         rule,
         bytes: state.bytes,
-        points: left.points,
+        points: log.points,
+        latest: log.latest.0,
         times,
         retained: left.retained,
         owners,
@@ -136,6 +150,21 @@ pub fn take(state: State, event: &[u32], report: &mut [u32]) -> Step
         state: next,
         answer,
     }
+}
+
+// Takes an event: any state, any event words, any report buffer.
+pub fn take(state: State, event: &[u32], report: &mut [u32]) -> Step
+    ensures { λ r. ⌜ Takes state (eventOf (now (event .entry))) (now (report .entry)) r (now (report .exit)) ⌝ }
+{
+    take_handed(state, Handed::Event, event, report)
+}
+
+// Takes a clock notice, a time and no point: any state, any time, any report buffer.
+pub fn notice(state: State, time: u32, report: &mut [u32]) -> Step
+    ensures { λ r. ⌜ Takes state (notice time) (now (report .entry)) r (now (report .exit)) ⌝ }
+{
+    let words = [time; 1];
+    take_handed(state, Handed::Notice, &words, report)
 }
 
 // How many entries a state keeps.
@@ -152,7 +181,10 @@ pub fn open_points(state: State) -> Open
     figures::open_points(
         &state.rule,
         state.bytes,
-        state.points,
+        LogEnd {
+            points: state.points,
+            latest: Stamp(state.latest),
+        },
         &state.times,
         state.retained,
         &state.owners,

@@ -6,8 +6,8 @@ use mathlib.Core.List.{List}
 use lib.ListN.{length}
 use Rattle.meaning.specs.Outcome.{Outcome, refused, given, notWellFormed}
 use Rattle.meaning.specs.RuleFile.{checking}
-use Rattle.meaning.specs.Keeper.{bufferAfter}
-use Rattle.method.specs.Step.{keptStored, reportNow}
+use Rattle.meaning.specs.Keeper.{Fed, bufferAfter}
+use Rattle.method.specs.Step.{wordsOf, keptStored, reportNow}
 use Rattle.figures.specs.Fronts.{openAnswer}
 use Rattle.lent_state.specs.Lent.{Lent, fitting, stored, answerIn, lentAfter}
 use Rattle.monitor.specs.Contracts.{stateFor}
@@ -38,8 +38,8 @@ openIn m = cond (fitting m) (openAnswer (stored m)) (refused notWellFormed 0)
 abbrev pub figuresOf : Lent → Figures
 figuresOf m = figuresWith (openIn m) (keptStored (stored m))
 
--- A taking in place: what `lent_state::take` promises, with its answer told in numbers.
-pub record TakesAs (m : Lent) (w buffer : List ℕ) (r : Told) (m' : Lent) (buffer' : List ℕ) : Type 0 where
-  pub told : r ≡ toldOf (answerIn m w (length buffer))
-  pub moved : m' ≡ lentAfter (answerIn m w (length buffer)) m w
-  pub written : buffer' ≡ bufferAfter (answerIn m w (length buffer)) (reportNow (stored m) w) buffer
+-- A taking in place, of an event or a notice: what `lent_state::take` and `lent_state::notice` promise, with the answer told in numbers.
+pub record TakesAs (m : Lent) (f : Fed) (buffer : List ℕ) (r : Told) (m' : Lent) (buffer' : List ℕ) : Type 0 where
+  pub told : r ≡ toldOf (answerIn m f (length buffer))
+  pub moved : m' ≡ lentAfter (answerIn m f (length buffer)) m f
+  pub written : buffer' ≡ bufferAfter (answerIn m f (length buffer)) (reportNow (stored m) (wordsOf f)) buffer

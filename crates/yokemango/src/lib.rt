@@ -4,6 +4,8 @@ use figures::open_points;
 use lent_state::Answer;
 use lent_state::lengths_fit;
 use limits::Refusal;
+use meaning::LogEnd;
+use meaning::Stamp;
 use monitor::State;
 use refusals::of_event;
 use refusals::of_rule;
@@ -12,6 +14,7 @@ use rulefile::Checked;
 use rulefile::check;
 ghost use mathlib.Core.Path.{_≡_};
 ghost use Rattle.meaning.specs.RuleFile.{checking};
+ghost use Rattle.meaning.specs.Keeper.{event as eventOf, notice};
 ghost use Rattle.rulefile.specs.Checked.{answerOf};
 ghost use Rattle.yokemango.specs.Parts.{partsOf};
 ghost use lib.ListN.{length};
@@ -20,6 +23,7 @@ ghost use Rattle.report.specs.Answer.{partOf};
 ghost use Rattle.limits.specs.Weighs.{refusalOf};
 ghost use Rattle.figures.specs.Fronts.{openOf};
 ghost use Rattle.lent_state.specs.Lent.{lent, answerOf as answered};
+ghost use Rattle.monitor.specs.State.{endAt};
 ghost use Rattle.yokemango.specs.Exported.{formNumber, countOrNone, wordOrNone};
 ghost use Rattle.yokemango.specs.Numbers.{startParts, toldOf, figuresWith, figuresOf, TakesAs};
 
@@ -186,6 +190,7 @@ pub extern "C" fn yokemango_take(
     rule: &[u8],
     bytes: u32,
     points: &mut u32,
+    latest: &mut u32,
     times: &mut [u32],
     retained: &mut u32,
     owners: &mut [u32],
@@ -195,12 +200,15 @@ pub extern "C" fn yokemango_take(
     event: &[u32],
     report: &mut [u32],
 ) -> Told
-    ensures { λ r. ⌜ TakesAs (lent (now (rule .entry)) bytes (now (points .entry)) (now (times .entry)) (now (retained .entry)) (now (owners .entry)) (now (numbers .entry)) (now (values .entry)) (now (count .entry))) (now (event .entry)) (now (report .entry)) r (lent (now (rule .entry)) bytes (now (points .exit)) (now (times .exit)) (now (retained .exit)) (now (owners .exit)) (now (numbers .exit)) (now (values .exit)) (now (count .exit))) (now (report .exit)) ⌝ }
+    ensures { λ r. ⌜ TakesAs (lent (now (rule .entry)) bytes (endAt (now (points .entry)) (now (latest .entry))) (now (times .entry)) (now (retained .entry)) (now (owners .entry)) (now (numbers .entry)) (now (values .entry)) (now (count .entry))) (eventOf (now (event .entry))) (now (report .entry)) r (lent (now (rule .entry)) bytes (endAt (now (points .exit)) (now (latest .exit))) (now (times .exit)) (now (retained .exit)) (now (owners .exit)) (now (numbers .exit)) (now (values .exit)) (now (count .exit))) (now (report .exit)) ⌝ }
 {
     let left = lent_state::take(
         rule,
         bytes,
-        *points,
+        LogEnd {
+            points: *points,
+            latest: Stamp(*latest),
+        },
         times,
         *retained,
         owners,
@@ -210,10 +218,55 @@ pub extern "C" fn yokemango_take(
         event,
         report,
     );
-    *points = left.points;
+    let log = left.log;
+    *points = log.points;
+    *latest = log.latest.0;
     *retained = left.retained;
     *count = left.count;
     let answer = left.answer;
+    told_answer(answer)
+}
+
+// Takes a clock notice, in place: the parts of any state, any time, any report buffer. Where a length isn't a state's the answer is 8.
+#[no_mangle]
+pub extern "C" fn yokemango_notice(
+    rule: &[u8],
+    bytes: u32,
+    points: &mut u32,
+    latest: &mut u32,
+    times: &mut [u32],
+    retained: &mut u32,
+    owners: &mut [u32],
+    numbers: &mut [u32],
+    values: &mut [u32],
+    count: &mut u32,
+    time: u32,
+    report: &mut [u32],
+) -> Told
+    ensures { λ r. ⌜ TakesAs (lent (now (rule .entry)) bytes (endAt (now (points .entry)) (now (latest .entry))) (now (times .entry)) (now (retained .entry)) (now (owners .entry)) (now (numbers .entry)) (now (values .entry)) (now (count .entry))) (notice time) (now (report .entry)) r (lent (now (rule .entry)) bytes (endAt (now (points .exit)) (now (latest .exit))) (now (times .exit)) (now (retained .exit)) (now (owners .exit)) (now (numbers .exit)) (now (values .exit)) (now (count .exit))) (now (report .exit)) ⌝ }
+{
+    let noted = lent_state::notice(
+        rule,
+        bytes,
+        LogEnd {
+            points: *points,
+            latest: Stamp(*latest),
+        },
+        times,
+        *retained,
+        owners,
+        numbers,
+        values,
+        *count,
+        time,
+        report,
+    );
+    let end = noted.log;
+    *points = end.points;
+    *latest = end.latest.0;
+    *retained = noted.retained;
+    *count = noted.count;
+    let answer = noted.answer;
     told_answer(answer)
 }
 
@@ -240,6 +293,7 @@ pub extern "C" fn yokemango_figures<'a>(
     rule: &'a [u8],
     bytes: u32,
     points: u32,
+    latest: u32,
     times: &'a [u32],
     retained: u32,
     owners: &'a [u32],
@@ -247,7 +301,7 @@ pub extern "C" fn yokemango_figures<'a>(
     values: &'a [u32],
     count: u32,
 ) -> Figures
-    ensures { λ r. ⌜ r ≡ figuresOf (lent (now (rule .entry)) bytes points (now (times .entry)) retained (now (owners .entry)) (now (numbers .entry)) (now (values .entry)) count) ⌝ }
+    ensures { λ r. ⌜ r ≡ figuresOf (lent (now (rule .entry)) bytes (endAt points latest) (now (times .entry)) retained (now (owners .entry)) (now (numbers .entry)) (now (values .entry)) count) ⌝ }
 {
     if !lengths_fit(rule, times, owners, numbers, values) {
         return figures_of(Open::NotWellFormed, count);
@@ -255,7 +309,10 @@ pub extern "C" fn yokemango_figures<'a>(
     let found = open_points(
         rule,
         bytes,
-        points,
+        LogEnd {
+            points,
+            latest: Stamp(latest),
+        },
         times,
         retained,
         owners,

@@ -8,6 +8,8 @@ use lib.Seq.{length-take-le}
 use denote.Ref.{now}
 use Rattle.meaning.specs.RuleFile.{nodeCount}
 use Rattle.meaning.proofs.Accepted.{accepted, nodes-most}
+use Rattle.method.specs.Step.{pointsAdded}
+use Rattle.method.proofs.Bounds.{one-added}
 use Rattle.lent_state.proofs.Ready.{counting, few-rows, call-ready, rows-enough, taken-now}
 use borrow.Author.Needs.{needs}
 use Rattle.lent_state.proofs.take_admitted.Statement.{statement}
@@ -30,7 +32,7 @@ nodes c =
 -- the times that are retained
 retained : (c : tie.After-node-total)
     → let s = c .before .before .before .before .before .before .before .before .before .before .before .before .before in
-    (take (s .args .retained - 0) (now (s .args .times)) ≡ take (s .args .retained) (now (s .args .times))) × (s .args .retained + 1 - 0 ≡ length (take (s .args .retained) (now (s .args .times))) + 1) × (s .args .retained ≤ s .args .points) × (s .args .retained ≤ 64)
+    (take (s .args .retained - 0) (now (s .args .times)) ≡ take (s .args .retained) (now (s .args .times))) × (s .args .retained + 1 - 0 ≡ length (take (s .args .retained) (now (s .args .times))) + 1) × (s .args .retained ≤ s .args .log .points) × (s .args .retained ≤ 64)
 retained c =
     let s = c .before .before .before .before .before .before .before .before .before .before .before .before .before in
     let z : s .args .retained - 0 ≡ s .args .retained = omega arith in
@@ -50,7 +52,7 @@ call-table-requires c κs =
     let (et, em, ep, el) = retained (c .before .before .before .before .before .before) in
     let (known, places) = s .pre .1 .1 .0 in
     let long = s .pre .1 .1 .1 .1 in
-    (counting _ _ _ _ _ _ _ (s .pre .1 .0) known _ e et, ((omega (arith, s .pre .1 .1 .1 .0 .0 .there), long .0, long .2, long .3, long .4, omega arith, omega arith, omega arith), few-rows _ _ _ _ _ _ _ (s .pre .1 .0) places (s .pre .0 .few-kept)))
+    (counting _ _ _ _ _ _ _ (s .pre .1 .0) known _ e et, ((s .pre .1 .1 .1 .0 .1, long .0, long .2, long .3, long .4, omega arith, omega arith, omega arith), few-rows _ _ _ _ _ _ _ (s .pre .1 .0) places (s .pre .0 .few-kept)))
 
 settle-in-room-requires : tie.Need-settle-in-room-requires
 settle-in-room-requires c κs =
@@ -58,34 +60,41 @@ settle-in-room-requires c κs =
     let (e, few) = nodes (c .before .before .before .before .before .before .before .before .before .before .before .before .before .before .before .before .before) in
     let (et, em, ep, el) = retained (c .before .before .before .before .before .before .before .before .before .before .before .before .before .before .before .before .before) in
     let (known, places) = s .pre .1 .1 .0 in
-    let (event, room) = s .pre .1 .1 .1 .0 in
+    let (event, some, room) = s .pre .1 .1 .1 .0 in
     let t = c .before .before .before .before .before .before .before .before .before .before .call-table .ensures in (
       call-ready _ _ _ _ _ _ _ (s .pre .1 .0) _ (s .pre .0) known places _ e et t _ em (λ x. omega (arith, c .before .before .before .before .before .before .before .before .before .before .before .before .before .before .before .before .before .before .before .before .before .before .shared-slice-known3 .given x)) event room (omega (arith, c .before .before .before .before .before .before .before .table2 .given)),
       rows-enough _ _ _ _ _ _ _ (s .pre .1 .0) _ (s .pre .0) known places _ e et t _ em,
     )
 
 part-finish-end : tie.Need-part-finish-end
-part-finish-end c = omega (arith, nodes (c .before .before .before .before .before .before .before .before .before .before .before .before .before .before .before .before .before .before .before .before .before .before .before .before .before .before .before), c .before .before .before .before .before .before .before .before .before .before .before .before .before .before .before .before .before .before .after2 .given)
+part-finish-end c = omega (arith, nodes (c .before .before .before .before .before .before .before .before .before .before .before .before .before .before .before .before .before .before .before .before .before .before .before .before .before .before .before .before), c .before .before .before .before .before .before .before .before .before .before .before .before .before .before .before .before .before .before .before .after2 .given)
+
+-- the points that are added
+added : (c : tie.After-points-added) → let s = c .before .before .before .before .before .before .before .before .before .before .before .before .before .before .before .before .before .before .before .before .before .before .before .before .before .before .before .before .before .before .before .before .before .before .before .before .before .before .before .before in (c .points-added .result ≡ pointsAdded (now (s .args .words))) × (c .points-added .result ≤ 1)
+added c = (c .points-added .ensures, omega (arith, c .points-added .ensures, one-added (now (c .before .before .before .before .before .before .before .before .before .before .before .before .before .before .before .before .before .before .before .before .before .before .before .before .before .before .before .before .before .before .before .before .before .before .before .before .before .before .before .before .args .words))))
 
 add-finish : tie.Need-add-finish
-add-finish c = omega (arith, c .before .before .before .before .before .before .before .before .before .before .before .before .before .before .before .before .before .before .before .before .before .before .before .before .before .before .before .before .before .before .before .before .before .before .before .before .before .before .before .before .before .pre .1 .1 .1 .0 .1)
+add-finish c = omega (arith, c .before .before .before .before .before .before .before .before .before .before .before .before .before .before .before .before .before .before .before .before .before .before .before .before .before .before .before .before .before .before .before .before .before .before .before .before .before .before .before .before .before .before .before .pre .1 .1 .1 .0 .2, added (c .before .before .before) .0)
 
 part-finish-end-2 : tie.Need-part-finish-end-2
-part-finish-end-2 c = omega (arith, retained (c .before .before .before .before .before .before .before .before .before .before .before .before .before .before .before .before .before .before .before .before .before .before .before .before .before .before .before .before .before) .3, c .before .before .before .before .before .before .before .before .before .before .before .before .before .before .before .before .before .before .before .before .before .stamps2 .given)
+part-finish-end-2 c = omega (arith, retained (c .before .before .before .before .before .before .before .before .before .before .before .before .before .before .before .before .before .before .before .before .before .before .before .before .before .before .before .before .before .before .before) .3, added (c .before .before .before .before) .1, c .before .before .before .before .before .before .before .before .before .before .before .before .before .before .before .before .before .before .before .before .before .before .before .stamps2 .given)
 
 finish-requires : tie.Need-finish-requires
 finish-requires c κs =
-    let s = c .before .before .before .before .before .before .before .before .before .before .before .before .before .before .before .before .before .before .before .before .before .before .before .before .before .before .before .before .before .before .before .before .before .before .before .before .before .before .before .before .before .before .before .before in
-    let (et, em, ep, el) = retained (c .before .before .before .before .before .before .before .before .before .before .before .before .before .before .before .before .before .before .before .before .before .before .before .before .before .before .before .before .before .before .before) in
-    first-many (s .args .retained + 1 - 0) _ _ (s .args .points + 1) (length (now (s .args .times))) (c .before .before .before .before .before .before .before .before .before .before .before .before .before .before .before .before .before .before .before .before .before .before .before .stamps2 .given) (omega arith) (omega arith) (omega (arith, s .pre .0)) (omega arith)
+    let s = c .before .before .before .before .before .before .before .before .before .before .before .before .before .before .before .before .before .before .before .before .before .before .before .before .before .before .before .before .before .before .before .before .before .before .before .before .before .before .before .before .before .before .before .before .before .before in
+    let (et, em, ep, el) = retained (c .before .before .before .before .before .before .before .before .before .before .before .before .before .before .before .before .before .before .before .before .before .before .before .before .before .before .before .before .before .before .before .before .before) in
+    let (ea, one) = added (c .before .before .before .before .before .before) in
+    first-many (s .args .retained + c .before .before .before .before .before .before .points-added .result - 0) _ _ (s .args .log .points + c .before .before .before .before .before .before .points-added .result) (length (now (s .args .times))) (c .before .before .before .before .before .before .before .before .before .before .before .before .before .before .before .before .before .before .before .before .before .before .before .before .before .stamps2 .given) (omega arith) (omega arith) (omega (arith, s .pre .0)) (omega arith)
 
 returns : tie.Need-returns
 returns c =
-    let s = c .before .before .before .before .before .before .before .before .before .before .before .before .before .before .before .before .before .before .before .before .before .before .before .before .before .before .before .before .before .before .before .before .before .before .before .before .before .before .before .before .before .before .before .before .before .before .before in
-    let (e, few) = nodes (c .before .before .before .before .before .before .before .before .before .before .before .before .before .before .before .before .before .before .before .before .before .before .before .before .before .before .before .before .before .before .before .before .before .before) in
-    let (et, em, ep, el) = retained (c .before .before .before .before .before .before .before .before .before .before .before .before .before .before .before .before .before .before .before .before .before .before .before .before .before .before .before .before .before .before .before .before .before .before) in
+    let s = c .before .before .before .before .before .before .before .before .before .before .before .before .before .before .before .before .before .before .before .before .before .before .before .before .before .before .before .before .before .before .before .before .before .before .before .before .before .before .before .before .before .before .before .before .before .before .before .before .before in
+    let (e, few) = nodes (c .before .before .before .before .before .before .before .before .before .before .before .before .before .before .before .before .before .before .before .before .before .before .before .before .before .before .before .before .before .before .before .before .before .before .before .before) in
+    let (et, em, ep, el) = retained (c .before .before .before .before .before .before .before .before .before .before .before .before .before .before .before .before .before .before .before .before .before .before .before .before .before .before .before .before .before .before .before .before .before .before .before .before) in
+    let (ea, one) = added (c .before .before .before .before .before .before .before .before .before) in
     let (known, places) = s .pre .1 .1 .0 in
-    taken-now _ _ _ _ _ _ _ (s .pre .1 .0) _ (s .pre .0) known places _ e et (c .before .before .before .before .before .before .before .before .before .before .before .before .before .before .before .before .before .before .before .before .before .before .before .before .before .before .before .call-table .ensures) _ em (c .before .before .before .before .before .before .before .before .before .before .before .before .before .before .before .before .settle-in-room .ensures) (c .before .before .finish .ensures)
+    let many : s .args .retained + c .before .before .before .before .before .before .before .before .before .points-added .result - 0 ≡ length (take (s .args .retained) (now (s .args .times))) + pointsAdded (now (s .args .words)) = omega arith in
+    taken-now _ _ _ _ _ _ _ (s .pre .1 .0) _ (s .pre .0) known places _ e et (c .before .before .before .before .before .before .before .before .before .before .before .before .before .before .before .before .before .before .before .before .before .before .before .before .before .before .before .before .before .call-table .ensures) _ em _ ea many (c .before .before .before .before .before .before .before .before .before .before .before .before .before .before .before .before .before .before .settle-in-room .ensures) (c .before .before .finish .ensures)
 
 pub take-admitted-spec : {M : Type 1} → statement M
 take-admitted-spec =
@@ -108,6 +117,9 @@ take-admitted-spec =
     (λ c. search needs)
     (λ c. search needs)
     settle-in-room-requires
+    (λ c κs. search needs)
+    (λ c. search needs)
+    (λ c. let (ea, one) = added c in omega (arith, retained (c .before .before .before .before .before .before .before .before .before .before .before .before .before .before .before .before .before .before .before .before .before .before .before .before .before .before .before) .3))
     (λ c. search needs)
     (λ c. search needs)
     part-finish-end

@@ -7,7 +7,7 @@ use Rattle.yokemango.proofs.yokemango_take.Tie as tie
 
 returns : tie.Need-returns
 returns c =
-    let t = c .before .before .before .before .before .before .before .before .before .before .before .take .ensures in
+    let t = c .before .before .before .before .before .before .before .before .before .before .before .before .take .ensures in
     record { told = c .told-answer .ensures ∙ ap toldOf (t .answered); moved = t .moved; written = t .written }
 
 pub yokemango-take-spec : {M : Type 1} → statement M

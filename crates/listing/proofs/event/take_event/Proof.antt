@@ -5,7 +5,7 @@ use Rattle.listing.proofs.event.take_event.Tie as tie
 
 returns : tie.Need-returns
 returns c =
-    let took = c .before .before .before .before .before .before .before .before .before .before .before .before .before .before .before .take .ensures in
+    let took = c .before .before .before .before .before .before .before .before .before .before .before .before .before .before .before .before .take .ensures in
     let put = c .before .before .put-answer .ensures in
     (record { moved = took .moved; written = took .written; put = rw (took .answered) at (put .0) }, put .1)
 
