@@ -3,9 +3,9 @@
 
     definitions.py [CASES [SEED]]    default: 60 cases, seed 1
 
-The checker itself computes each case, from the rule's bytes and the events' words to answers, reported points with their rows, and
-the open and kept figures; a case that differs is refused. Rules of up to seven nodes, one in five damaged in a byte; logs of up to
-six events, some of them to be refused; report buffers of 3 to 40 words.
+The checker itself computes each case, from the rule's bytes, the events' words and the notices' times to answers, reported points with
+their rows, the open and kept figures and the latest known time; a case that differs is refused. Rules of up to seven nodes, one in five
+damaged in a byte; lists of up to six events and notices, some of them to be refused; report buffers of 3 to 40 words.
 """
 import collections
 import pathlib
@@ -19,21 +19,21 @@ import tempfile
 import plain
 
 TOP = pathlib.Path(__file__).resolve().parent.parent
-OPENED = """time rowsAt latest wordAt sizesFit headAt bodyAt nodeOf nodeAt formulaAt shapeFits rangeFits timesChild weighNode checking
+OPENED = """size time rowsAt latest logOf wordAt sizesFit headAt bodyAt nodeOf nodeAt formulaAt shapeFits rangeFits timesChild weighNode checking
 lastPairs consulted parentOf pointEntries ageEntries entriesOf entries kept openPoints isEvent rowFits pointOf reportWords newlySettled
-reported report admitted weighed crowdedAt answer step""".split()
+reported report admitted weighed crowdedAt answerOn step""".split()
 HEAD = """use Prim.Native.Nat.{ℕ}
 use mathlib.Core.Path.{_≡_, refl}
 use mathlib.Core.List.{List, [], _∷_, _++_}
 use lib.ListN.{length, replicate}
 use Rattle.meaning.specs.Lists.{gather}
 use Rattle.meaning.specs.Outcome.{Outcome, refused, given}
-use Rattle.meaning.specs.Log.{Log, time, rowsAt, latest}
+use Rattle.meaning.specs.Log.{Taken, size, time, rowsAt, latest, logOf}
 use Rattle.meaning.specs.RuleFile.{Accepted, wordAt, sizesFit, headAt, bodyAt, nodeOf, nodeAt, formulaAt, shapeFits, rangeFits, timesChild, weighNode, checking, pattern}
 use Rattle.meaning.specs.Kept.{lastPairs, consulted, parentOf, pointEntries, ageEntries, entriesOf, entries, kept, openPoints}
 use Rattle.meaning.specs.Event.{isEvent, rowFits, pointOf}
 use Rattle.meaning.specs.Report.{Reported, reportWords, rowWords}
-use Rattle.meaning.specs.Keeper.{Taking, newlySettled, reported, report, admitted, weighed, crowdedAt, grown, answer, step}
+use Rattle.meaning.specs.Keeper.{Fed, event, notice, Taking, newlySettled, reported, report, admitted, weighed, crowdedAt, grown, answerOn, answer, step}
 
 abbrev lineOf : Reported → List ℕ
 lineOf e = 1 ∷ e .at .0 ∷ e .time .0 ∷ length (e .rows) ∷ rowWords e
@@ -42,16 +42,16 @@ abbrev said : Outcome ℕ → List Reported → List ℕ
 said (refused n p) es = 2 ∷ n ∷ p ∷ []
 said (given n) es = gather lineOf es
 
-abbrev taking : ℕ → List ℕ → Taking
-taking room w = record { event = w; buffer = replicate room 0 }
+abbrev taking : ℕ → Fed → Taking
+taking room f = record { fed = f; buffer = replicate room 0 }
 
-abbrev listing : ℕ → List ℕ → Log → List (List ℕ) → List ℕ
-listing room b l [] = 3 ∷ openPoints b l ∷ kept b l ∷ []
-listing room b l (w ∷ ws) = said (answer b l (taking room w)) (reported l (grown b l w) (pattern b)) ++ listing room b (step b l (taking room w)) ws
+abbrev listing : ℕ → List ℕ → List Taken → List Fed → List ℕ
+listing room b es [] = 3 ∷ openPoints b (logOf es) ∷ kept b (logOf es) ∷ latest (logOf es) .0 ∷ []
+listing room b es (f ∷ fs) = said (answer b es (taking room f)) (reported (logOf es) (logOf (grown b es f)) (pattern b)) ++ listing room b (step b es (taking room f)) fs
 
-abbrev whole : ℕ → Outcome Accepted → List ℕ → List (List ℕ) → List ℕ
-whole room (refused n p) b ws = 2 ∷ n ∷ p ∷ []
-whole room (given a) b ws = 4 ∷ a .reach ∷ a .free ∷ listing room b [] ws
+abbrev whole : ℕ → Outcome Accepted → List ℕ → List Fed → List ℕ
+whole room (refused n p) b fs = 2 ∷ n ∷ p ∷ []
+whole room (given a) b fs = 4 ∷ a .reach ∷ a .free ∷ listing room b [] fs
 """
 
 
@@ -109,6 +109,11 @@ def rule_file(rng):
     return bytes(data), arities
 
 
+def fed(taking):
+    kind, what = taking
+    return f"notice {what}" if kind == "notice" else f"event {numbers(what)}"
+
+
 def event(rng, arities, now):
     m = rng.choice((0, 1, 1, 2, 3))
     relations = [rng.randrange(len(arities)) for _ in range(m)]
@@ -127,42 +132,55 @@ def event(rng, arities, now):
 
 
 def case(rng):
+    """A rule's file, takings, each an event or a notice, and the words of their buffers. Notices are often at the end of a window that
+    began with the last event, or a second before it; of a rule that waits for later points the last is often a notice past its reach."""
     file, arities = rule_file(rng)
-    now, events = rng.randint(0, 3), []
-    for _ in range(rng.randint(1, 6)):
-        events.append(event(rng, arities, now))
-        now += rng.choice((0, 1, 1, 2, 3, 6))
-    return file, events, rng.choice((3, 12, 40, 40, 40))
+    rule = plain.check(file)
+    ends = [] if isinstance(rule, tuple) else [n.words[1] for n in rule.nodes if n.kind in plain.FUTURE]
+    now, last, takings = rng.randint(0, 3), 0, []
+    for _ in range(rng.randint(1, 5 if ends else 6)):
+        if rng.random() < (0.4 if ends else 0.2):
+            end = last + rng.choice(ends or [5])
+            late = rng.choice((now - 1, last - 1, last, now, now + 3, end - 1, end, end, end + 9))
+            takings.append(("notice", max(0, late)))
+            now = max(now, late)
+        else:
+            takings.append(("event", event(rng, arities, now)))
+            last = now
+            now += rng.choice((0, 1, 1, 2, 3, 6))
+    if ends and rng.random() < 0.7:
+        takings.append(("notice", now + rule.reach[-1]))
+    return file, takings, rng.choice((3, 12, 40, 40, 40))
 
 
-def expected(file, events, room, met):
+def expected(file, takings, room, met):
     rule = plain.check(file)
     if isinstance(rule, tuple):
-        met["refusal", rule[0]] += 1
+        met["refusal of rule", rule[0]] += 1
         return [2, *rule]
     for n in rule.nodes:
         met["kind", n.kind] += 1
     out, log = [4, rule.reach[-1], sum(1 << v for v in rule.free[-1])], plain.Log(rule, [])
-    for words in events:
-        answer, points = plain.take(rule, log, words, room)
+    for kind, what in takings:
+        answer, points = (plain.notice if kind == "notice" else plain.take)(rule, log, what, room)
         if points is None:
-            met["refusal", answer[0]] += 1
+            met[f"refusal of {kind}", answer[0]] += 1
             out += [2, *answer]
             continue
         log = answer
         for i, t, rows in points:
-            met["points", "with rows" if rows else "without"] += 1
+            met[f"points by {kind}", "with rows" if rows else "without"] += 1
             out += [1, i, t, len(rows)] + [v for r in rows for v in r]
-    return out + [3, log.open(), log.kept()]
+    return out + [3, log.open(), log.kept(), log.latest or 0]
 
 
 def main():
     count, seed = (int(a) for a in (sys.argv[1:] + ["60", "1"][len(sys.argv) - 1:]))
     rng, met, text = random.Random(seed), collections.Counter(), HEAD
     for k in range(count):
-        file, events, room = case(rng)
-        want = expected(file, events, room, met)
-        text += f"\ncase-{k} : whole {room} (checking {numbers(file)}) {numbers(file)} ({' ∷ '.join([numbers(e) for e in events] + ['[]'])}) ≡ {numbers(want)}\n"
+        file, takings, room = case(rng)
+        want = expected(file, takings, room, met)
+        text += f"\ncase-{k} : whole {room} (checking {numbers(file)}) {numbers(file)} ({' ∷ '.join([fed(t) for t in takings] + ['[]'])}) ≡ {numbers(want)}\n"
         text += f"unfolding {' '.join(OPENED)}\ncase-{k} = refl\n"
     with tempfile.TemporaryDirectory() as folder:
         top = pathlib.Path(folder)

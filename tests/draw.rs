@@ -1,14 +1,15 @@
-// Rules, events, buffers and states drawn at random for takings.rs.
+// Rules, events, notices, buffers and states drawn at random for takings.rs.
 use crate::input::*;
 use crate::keeper::*;
 use crate::library::{State, ENTRIES, RETAINED, RULE_BYTES};
 
-// What a list leans on.
+// What a list leans on: rows of a node, kept entries, the same as settling raises them, or open points.
 #[derive(Clone, Copy, PartialEq)]
 pub enum Aim {
     Any,
     Rows,
     Kept,
+    Raised,
     Open,
 }
 
@@ -25,11 +26,11 @@ pub struct Draw {
 impl Draw {
     pub fn new(seed: u64) -> Draw {
         let mut g = Random(seed);
-        let aim = g.pick(&[Aim::Any, Aim::Any, Aim::Any, Aim::Any, Aim::Rows, Aim::Kept, Aim::Open]);
+        let aim = g.pick(&[Aim::Any, Aim::Any, Aim::Any, Aim::Any, Aim::Rows, Aim::Kept, Aim::Raised, Aim::Open]);
         let (arities, relations): (&[u8], &[usize]) = match aim {
             Aim::Any | Aim::Open => (&[0, 1, 1, 1, 2, 2, 3, 4], &[1, 2, 2, 3, 3, 8]),
             Aim::Rows => (&[1, 1, 2, 2, 3, 4], &[1, 2, 2, 3]),
-            Aim::Kept => (&[1, 2, 3, 4], &[1, 1, 2]),
+            Aim::Kept | Aim::Raised => (&[1, 2, 3, 4], &[1, 1, 2]),
         };
         let relations = g.pick(relations);
         let arities = (0..relations).map(|_| g.pick(arities)).collect();
@@ -37,17 +38,21 @@ impl Draw {
         let values = match aim {
             Aim::Any | Aim::Open if g.one_in(3) => (0..few).map(|_| g.pick(&[0, 1, 7, 0x8000_0000, u32::MAX - 1, u32::MAX])).collect(),
             Aim::Any | Aim::Open => (0..few as u32).collect(),
-            Aim::Rows | Aim::Kept => (0..40).collect(),
+            Aim::Rows | Aim::Kept | Aim::Raised => (0..40).collect(),
         };
         let variables = g.from(1, 4);
         let unit = g.pick(&[1, 1, 1, 2, 10, 60, 1_000, 100_000]);
         Draw { g, aim, arities, values, variables, unit }
     }
 
-    // A value of a relation's column. Where the kept figure is aimed at, the rows that a relation can have are at most 32, so
-    // that 13 doesn't come first.
+    // How many values a relation's column has. Where the kept figure is aimed at, the rows that a relation can have are at most
+    // 32, so that 13 doesn't come first.
+    fn few(&self, arity: u8) -> usize {
+        if matches!(self.aim, Aim::Kept | Aim::Raised) { [1, 30, 5, 3, 2][arity as usize] } else { self.values.len() }
+    }
+
     fn value(&mut self, arity: u8) -> u32 {
-        let few = if self.aim == Aim::Kept { [1, 30, 5, 3, 2][arity as usize] } else { self.values.len() };
+        let few = self.few(arity);
         self.g.pick(&self.values[..few])
     }
 
@@ -69,7 +74,10 @@ impl Draw {
         let mut n = Node { kind: ATOM, left, right: 0, mask: 0, words: [0; 4] };
         let arity = self.arities[left as usize];
         for k in 0..arity as usize {
-            if self.g.one_in(6) {
+            if self.aim == Aim::Raised {
+                // each column its own variable, so that every row is a valuation
+                n.words[k] = k as u32;
+            } else if self.g.one_in(6) {
                 n.mask |= 1 << k;
                 n.words[k] = self.value(arity);
             } else {
@@ -79,9 +87,12 @@ impl Draw {
         n
     }
 
-    fn one_child(&mut self, left: u8, free: [bool; 4]) -> Node {
+    // `below` is the child's kind.
+    fn one_child(&mut self, left: u8, below: u8, free: [bool; 4]) -> Node {
         let variables: Vec<u32> = (0..4).filter(|v| free[*v as usize]).collect();
         let kinds: &[u8] = match self.aim {
+            Aim::Raised if below == ATOM => &[EVENTUALLY],
+            Aim::Raised if below == EVENTUALLY => &[ONCE, ONCE, ONCE, NEXT],
             Aim::Open => &[KEEP, EXISTS, PREVIOUS, NEXT, NEXT, ONCE, EVENTUALLY, EVENTUALLY, EVENTUALLY],
             Aim::Kept => &[KEEP, EXISTS, PREVIOUS, NEXT, ONCE, ONCE, ONCE, EVENTUALLY, EVENTUALLY],
             _ => &[KEEP, EXISTS, PREVIOUS, NEXT, ONCE, EVENTUALLY],
@@ -130,6 +141,7 @@ impl Draw {
     // between one another and the last node joins all that is left.
     pub fn rule(&mut self) -> Rule {
         let nodes = match self.g.below(12) {
+            _ if self.aim == Aim::Raised => self.g.from(3, 5),
             0 => self.g.from(9, 32),
             1 => 32,
             2..=4 => self.g.from(5, 8),
@@ -149,7 +161,7 @@ impl Draw {
                     let b = roots.swap_remove(self.g.below(roots.len()));
                     self.two_children((a, free[a as usize]), (b, free[b as usize]))
                 } else {
-                    self.one_child(a, free[a as usize])
+                    self.one_child(a, rule.nodes[a as usize].kind, free[a as usize])
                 }
             };
             free.push(free_variables(&rule, &n, &free));
@@ -181,7 +193,7 @@ impl Draw {
         let long: u32 = rule.nodes.iter().filter(|n| n.is_future()).map(|n| n.words[1]).sum();
         let choices = match self.aim {
             _ if open >= 32 => 4,
-            Aim::Open => 40,
+            Aim::Open | Aim::Raised => 40,
             _ => 14,
         };
         match self.g.below(choices) {
@@ -191,6 +203,7 @@ impl Draw {
             4 => self.g.below(4) as u32 * self.unit + 1,
             5..=7 => 0,
             8 | 9 => 1,
+            _ if self.aim == Aim::Raised => self.unit,
             _ => self.g.below(2) as u32 * self.unit,
         }
     }
@@ -200,6 +213,8 @@ impl Draw {
             (_, 0) => 0,
             (_, 1) => self.g.from(0, 32),
             (Aim::Kept, _) => self.g.from(16, 32),
+            (Aim::Raised, 2 | 3) => return self.all_rows(),
+            (Aim::Raised, _) => self.g.from(0, 1),
             (Aim::Rows, 2..=8) => self.g.from(16, 32),
             (Aim::Rows, _) => self.g.from(1, 20),
             _ => self.g.from(0, 6),
@@ -213,6 +228,34 @@ impl Draw {
             rows.push(if again { rows[self.g.below(rows.len())].clone() } else { row });
         }
         rows
+    }
+
+    // The rows of a relation of every value there may be, as many as an event has.
+    fn all_rows(&mut self) -> Vec<Row> {
+        let relation = self.g.below(self.arities.len());
+        let (arity, few) = (self.arities[relation] as usize, self.few(self.arities[relation]));
+        let row = |k: usize| (relation as u32, (0..arity).map(|c| self.values[k / few.pow(c as u32) % few]).collect());
+        (0..few.pow(arity as u32).min(32)).map(row).collect()
+    }
+
+    // The time of a notice: often that of a window's end for which a point waits, a second before it or after it; also the
+    // latest known one, later ones up to the last that there is, and now and then one below the latest.
+    pub fn notice(&mut self, log: &Log, time: u32) -> u32 {
+        let latest = log.latest().unwrap_or(time);
+        let ends = window_ends(log);
+        match self.g.below(64) {
+            0..=3 => latest.saturating_sub(1 + self.g.below(5) as u32),
+            4..=11 => latest,
+            12..=47 if !ends.is_empty() => {
+                // where points are to pile up only the first is settled
+                let which = if self.aim == Aim::Raised { [0; 3] } else { [0, self.g.below(ends.len()), ends.len() - 1] };
+                let end = ends[self.g.pick(&which)];
+                (end - 1).saturating_add(self.g.below(3) as u32)
+            }
+            60..=62 => latest.saturating_add(LONGEST_WINDOW + self.g.below(2) as u32),
+            63 if self.g.one_in(4) => u32::MAX,
+            _ => latest.saturating_add(self.step(&log.meaning.rule, 0)),
+        }
     }
 
     // Words that are mostly to be refused by 9, 10 or 11.
@@ -244,6 +287,18 @@ impl Draw {
         }
     }
 
+    // One taking in so many is a notice, or none. Where nothing waits for a time few are enough, and where points are to pile up
+    // they are not to be settled too soon.
+    pub fn notices(&mut self, rule: &Rule) -> Option<usize> {
+        let often: &[Option<usize>] = match self.aim {
+            _ if !rule.nodes.iter().any(|n| n.is_future()) => &[None, Some(10)],
+            Aim::Open | Aim::Kept => &[None, Some(10), Some(20)],
+            Aim::Raised => &[Some(5), Some(8)],
+            _ => &[None, Some(2), Some(3), Some(5)],
+        };
+        self.g.pick(often)
+    }
+
     pub fn room(&mut self) -> Room {
         match self.g.below(16) {
             0 => Room::Empty,
@@ -254,22 +309,49 @@ impl Draw {
         }
     }
 
+    // Whether lists are steered by a figure.
+    pub fn steers(&self) -> bool {
+        matches!(self.aim, Aim::Rows | Aim::Kept | Aim::Raised)
+    }
+
     // As many of the rows as bring the aimed figure to its limit or one past it, where there are so many.
     pub fn steered(&mut self, log: &Log, time: u32, rows: &[Row]) -> Option<usize> {
-        let distance = |m: usize| {
-            let r = reckon(log, Point { time, rows: rows[..m].to_vec() });
-            match (self.aim, r.refusal) {
-                (Aim::Rows, None | Some((13, _))) => Some(r.most_rows() as isize - MOST_ROWS as isize),
-                (Aim::Kept, None | Some((15, _))) => Some(r.kept as isize - MOST_KEPT as isize),
-                _ => None,
-            }
-        };
+        let aim = self.aim;
+        let distance = |m: usize| past_limit(aim, &reckon(log, Point { time, rows: rows[..m].to_vec() }));
         if !distance(rows.len()).is_some_and(|far| far >= 0) {
             return None;
         }
-        let past = self.g.below(2) as isize;
+        let past = !self.g.one_in(4) as isize;
         [past, 1 - past].iter().find_map(|p| (0..=rows.len()).find(|m| distance(*m) == Some(*p)))
     }
+
+    // A window's end at which a notice brings the aimed figure to its limit or past it, where one of the last few does.
+    pub fn steered_notice(&self, log: &Log) -> Option<u32> {
+        let reaches = |end: &u32| past_limit(self.aim, &reckon_notice(log, *end)).is_some_and(|past| past >= 0);
+        window_ends(log).into_iter().rev().take(6).find(reaches)
+    }
+}
+
+// How far the aimed figure is past its limit, where no other refusal comes before.
+fn past_limit(aim: Aim, r: &Reckoned) -> Option<isize> {
+    match (aim, r.refusal) {
+        (Aim::Rows, None | Some((13, _))) => Some(r.most_rows() as isize - MOST_ROWS as isize),
+        (Aim::Kept | Aim::Raised, None | Some((15, _))) => Some(r.kept as isize - MOST_KEPT as isize),
+        _ => None,
+    }
+}
+
+// The times, later than the latest known, at which a window ends for a point that the window's node hasn't settled; ascending.
+pub fn window_ends(log: &Log) -> Vec<u32> {
+    let mut ends = vec![];
+    for (x, n) in log.meaning.rule.nodes.iter().enumerate().filter(|(_, n)| n.is_future()) {
+        let unsettled = (0..log.size()).filter(|i| !log.settled(x, *i));
+        ends.extend(unsettled.filter_map(|i| log.points[i].time.checked_add(n.words[1])));
+    }
+    ends.retain(|end| log.latest().is_some_and(|latest| latest < *end));
+    ends.sort();
+    ends.dedup();
+    ends
 }
 
 // How many words are lent for a report that needs some.
@@ -280,6 +362,7 @@ pub enum Room {
     Exact,
     Long(usize),
     Full,
+    Words(usize),
 }
 
 impl Room {
@@ -290,6 +373,7 @@ impl Room {
             Room::Exact => needed,
             Room::Long(more) => needed + more,
             Room::Full => LONGEST_REPORT,
+            Room::Words(n) => n,
         }
     }
 }
@@ -303,7 +387,7 @@ pub fn disturb(g: &mut Random, s: &mut State) {
         _ => g.next() as u32,
     };
     let (bytes, retained, count) = (s.bytes as usize, s.retained as usize, s.count as usize);
-    match g.below(12) {
+    match g.below(14) {
         0 if (1..=RULE_BYTES).contains(&bytes) => s.rule[g.below(bytes)] ^= 1 << g.below(8),
         1 => s.bytes = change(g, s.bytes),
         2 => s.points = change(g, s.points),
@@ -312,6 +396,12 @@ pub fn disturb(g: &mut Random, s: &mut State) {
         5 | 6 if (1..=RETAINED).contains(&retained) => {
             let k = g.below(retained);
             s.times[k] = change(g, s.times[k]);
+        }
+        7 => s.latest = change(g, s.latest),
+        // a little before the last retained time, or as much later as a window may be long
+        8 if (1..=RETAINED).contains(&retained) => {
+            let last = s.times[retained - 1];
+            s.latest = if g.one_in(2) { last.wrapping_sub(g.below(3) as u32) } else { last.wrapping_add(g.pick(&[1, 5, 60, 1_000, LONGEST_WINDOW])) };
         }
         _ if (1..=ENTRIES).contains(&count) => {
             let (k, other) = (g.below(count), g.below(count));

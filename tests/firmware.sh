@@ -13,9 +13,9 @@ done
 c++ -x c++ -std=c++11 -Wall -Wextra -pedantic -Werror -fsyntax-only include/yokemango.h
 
 cc -std=c99 -Wall -Wextra -pedantic -Werror -O2 -Iinclude -o target/leak examples/leak.c -L"$YOKEMANGO_LIB" -lyokemango
-target/leak examples/leak.rule | diff - examples/leak.out
+target/leak examples/leak.rule | diff - examples/leak-notices.out
 cd rust
-cargo run --offline --quiet --example leak | diff - ../examples/leak.out
+cargo run --offline --quiet --example leak | diff - ../examples/leak-notices.out
 echo "the example prints the same in C and in Rust"
 
 cargo test --offline --quiet

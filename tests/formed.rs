@@ -10,6 +10,7 @@ struct Stored<'s> {
     free: Vec<[bool; 4]>,
     first: usize,
     points: usize,
+    latest: u64,
     times: &'s [u32],
     entries: Vec<Entry>,
 }
@@ -35,10 +36,10 @@ impl Stored<'_> {
                 PREVIOUS => self.points.min(children + 1),
                 NEXT => children.saturating_sub(1),
                 UNTIL | NOT_UNTIL | EVENTUALLY => {
-                    // a time at least Ti + d is there, and no point before the end is one that the children leave open
+                    // the latest known time is at least Ti + d, and no point before the end is one that the children leave open
                     let settled = |i: &usize| {
                         let end = self.time(*i) + n.words[1] as u64;
-                        (*i..self.points).any(|j| self.time(j) >= end) && (children..self.points).all(|j| self.time(j) >= end)
+                        self.latest >= end && (children..self.points).all(|j| self.time(j) >= end)
                     };
                     self.first + (self.first..children).take_while(settled).count()
                 }
@@ -99,7 +100,8 @@ impl Stored<'_> {
     }
 }
 
-fn rule_of(bytes: &[u8]) -> Rule {
+// The rule of a file that is accepted.
+pub fn rule_of(bytes: &[u8]) -> Rule {
     let nodes = bytes[2] as usize;
     let word = |at: usize| u32::from_le_bytes([bytes[at], bytes[at + 1], bytes[at + 2], bytes[at + 3]]);
     let node = |x: usize| {
@@ -125,8 +127,9 @@ pub fn well_formed(s: &State) -> bool {
     }
     let entry = |k: usize| Entry { owner: s.owners[k], number: s.numbers[k], row: [0, 1, 2, 3].map(|v| s.values[4 * k + v]) };
     let entries = (0..count).map(entry).collect();
-    let stored = Stored { rule, free, first: points - retained, points, times: &s.times[..retained], entries };
+    let stored = Stored { rule, free, first: points - retained, points, latest: s.latest as u64, times: &s.times[..retained], entries };
     let counts = stored.counts();
     let least = counts.iter().copied().min().unwrap();
-    points - counts.last().unwrap() <= MOST_OPEN && stored.first == least.saturating_sub(1) && stored.times.is_sorted() && stored.entries_fit(&counts)
+    let in_time = stored.times.is_sorted() && stored.times.last().is_none_or(|t| *t <= s.latest);
+    points - counts.last().unwrap() <= MOST_OPEN && stored.first == least.saturating_sub(1) && in_time && stored.entries_fit(&counts)
 }

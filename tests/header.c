@@ -1,5 +1,5 @@
-/* The header as a program in C uses it, on rule L, whose file is named: what a refusal leaves, what a report gives back, and
-   the constants. Built with the address and undefined-behaviour sanitizers; buffers are of exact length, on the heap. */
+/* The header as a program in C uses it, on rule L, whose file is named: what a refusal leaves, what a report gives back, what
+   notices settle, and the constants. Built with the address and undefined-behaviour sanitizers; buffers are of exact length, on the heap. */
 #include <stdio.h>
 #include <stdlib.h>
 #include <string.h>
@@ -69,6 +69,7 @@ static void refusals(const uint8_t *rule, size_t length)
     CHECK(refused(take(two_words, 2, report, 2), YOKEMANGO_REFUSED_SHORT, 3));
     CHECK(refused(take(two_words, 1, report, 2), YOKEMANGO_REFUSED_EVENT, 0));
     CHECK(refused(take(no_relation, 12, report, 2), YOKEMANGO_REFUSED_ROW, 1));
+    CHECK(refused(yokemango_notice_in(&state, 100, report, 2), YOKEMANGO_REFUSED_SHORT, 3));
     CHECK(report[0] == 5 && report[1] == 6);
 
     /* a field lent one too short */
@@ -78,12 +79,16 @@ static void refusals(const uint8_t *rule, size_t length)
         const size_t owners_len = YOKEMANGO_MAX_KEPT - (k == 2), numbers_len = YOKEMANGO_MAX_KEPT - (k == 3);
         const size_t values_len = 4u * YOKEMANGO_MAX_KEPT - (k == 4);
         const struct yokemango_taken taken = yokemango_take(
-            state.rule, rule_len, state.bytes, &state.points, state.times, times_len, &state.retained, state.owners, owners_len,
-            state.numbers, numbers_len, state.values, values_len, &state.count, two_words, 2, long_enough, 3);
+            state.rule, rule_len, state.bytes, &state.points, &state.latest, state.times, times_len, &state.retained,
+            state.owners, owners_len, state.numbers, numbers_len, state.values, values_len, &state.count, two_words, 2,
+            long_enough, 3);
+        const struct yokemango_taken noticed = yokemango_notice(
+            state.rule, rule_len, state.bytes, &state.points, &state.latest, state.times, times_len, &state.retained,
+            state.owners, owners_len, state.numbers, numbers_len, state.values, values_len, &state.count, 100, long_enough, 3);
         const struct yokemango_figures figures = yokemango_figures(
-            state.rule, rule_len, state.bytes, state.points, state.times, times_len, state.retained, state.owners, owners_len,
-            state.numbers, numbers_len, state.values, values_len, state.count);
-        CHECK(refused(taken, YOKEMANGO_REFUSED_STATE, 0));
+            state.rule, rule_len, state.bytes, state.points, state.latest, state.times, times_len, state.retained,
+            state.owners, owners_len, state.numbers, numbers_len, state.values, values_len, state.count);
+        CHECK(refused(taken, YOKEMANGO_REFUSED_STATE, 0) && refused(noticed, YOKEMANGO_REFUSED_STATE, 0));
         CHECK(long_enough[0] == 5 && long_enough[1] == 6 && long_enough[2] == 7);
         CHECK(figures.number == YOKEMANGO_REFUSED_STATE && figures.open_points == 0 && figures.kept == 0);
     }
@@ -91,6 +96,7 @@ static void refusals(const uint8_t *rule, size_t length)
     memset(&state, 0, sizeof state);
     before = state;
     CHECK(refused(take(two_words, 2, report, 2), YOKEMANGO_REFUSED_STATE, 0));
+    CHECK(refused(yokemango_notice_in(&state, 100, report, 2), YOKEMANGO_REFUSED_STATE, 0));
     CHECK(yokemango_figures_in(&state).number == YOKEMANGO_REFUSED_STATE);
 }
 
@@ -126,6 +132,61 @@ static void reports(const uint8_t *rule, size_t length)
     free(report);
 }
 
+/* Taken, with a report of three words: no point. */
+static int settles_nothing(struct yokemango_taken taken, const uint32_t *report)
+{
+    return taken.number == 0 && taken.place == 0 && taken.words == 3 && report[0] == 0 && report[1] == 1 && report[2] == 0;
+}
+
+static void notices(const uint8_t *rule, size_t length)
+{
+    const uint32_t leak[] = {100, 1, 0, 7, 0, 0, 0}, below[] = {160, 0}, equal[] = {161, 0};
+    const uint32_t expected[] = {1, 1, 1, 0, 100, 1, 7}, nothing[7] = {0};
+    uint32_t *report = copy(nothing, 7);
+    struct yokemango_taken taken;
+    struct yokemango_figures figures;
+
+    CHECK(yokemango_start_in(&state, rule, length).number == 0 && state.latest == 0);
+    CHECK(settles_nothing(yokemango_notice_in(&state, 50, report, 3), report) && state.points == 0 && state.latest == 50);
+    CHECK(settles_nothing(take(leak, 7, report, 3), report) && state.points == 1 && state.latest == 100);
+    CHECK(settles_nothing(yokemango_notice_in(&state, 160, report, 3), report) && state.points == 1 && state.latest == 160);
+
+    /* a point is settled once the time is 61 seconds after its own; a refused notice moves nothing */
+    before = state;
+    memcpy(report, nothing, sizeof nothing);
+    CHECK(refused(yokemango_notice_in(&state, 159, report, 7), YOKEMANGO_REFUSED_TIME, 0));
+    CHECK(refused(yokemango_notice_in(&state, 161, report, 6), YOKEMANGO_REFUSED_SHORT, 7));
+    CHECK(memcmp(report, nothing, sizeof nothing) == 0);
+    taken = yokemango_notice_in(&state, 161, report, 7);
+    CHECK(taken.number == 0 && taken.words == 7 && memcmp(report, expected, sizeof expected) == 0);
+    figures = yokemango_figures_in(&state);
+    CHECK(figures.number == 0 && figures.open_points == 0 && figures.kept == 0 && state.points == 1 && state.latest == 161);
+
+    /* an event below the notice is refused, one of its time isn't, nor is the same notice again */
+    before = state;
+    CHECK(refused(take(below, 2, report, 7), YOKEMANGO_REFUSED_TIME, 0));
+    CHECK(settles_nothing(yokemango_notice_in(&state, 161, report, 7), report) && same_state());
+    CHECK(settles_nothing(take(equal, 2, report, 7), report) && state.points == 2);
+    free(report);
+}
+
+/* next [0, *) leak(x): no notice settles it, and the next event does. */
+static void notices_of_next(void)
+{
+    const uint8_t rule[52] = {1, 1, 2, 0, 1, 0, 0, 0, 0, 0, 0, 0, 1, 0, 0, 0, 8, 0, 0, 0};
+    const uint32_t leak[] = {100, 1, 0, 7, 0, 0, 0}, last[] = {UINT32_MAX, 1, 0, 9, 0, 0, 0};
+    const uint32_t expected[] = {1, 1, 1, 0, 100, 1, 9};
+    uint32_t report[7];
+    struct yokemango_taken taken;
+
+    CHECK(answers(yokemango_start_in(&state, rule, 52), 0, 0, 0, 1));
+    CHECK(settles_nothing(take(leak, 7, report, 7), report));
+    CHECK(settles_nothing(yokemango_notice_in(&state, UINT32_MAX, report, 7), report));
+    CHECK(yokemango_figures_in(&state).open_points == 1);
+    taken = take(last, 7, report, 7);
+    CHECK(taken.number == 0 && taken.words == 7 && memcmp(report, expected, sizeof expected) == 0);
+}
+
 int main(int argc, char **argv)
 {
     uint8_t rule[YOKEMANGO_MAX_RULE_BYTES];
@@ -138,6 +199,8 @@ int main(int argc, char **argv)
     CHECK(YOKEMANGO_MAX_REPORT_WORDS == 3 + 33 * 3 + 33 * YOKEMANGO_MAX_ROWS * YOKEMANGO_MAX_COLUMNS);
     refusals(rule, length);
     reports(rule, length);
+    notices(rule, length);
+    notices_of_next();
     printf("%u checks of the header\n", checks);
     return 0;
 }

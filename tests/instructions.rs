@@ -1,9 +1,9 @@
-// Instructions of an event, clearing included, over the first 3,000 events of six rules: those that callgrind counts within
-// `yokemango_take`. It needs valgrind.
+// Instructions of an event, clearing included, over the first 3,000 events of six rules, and of a notice of rule L after each of
+// 3,000 events: those that callgrind counts within `yokemango_take` and within `yokemango_notice`. It needs valgrind.
 //
 //   rt staticlib yokemango
 //   rustc -O --edition 2021 -L target/staticlib -o target/instructions tests/instructions.rs
-//   target/instructions                              all six
+//   target/instructions                              all
 //   callgrind_annotate target/instructions.0         which functions they are in, for the first rule
 #[path = "../rust/benches/compare/events.rs"]
 mod events;
@@ -18,16 +18,35 @@ struct Case {
     name: &'static str,
     file: &'static [u8],
     event: fn(&mut Random, u32) -> Vec<u32>,
+    counted: Counted,
 }
 
-const CASES: [Case; 6] = [
-    Case { name: "rule L", file: include_bytes!("../examples/leak.rule"), event: leak },
-    Case { name: "half-hour, 91 kept", file: include_bytes!("../examples/half-hour.rule"), event: reading },
-    Case { name: "since [5, 60)", file: include_bytes!("../examples/running.rule"), event: running },
-    Case { name: "until [0, 30), 30 open", file: include_bytes!("../examples/burst.rule"), event: burst },
-    Case { name: "a join", file: include_bytes!("../examples/dry-zone.rule"), event: dry_zone },
-    Case { name: "32 nodes", file: include_bytes!("../examples/orchard.rule"), event: orchard },
+// What is counted: events, or a notice so many seconds after each event that settles so many points.
+enum Counted {
+    Events,
+    Notices { after: u32, points: u32 },
+}
+
+use Counted::{Events, Notices};
+
+const LEAK: &[u8] = include_bytes!("../examples/leak.rule");
+
+const CASES: [Case; 8] = [
+    Case { name: "rule L", file: LEAK, event: leak, counted: Events },
+    Case { name: "half-hour, 91 kept", file: include_bytes!("../examples/half-hour.rule"), event: reading, counted: Events },
+    Case { name: "since [5, 60)", file: include_bytes!("../examples/running.rule"), event: running, counted: Events },
+    Case { name: "until [0, 30), 30 open", file: include_bytes!("../examples/burst.rule"), event: burst, counted: Events },
+    Case { name: "a join", file: include_bytes!("../examples/dry-zone.rule"), event: dry_zone, counted: Events },
+    Case { name: "32 nodes", file: include_bytes!("../examples/orchard.rule"), event: orchard, counted: Events },
+    Case { name: "rule L, a notice that settles nothing", file: LEAK, event: every_ten, counted: Notices { after: 0, points: 0 } },
+    Case { name: "rule L, a notice that settles one point", file: LEAK, event: every_ten, counted: Notices { after: 1, points: 1 } },
 ];
+
+// A leak or a closing of one of 8 blocks every 10 seconds: a point is settled by the seventh after it, or by a notice a second
+// after the sixth.
+fn every_ten(g: &mut Random, k: u32) -> Vec<u32> {
+    words(10 * k, &[(g.below(2), &[g.below(8)])])
+}
 
 // One of 8 blocks is read every 20 seconds, and at every fourth point a valve opens.
 fn reading(_: &mut Random, k: u32) -> Vec<u32> {
@@ -35,13 +54,20 @@ fn reading(_: &mut Random, k: u32) -> Vec<u32> {
     words(20 * k, if k % 4 == 0 { &rows } else { &rows[..1] })
 }
 
-// Takes the events of a case.
+// Takes the events of a case, and its notices.
 fn run(case: &Case) {
     let (mut g, mut buffer) = (Random(1), vec![0; 4_326]);
     let mut state = library::start(case.file).state;
     for k in 0..EVENTS {
-        let told = library::take_in(&mut state, &(case.event)(&mut g, k), &mut buffer);
+        let event = (case.event)(&mut g, k);
+        let told = library::take_in(&mut state, &event, &mut buffer);
         assert_eq!(told.number, 0, "{}: event {k} is refused by {}", case.name, told.number);
+        if let Notices { after, points } = case.counted {
+            let told = library::notice_in(&mut state, event[0] + after, &mut buffer);
+            // the first points are settled later
+            let points = if k < 6 { 0 } else { points };
+            assert_eq!((told.number, buffer[0]), (0, points), "{}: the notice after event {k}", case.name);
+        }
     }
     println!("kept {}, open {}", library::figures(&state).kept, library::figures(&state).open_points);
 }
@@ -50,8 +76,12 @@ fn run(case: &Case) {
 fn count(k: usize) {
     let program = std::env::current_exe().unwrap();
     let out = format!("--callgrind-out-file=target/instructions.{k}");
+    let (within, each) = match CASES[k].counted {
+        Events => ("--toggle-collect=yokemango_take", "an event"),
+        Notices { .. } => ("--toggle-collect=yokemango_notice", "a notice"),
+    };
     let ran = Command::new("valgrind")
-        .args(["--tool=callgrind", "--toggle-collect=yokemango_take", &out])
+        .args(["--tool=callgrind", within, &out])
         .arg(program)
         .arg(k.to_string())
         .output()
@@ -59,7 +89,7 @@ fn count(k: usize) {
     let (figures, said) = (String::from_utf8_lossy(&ran.stdout), String::from_utf8_lossy(&ran.stderr));
     assert!(ran.status.success(), "{said}");
     let collected: u64 = said.lines().find_map(|l| l.split("Collected : ").nth(1)).and_then(|n| n.trim().parse().ok()).expect("callgrind tells what it counted");
-    println!("{}: {} instructions an event; {}", CASES[k].name, collected / EVENTS as u64, figures.trim());
+    println!("{}: {} instructions {each}; {}", CASES[k].name, collected / EVENTS as u64, figures.trim());
 }
 
 fn main() {

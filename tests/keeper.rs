@@ -1,5 +1,6 @@
-// The keeper of 01, which holds the whole log: Definition 2, "When a point is settled", "What is kept" and "Take an event",
-// each worked out as it is defined. Written from 01 alone; nothing here is shared with the monitor.
+// The keeper of 01 and of request 101, which holds the whole log: Definition 2, "When a point is settled", "What is kept",
+// "Take an event" and clock notices, each worked out as it is defined. Written from these texts alone; nothing here is shared
+// with the monitor.
 use crate::input::*;
 use std::cell::RefCell;
 use std::collections::BTreeSet;
@@ -122,45 +123,54 @@ pub struct Point {
     pub rows: Vec<Row>,
 }
 
-// Points accepted, with what was worked out over them so far. What is settled stays settled, with the same valuations, so a
-// log that grows takes this over; `afresh` drops it, so that the same can be worked out again on the log as it then is.
+// Points accepted and the latest known time, of a point or a notice, with what was worked out over them so far. Of the notices
+// nothing else is asked. What is settled stays settled, with the same valuations, so a log that grows takes this over; `afresh`
+// drops it, so that the same can be worked out again on the log as it then is.
 #[derive(Clone)]
 pub struct Log<'m> {
     pub meaning: &'m Meaning,
     pub points: Vec<Rc<Point>>,
+    latest: Option<u32>,
     settled: RefCell<Vec<Vec<bool>>>,
     valuations: RefCell<Vec<Vec<Option<Rc<Set>>>>>,
 }
 
 impl<'m> Log<'m> {
     pub fn new(meaning: &'m Meaning) -> Log<'m> {
-        Log::of(meaning, vec![])
+        Log::of(meaning, vec![], None)
     }
 
-    fn of(meaning: &'m Meaning, points: Vec<Rc<Point>>) -> Log<'m> {
+    fn of(meaning: &'m Meaning, points: Vec<Rc<Point>>, latest: Option<u32>) -> Log<'m> {
         let (n, nodes) = (points.len(), meaning.rule.nodes.len());
         let (settled, valuations) = (vec![vec![false; n]; nodes], vec![vec![None; n]; nodes]);
-        Log { meaning, points, settled: RefCell::new(settled), valuations: RefCell::new(valuations) }
+        Log { meaning, points, latest, settled: RefCell::new(settled), valuations: RefCell::new(valuations) }
     }
 
     pub fn grown(&self, point: Rc<Point>) -> Log<'m> {
         let mut log = self.clone();
+        log.latest = Some(point.time);
         log.points.push(point);
         log.settled.get_mut().iter_mut().for_each(|s| s.push(false));
         log.valuations.get_mut().iter_mut().for_each(|s| s.push(None));
         log
     }
 
+    // The log with a notice at its end.
+    pub fn noted(&self, time: u32) -> Log<'m> {
+        Log { latest: Some(time), ..self.clone() }
+    }
+
     pub fn afresh(&self) -> Log<'m> {
-        Log::of(self.meaning, self.points.clone())
+        Log::of(self.meaning, self.points.clone(), self.latest)
     }
 
     pub fn size(&self) -> usize {
         self.points.len()
     }
 
-    pub fn last_time(&self) -> Option<u32> {
-        self.points.last().map(|p| p.time)
+    // The latest known time, of a point or a notice, if there is any.
+    pub fn latest(&self) -> Option<u32> {
+        self.latest
     }
 
     fn time(&self, i: usize) -> u64 {
@@ -193,7 +203,7 @@ impl<'m> Log<'m> {
             SINCE | NOT_SINCE | ONCE => (0..=i).all(children),
             UNTIL | NOT_UNTIL | EVENTUALLY => {
                 let end = self.time(i) + n.words[1] as u64;
-                let reached = self.points.iter().any(|p| p.time as u64 >= end);
+                let reached = self.latest.is_some_and(|t| t as u64 >= end);
                 reached && (i..self.size()).filter(|j| self.time(*j) < end).all(children)
             }
             _ => children(i),
@@ -342,7 +352,14 @@ impl<'m> Log<'m> {
     }
 }
 
-// ---- taking an event
+// ---- taking an event or a notice
+
+// What a taking is fed: an event's words, or a notice's time.
+#[derive(Clone)]
+pub enum Fed {
+    Event(Vec<u32>),
+    Notice(u32),
+}
 
 pub struct Reported {
     pub point: usize,
@@ -350,8 +367,8 @@ pub struct Reported {
     pub rows: Vec<Vec<u32>>,
 }
 
-// What is reckoned as if the event were taken. After a refusal 13 no more is reckoned than the nodes up to its place, and
-// after 14 no kept figure.
+// What is reckoned as if the event or the notice were taken. After a refusal 13 no more is reckoned than the nodes up to its
+// place, and after 14 no kept figure.
 pub struct Reckoned<'m> {
     pub log: Log<'m>,
     pub newly: Vec<Newly>,
@@ -400,18 +417,37 @@ pub fn point_of(log: &Log, event: &[u32]) -> Result<Point, (u32, u32)> {
             _ => return Err((10, k as u32)),
         }
     }
-    if log.last_time().is_some_and(|last| time < last) {
-        return Err((11, 0));
-    }
+    not_below(log, time)?;
     if log.size() >= MOST_POINTS {
         return Err((12, 0));
     }
     Ok(Point { time, rows })
 }
 
-// Refusals 13 to 15, and what would be reported.
+// Refusal 11, of an event or a notice.
+fn not_below(log: &Log, time: u32) -> Result<(), (u32, u32)> {
+    if log.latest.is_some_and(|latest| time < latest) { Err((11, 0)) } else { Ok(()) }
+}
+
+// A refusal from 9 to 12, or what is reckoned; of a notice 9, 10 and 12 ask nothing.
+pub fn fed<'m>(log: &Log<'m>, fed: &Fed) -> Result<Reckoned<'m>, (u32, u32)> {
+    match fed {
+        Fed::Event(words) => point_of(log, words).map(|p| reckon(log, p)),
+        Fed::Notice(time) => not_below(log, *time).map(|()| reckon_notice(log, *time)),
+    }
+}
+
 pub fn reckon<'m>(old: &Log<'m>, point: Point) -> Reckoned<'m> {
-    let log = old.grown(Rc::new(point));
+    weighed(old, old.grown(Rc::new(point)), true)
+}
+
+// The same for a notice that isn't below the latest known time; 14 isn't tested on it.
+pub fn reckon_notice<'m>(old: &Log<'m>, time: u32) -> Reckoned<'m> {
+    weighed(old, old.noted(time), false)
+}
+
+// Refusals 13 to 15, and what would be reported.
+fn weighed<'m>(old: &Log<'m>, log: Log<'m>, of_event: bool) -> Reckoned<'m> {
     let last = log.meaning.last();
     let mut all = Reckoned { log, newly: vec![], open: 0, kept: 0, refusal: None, reported: vec![] };
     let log = &all.log;
@@ -426,7 +462,7 @@ pub fn reckon<'m>(old: &Log<'m>, point: Point) -> Reckoned<'m> {
         }
     }
     all.open = log.open();
-    if all.open > MOST_OPEN {
+    if of_event && all.open > MOST_OPEN {
         all.refusal = Some((14, 0));
         return all;
     }

@@ -1,5 +1,6 @@
 // The operations that crates/yokemango exports, as a program in Rust calls them. A slice is passed as its address and then
-// its length; for a taking and for the figures, a state's fields are passed so. None of them asks anything of its words, so any may be passed.
+// its length; for a taking, a notice and the figures, a state's fields are passed so. None of them asks anything of its words, so any
+// may be passed.
 #![allow(dead_code)]
 
 pub const RULE_BYTES: usize = 652;
@@ -12,6 +13,7 @@ pub struct State {
     pub rule: [u8; RULE_BYTES],
     pub bytes: u32,
     pub points: u32,
+    pub latest: u32,
     pub times: [u32; RETAINED],
     pub retained: u32,
     pub owners: [u32; ENTRIES],
@@ -24,6 +26,7 @@ pub const NO_STATE: State = State {
     rule: [0; RULE_BYTES],
     bytes: 0,
     points: 0,
+    latest: 0,
     times: [0; RETAINED],
     retained: 0,
     owners: [0; ENTRIES],
@@ -89,6 +92,7 @@ extern "C" {
         rule_len: usize,
         bytes: u32,
         points: *mut u32,
+        latest: *mut u32,
         times: *mut u32,
         times_len: usize,
         retained: *mut u32,
@@ -104,11 +108,32 @@ extern "C" {
         report: *mut u32,
         report_len: usize,
     ) -> Told;
+    fn yokemango_notice(
+        rule: *const u8,
+        rule_len: usize,
+        bytes: u32,
+        points: *mut u32,
+        latest: *mut u32,
+        times: *mut u32,
+        times_len: usize,
+        retained: *mut u32,
+        owners: *mut u32,
+        owners_len: usize,
+        numbers: *mut u32,
+        numbers_len: usize,
+        values: *mut u32,
+        values_len: usize,
+        count: *mut u32,
+        time: u32,
+        report: *mut u32,
+        report_len: usize,
+    ) -> Told;
     fn yokemango_figures(
         rule: *const u8,
         rule_len: usize,
         bytes: u32,
         points: u32,
+        latest: u32,
         times: *const u32,
         times_len: usize,
         retained: u32,
@@ -132,7 +157,7 @@ pub fn start(rule: &[u8]) -> Started {
     unsafe { yokemango_start(rule.as_ptr(), rule.len()) }
 }
 
-// The lengths that a taking and the figures are told of a state's rule, times, owners, numbers and values.
+// The lengths that a taking, a notice and the figures are told of a state's rule, times, owners, numbers and values.
 pub const LENGTHS: [usize; 5] = [RULE_BYTES, RETAINED, ENTRIES, ENTRIES, 4 * ENTRIES];
 
 // Takes an event in the state's own memory, of which so much is lent, and no more than there is.
@@ -145,6 +170,7 @@ pub fn take_of(state: &mut State, lengths: [usize; 5], event: &[u32], report: &m
             rule,
             state.bytes,
             &mut state.points,
+            &mut state.latest,
             state.times.as_mut_ptr(),
             times,
             &mut state.retained,
@@ -175,6 +201,46 @@ pub fn take(state: &State, event: &[u32], report: &mut [u32]) -> Taken {
     Taken { number, place, words, state: next }
 }
 
+// Takes a notice in the state's own memory, of which so much is lent, and no more than there is.
+pub fn notice_of(state: &mut State, lengths: [usize; 5], time: u32, report: &mut [u32]) -> Told {
+    let [rule, times, owners, numbers, values] = lengths;
+    assert!(lengths.iter().zip(LENGTHS).all(|(lent, whole)| *lent <= whole));
+    unsafe {
+        yokemango_notice(
+            state.rule.as_ptr(),
+            rule,
+            state.bytes,
+            &mut state.points,
+            &mut state.latest,
+            state.times.as_mut_ptr(),
+            times,
+            &mut state.retained,
+            state.owners.as_mut_ptr(),
+            owners,
+            state.numbers.as_mut_ptr(),
+            numbers,
+            state.values.as_mut_ptr(),
+            values,
+            &mut state.count,
+            time,
+            report.as_mut_ptr(),
+            report.len(),
+        )
+    }
+}
+
+// Takes a notice in the state's own memory.
+pub fn notice_in(state: &mut State, time: u32, report: &mut [u32]) -> Told {
+    notice_of(state, LENGTHS, time, report)
+}
+
+// The same on a copy of the state.
+pub fn notice(state: &State, time: u32, report: &mut [u32]) -> Taken {
+    let mut next = *state;
+    let Told { number, place, words } = notice_in(&mut next, time, report);
+    Taken { number, place, words, state: next }
+}
+
 // The figures of a state of which so much is lent, and no more than there is.
 pub fn figures_of(state: &State, lengths: [usize; 5]) -> Figures {
     let [rule, times, owners, numbers, values] = lengths;
@@ -185,6 +251,7 @@ pub fn figures_of(state: &State, lengths: [usize; 5]) -> Figures {
             rule,
             state.bytes,
             state.points,
+            state.latest,
             state.times.as_ptr(),
             times,
             state.retained,

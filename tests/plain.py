@@ -1,5 +1,6 @@
 #!/usr/bin/env python3
-"""A plain evaluator of 01, written from its text alone: it holds the whole log and works every answer out from the definitions.
+"""A plain evaluator of 01 and of the clock notices of request 101, written from their text alone: it holds the whole log and works every
+answer out from the definitions.
 
     plain.py < INPUT     the listing of a rule and its events
     plain.py FILE.in ..  compares the listing of each FILE.in with FILE.out
@@ -89,10 +90,14 @@ def compare(how, a, b):
 
 
 class Log:
-    """A rule over a list of points (time, rows): Definition 2, settled, kept."""
+    """A rule over what was accepted, in order: a point is (time, rows), a clock notice is (time, None). Definition 2, settled, kept."""
 
-    def __init__(self, rule, points):
-        self.rule, self.points, self.size = rule, points, len(points)
+    def __init__(self, rule, accepted):
+        self.rule, self.accepted = rule, accepted
+        self.points = [(time, rows) for time, rows in accepted if rows is not None]
+        self.size = len(self.points)
+        # the latest known time, of a point or a notice; None before any
+        self.latest = accepted[-1][0] if accepted else None
         self.vals = functools.lru_cache(None)(self.vals_)
         self.settled = functools.lru_cache(None)(self.settled_)
 
@@ -162,7 +167,7 @@ class Log:
             return all(self.settled(c, j) for c in n.children for j in range(i + 1))
         if n.kind in FUTURE:
             end = self.time(i) + n.words[1]
-            return any(t >= end for t, _ in self.points) and all(self.settled(c, j) for c in n.children for j in range(i, self.size) if self.time(j) < end)
+            return self.latest >= end and all(self.settled(c, j) for c in n.children for j in range(i, self.size) if self.time(j) < end)
         return all(self.settled(c, i) for c in n.children)
 
     def pairs(self, n, i):
@@ -203,22 +208,47 @@ def take(rule, old, words, room=4326):
         if relation >= rule.relations or any(columns[rule.arities[relation]:]):
             return (10, k), None
         rows.append((relation, tuple(columns[:rule.arities[relation]])))
-    if old.size and words[0] < old.time(old.size - 1):
+    if falls(old, words[0]):
         return (11, 0), None
     if old.size >= MOST_POINTS:
         return (12, 0), None
-    new, last = Log(rule, old.points + [(words[0], rows)]), len(rule.nodes) - 1
+    return weighed(rule, old, Log(rule, old.accepted + [(words[0], rows)]), MOST_OPEN, room)
+
+
+def notice(rule, old, time, room=4326):
+    """The same for a clock notice. It adds no point, and 14 isn't tested on it."""
+    if falls(old, time):
+        return (11, 0), None
+    return weighed(rule, old, Log(rule, old.accepted + [(time, None)]), None, room)
+
+
+def falls(old, time):
+    return old.latest is not None and time < old.latest
+
+
+def weighed(rule, old, new, most_open, room):
+    """13 to 16, reckoned on the log as it then is."""
+    last = len(rule.nodes) - 1
     for x in range(last + 1):
         if any(new.settled(x, i) and not old.settled(x, i) and len(new.vals(x, i)) > MOST_ROWS for i in range(new.size)):
             return (13, x), None
-    if new.open() > MOST_OPEN:
+    if most_open is not None and new.open() > most_open:
         return (14, 0), None
     if new.kept() > MOST_KEPT:
         return (15, 0), None
     free = sorted(rule.free[last])
     points = [(i, new.time(i), sorted(tuple(dict(u)[v] for v in free) for u in new.vals(last, i))) for i in range(new.size) if new.settled(last, i) and not old.settled(last, i)]
-    need = 3 + 3 * len(points) + len(free) * sum(len(p[2]) for p in points)
+    need = len(report(rule, points))
     return ((16, need), None) if need > room else (new, points)
+
+
+def report(rule, points):
+    """The words of the report on these points."""
+    rows = [row for p in points for row in p[2]]
+    words = [len(points), len(rule.free[-1]), len(rows)]
+    for i, time, own in points:
+        words += [i, time, len(own)]
+    return words + [value for row in rows for value in row]
 
 
 def split(data):

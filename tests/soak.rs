@@ -1,7 +1,9 @@
 // Ten million points through the monitor in one run, by a rule with past and future: a leak in a block that was read within
-// the last thirty minutes, and that no closing follows within 60 seconds. Each answer and each word of each report is compared
-// with a reckoning for this one rule, which keeps only the readings of thirty minutes and the open points; so are the kept and
-// open figures, now and then. One event in 1,000 is refused by 11. After the last point the next event must be refused by 12.
+// the last thirty minutes, and that no closing follows within 60 seconds. After one event in eight comes a clock notice before
+// the next, and now and then the field is silent for up to half an hour, with a notice every minute. Each answer and each word of
+// each report is compared with a reckoning for this one rule, which keeps only the readings of thirty minutes and the open
+// points; so are the kept and open figures, now and then. After one event in 1,000 and some notices an event and a notice of an
+// earlier time are refused by 11. After the last point the next event must be refused by 12, and a notice settles what is open.
 //
 //   rt staticlib yokemango
 //   rustc -O --edition 2021 -L target/staticlib -o target/soak tests/soak.rs
@@ -10,6 +12,7 @@ mod input;
 mod library;
 
 use input::*;
+use library::{State, Told};
 use std::collections::{BTreeSet, VecDeque};
 use std::process::exit;
 use std::time::Instant;
@@ -43,10 +46,11 @@ struct Waiting {
     closings: BTreeSet<u32>,
 }
 
-// The reckoning: readings as block and time, each once, and the open points.
+// The reckoning: the latest known time, readings as block and time, each once, and the open points.
 #[derive(Default)]
 struct Reckoning {
     points: u32,
+    latest: u32,
     readings: VecDeque<(u32, u32)>,
     open: VecDeque<Waiting>,
 }
@@ -67,7 +71,12 @@ impl Reckoning {
         let (leaks, closings) = (of(LEAK).filter(fresh).collect(), of(CLOSE).collect());
         self.open.push_back(Waiting { point: self.points, time, leaks, closings });
         self.points += 1;
+        self.settle(time)
+    }
 
+    // The words of the report at this time, which is the event's or the notice's.
+    fn settle(&mut self, time: u32) -> Vec<u32> {
+        self.latest = time;
         let (mut triples, mut words) = (vec![], vec![]);
         while self.open.front().is_some_and(|w| time - w.time >= REACH) {
             let within = |w: &&Waiting| w.time - self.open[0].time < REACH;
@@ -100,6 +109,76 @@ fn differ(point: u32, what: String) -> ! {
     exit(1)
 }
 
+// What was reported: by events, and by notices.
+#[derive(Default)]
+struct Tally {
+    points: u64,
+    rows: u64,
+}
+
+// The monitor beside the reckoning.
+struct Soak {
+    state: State,
+    reckoning: Reckoning,
+    buffer: Vec<u32>,
+    refused: u64,
+    most_kept: u32,
+    notices: u64,
+    by_events: Tally,
+    by_notices: Tally,
+}
+
+impl Soak {
+    // The answer must be the report that is reckoned.
+    fn compare(&mut self, told: Told, report: Vec<u32>, by_notice: bool) {
+        let answer = (told.number, told.place, told.words as usize);
+        let written = &self.buffer[..report.len()];
+        if answer != (0, 0, report.len()) || *written != report[..] {
+            differ(self.reckoning.points, format!("the answer is {answer:?} and the report {written:?} for {report:?}"));
+        }
+        let tally = if by_notice { &mut self.by_notices } else { &mut self.by_events };
+        tally.points += report[0] as u64;
+        tally.rows += report[2] as u64;
+    }
+
+    fn take(&mut self, time: u32, rows: &[Row]) {
+        let report = self.reckoning.take(time, rows);
+        let told = library::take_in(&mut self.state, &event(time, rows), &mut self.buffer);
+        self.compare(told, report, false);
+        self.most_kept = self.most_kept.max(self.reckoning.kept());
+    }
+
+    fn notice(&mut self, time: u32) {
+        let report = self.reckoning.settle(time);
+        let told = library::notice_in(&mut self.state, time, &mut self.buffer);
+        self.compare(told, report, true);
+        self.notices += 1;
+    }
+
+    // An event and a notice a second before the latest known time.
+    fn refuse(&mut self) {
+        let early = self.reckoning.latest - 1;
+        let event = library::take(&self.state, &event(early, &[]), &mut self.buffer);
+        let notice = library::notice(&self.state, early, &mut self.buffer);
+        for told in [event, notice] {
+            if (told.number, told.place) != (11, 0) || told.state != self.state {
+                differ(self.reckoning.points, format!("an earlier time is answered {} at {}", told.number, told.place));
+            }
+        }
+        self.refused += 2;
+    }
+
+    fn figures(&self) {
+        let (state, figures) = (&self.state, library::figures(&self.state));
+        let is = (state.points, state.latest, figures.number, figures.open_points, figures.kept);
+        let r = &self.reckoning;
+        let should = (r.points, r.latest, 0, r.open.len() as u32, r.kept());
+        if is != should {
+            differ(r.points, format!("points, latest known time, refusal, open and kept are {is:?} for {should:?}"));
+        }
+    }
+}
+
 fn main() {
     let points = match std::env::args().nth(1).map(|a| a.parse()) {
         None => MOST_POINTS,
@@ -114,46 +193,58 @@ fn main() {
     if (started.number, started.reach) != (0, REACH) {
         differ(0, format!("start answers {} and reach {}", started.number, started.reach));
     }
-    let (mut g, mut state, mut reckoning) = (Random(1), started.state, Reckoning::default());
-    let mut buffer = vec![0; LONGEST_REPORT];
-    let (mut time, mut reported, mut offenders, mut refused, mut most_kept) = (0u32, 0u64, 0u64, 0u64, 0);
-    while reckoning.points < points {
-        let at = reckoning.points;
+    let mut g = Random(1);
+    let mut soak = Soak {
+        state: started.state,
+        reckoning: Reckoning::default(),
+        buffer: vec![0; LONGEST_REPORT],
+        refused: 0,
+        most_kept: 0,
+        notices: 0,
+        by_events: Tally::default(),
+        by_notices: Tally::default(),
+    };
+    let mut time = 0;
+    soak.notice(time);
+    while soak.reckoning.points < points {
+        let at = soak.reckoning.points;
         if at % 1_000 == 999 {
-            let early = library::take(&state, &event(time - 1, &[]), &mut buffer);
-            if (early.number, early.place) != (11, 0) || early.state != state {
-                differ(at, format!("an earlier time is answered {} at {}", early.number, early.place));
-            }
-            refused += 1;
+            soak.refuse();
         }
         // at most 61 / 3 points and a few of equal time are open, and 1,801 / 3 readings of some blocks are fresh
-        time += if g.one_in(16) { 0 } else { g.from(3, 12) as u32 };
-        let rows = rows(&mut g);
-        let report = reckoning.take(time, &rows);
-        let taken = library::take(&state, &event(time, &rows), &mut buffer);
-        let answer = (taken.number, taken.place, taken.words as usize);
-        if answer != (0, 0, report.len()) || buffer[..report.len()] != report[..] {
-            differ(at, format!("the answer is {answer:?} and the report {:?} for {report:?}", &buffer[..report.len()]));
-        }
-        state = taken.state;
-        reported += report[0] as u64;
-        offenders += report[2] as u64;
-        most_kept = most_kept.max(reckoning.kept());
-        if at % 1_000 == 0 || at + 1 == points {
-            let figures = library::figures(&state);
-            let is = (state.points, figures.number, figures.open_points, figures.kept);
-            let should = (reckoning.points, 0, reckoning.open.len() as u32, reckoning.kept());
-            if is != should {
-                differ(at, format!("points, refusal, open and kept are {is:?} for {should:?}"));
+        let step = if g.one_in(16) { 0 } else { g.from(3, 12) as u32 };
+        if g.one_in(8) {
+            soak.notice(time + g.below(step as usize + 1) as u32);
+            if soak.notices % 1_000 == 0 {
+                soak.refuse();
+                soak.figures();
             }
         }
+        time += step;
+        if g.one_in(256) {
+            for _ in 0..g.from(1, 30) {
+                time += 60;
+                soak.notice(time);
+            }
+        }
+        soak.take(time, &rows(&mut g));
+        if at % 1_000 == 0 || at + 1 == points {
+            soak.figures();
+        }
     }
-    let next = library::take(&state, &event(time, &[]), &mut buffer);
+    let next = library::take(&soak.state, &event(time, &[]), &mut soak.buffer);
     let expected = if points == MOST_POINTS { 12 } else { 0 };
-    if (next.number, next.place) != (expected, 0) || (expected == 12 && next.state != state) {
+    if (next.number, next.place) != (expected, 0) || (expected == 12 && next.state != soak.state) {
         differ(points, format!("the next event is answered {} at {}", next.number, next.place));
     }
-    println!("{points} points, {reported} reported with {offenders} rows, {refused} refused by 11, at most {most_kept} kept; no difference");
-    println!("the next event is answered {}; open {} kept {}", next.number, reckoning.open.len(), reckoning.kept());
+    println!("the next event is answered {}; open {} kept {}", next.number, soak.reckoning.open.len(), soak.reckoning.kept());
+    soak.notice(time + REACH);
+    soak.figures();
+    println!("a notice after it settles what is open; open {} kept {}", soak.reckoning.open.len(), soak.reckoning.kept());
+    let Soak { notices, refused, most_kept, by_events, by_notices, .. } = soak;
+    println!("{points} points and {notices} notices, {refused} refused by 11, at most {most_kept} kept; no difference");
+    for (what, tally) in [("events", by_events), ("notices", by_notices)] {
+        println!("reported by {what}: {} points with {} rows", tally.points, tally.rows);
+    }
     println!("{:.1} s", began.elapsed().as_secs_f64());
 }

@@ -1,5 +1,5 @@
-// The stack of one call, by painting the stack below it: a usual event, bursts, and the trees that keep most sets alive at once.
-// It fails above the figures of README.md.
+// The stack of one call, by painting the stack below it: a usual event and a usual notice, bursts, and the trees that keep most
+// sets alive at once, each settled by an event and by a notice. It fails above the figures of README.md.
 //
 //   rt staticlib yokemango
 //   rustc -O --edition 2021 -L target/staticlib -o target/stack tests/stack.rs
@@ -60,6 +60,20 @@ fn of_taking(state: &State, event: &[u32]) -> usize {
     used_by(move || taken(state, event))
 }
 
+// The notice must settle so many points.
+#[inline(never)]
+fn noted(mut state: Box<State>, time: u32, points: u32) {
+    let mut buffer = vec![0; LONGEST_REPORT];
+    let told = library::notice_in(&mut state, time, &mut buffer);
+    assert_eq!((told.number, buffer[0]), (0, points), "refused at {}", told.place);
+    black_box((&state, &buffer));
+}
+
+fn of_notice(state: &State, time: u32, points: u32) -> usize {
+    let state = Box::new(*state);
+    used_by(move || noted(state, time, points))
+}
+
 // ---- what is measured
 
 fn take(state: &mut State, event: &[u32]) -> Vec<u32> {
@@ -89,11 +103,18 @@ fn usual(rule: &Rule, event_at: impl Fn(u32) -> Vec<u32>) -> usize {
     most
 }
 
-// Points that wait, one a second, until 32 are open, with as many rows as 512 entries allow; and then an event that settles them all. Each "previous" at the top lets one more point wait.
-fn burst(rule: &Rule) -> usize {
+// What a burst takes that an event settles, and one that a notice does.
+struct Burst {
+    by_event: usize,
+    by_notice: usize,
+}
+
+// Points that wait, one a second, until 32 are open, with as many rows as 512 entries allow; and then an event, or a notice, that settles them all. Each "previous" at the top lets one more point wait.
+fn burst(rule: &Rule) -> Burst {
     let waiting = 32 + rule.nodes.iter().filter(|n| n.kind == PREVIOUS).count() as u32;
     let columns = rule.arities[0] as usize;
-    let last = event(LONGEST_WINDOW + waiting, &[]);
+    let time = LONGEST_WINDOW + waiting;
+    let last = event(time, &[]);
     let mut buffer = vec![0; LONGEST_REPORT];
     let mut rows = 32;
     'fewer: loop {
@@ -113,7 +134,7 @@ fn burst(rule: &Rule) -> usize {
             continue;
         }
         assert_eq!(library::figures(&state).open_points, 32);
-        return of_taking(&state, &last);
+        return Burst { by_event: of_taking(&state, &last), by_notice: of_notice(&state, time, 32) };
     }
 }
 
@@ -159,15 +180,33 @@ fn leaks(k: u32) -> Vec<u32> {
     event(7 * k, &rows)
 }
 
+// A notice after 1,000 events of rule L: one of the last event's time, which settles nothing, and one that settles the first open
+// point. A point comes every 7 seconds, so that the last 9 are open.
+fn usual_notice(rule: &Rule) -> usize {
+    let mut state = started(rule);
+    for k in 0..1_000 {
+        take(&mut state, &leaks(k));
+    }
+    let first_open = 7 * (1_000 - library::figures(&state).open_points);
+    of_notice(&state, state.latest, 0).max(of_notice(&state, first_open + 61, 1))
+}
+
 fn told(name: &str, bytes: usize, most: usize) -> bool {
     println!("{name}: {bytes} bytes of stack, {} asked", most);
     bytes <= most
 }
 
+// Both of a burst.
+fn told_both(name: &str, burst: Burst, most: usize) -> bool {
+    println!("{name}: {} bytes of stack by an event, {} by a notice, {} asked", burst.by_event, burst.by_notice, most);
+    burst.by_event.max(burst.by_notice) <= most
+}
+
 fn main() {
     let l = rule_l();
     let mut fine = told("rule L, a usual event", usual(&l, leaks), 32 * KB);
-    fine &= told("rule L, 32 points settled at once", burst(&l), 64 * KB);
+    fine &= told("rule L, a notice that settles nothing or one point", usual_notice(&l), 32 * KB);
+    fine &= told_both("rule L, 32 points settled at once", burst(&l), 64 * KB);
     for (name, rule) in [
         ("8 leaves under eventually, joined by until, 9 previous above", joined(8, UNTIL, 9)),
         ("8 leaves under eventually, joined by or, 9 previous above", joined(8, OR, 9)),
@@ -184,13 +223,15 @@ fn main() {
         ("30 previous over eventually", chain(EVENTUALLY, 1, 30)),
     ] {
         assert!(rule.nodes.len() <= 32);
-        fine &= told(name, burst(&rule), 160 * KB);
+        fine &= told_both(name, burst(&rule), 160 * KB);
     }
     for nodes in [2u8, 4, 8, 16, 32] {
         let leaves = (nodes + 1) / 3;
         let rule = joined(leaves, OR, nodes + 1 - 3 * leaves);
         assert_eq!(rule.nodes.len(), nodes as usize);
-        println!("a rule of {nodes} nodes: a usual event {} bytes, a burst {} bytes", usual(&rule, |k| event(LONGEST_WINDOW * k, &[(0, vec![k % 4, 0, 0, 0])])), burst(&rule));
+        let usual = usual(&rule, |k| event(LONGEST_WINDOW * k, &[(0, vec![k % 4, 0, 0, 0])]));
+        let Burst { by_event, by_notice } = burst(&rule);
+        println!("a rule of {nodes} nodes: a usual event {usual} bytes, a burst {by_event} bytes by an event, {by_notice} by a notice");
     }
     let own = l.bytes();
     println!("start: {} bytes", used_by(move || drop(black_box(Box::new(library::start(&own))))));
