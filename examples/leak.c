@@ -1,5 +1,6 @@
-/* Rule L of the scope, a leak that no closing follows within 60 seconds: reads the rule file that is named, takes the rule's
-   four events and prints what the listing program prints.
+/* Rule L of the scope, a leak that no closing follows within 60 seconds, in the main loop of a unit: an event is taken as it
+   comes, and after a quiet minute a clock notice. It reads the rule file that is named; four events and the clock's seconds
+   stand here. It prints as the listing program does.
 
      cc -Iinclude -o target/leak examples/leak.c -Ltarget/staticlib -lyokemango
      target/leak examples/leak.rule */
@@ -8,6 +9,7 @@
 #include "yokemango.h"
 
 enum { LEAK, CLOSE };
+enum { MINUTE = 60 };
 
 /* time, row count; relations; rows of four words */
 static const uint32_t at_100[] = {100, 2, LEAK, LEAK, 7, 0, 0, 0, 9, 0, 0, 0};
@@ -65,8 +67,17 @@ int main(int argc, char **argv)
         return refused(started.number, started.place);
     printf("rule ok reach %" PRIu32 "\n", started.reach);
 
-    for (size_t k = 0; k < LENGTH(events); k++) {
-        const struct yokemango_taken taken = yokemango_take_in(&state, events[k].words, events[k].length, report, YOKEMANGO_MAX_REPORT_WORDS);
+    size_t k = 0;
+    for (uint32_t now = 100; now <= 320; now++) {
+        struct yokemango_taken taken;
+        if (k < LENGTH(events) && events[k].words[0] == now) {
+            taken = yokemango_take_in(&state, events[k].words, events[k].length, report, YOKEMANGO_MAX_REPORT_WORDS);
+            k++;
+        } else if (now - state.latest >= MINUTE) {
+            taken = yokemango_notice_in(&state, now, report, YOKEMANGO_MAX_REPORT_WORDS);
+        } else {
+            continue;
+        }
         if (taken.number != 0)
             return refused(taken.number, taken.place);
         print_report(taken.words);

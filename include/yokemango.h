@@ -1,8 +1,9 @@
 /* The orchard rule monitor, for programs in C and C++.
 
-   A rule is started once; each event is then taken with the state as the last call left it. The call that settles a point
-   reports it. No function has memory between calls but the state, and none uses the heap, a system call or a global. Two
-   states may be used by two threads at once.
+   A rule is started once; each event and each clock notice is then taken with the state as the last call left it. The call
+   that settles a point reports it. A notice is a time and no point: no event below it is still to come. A program gives one a
+   minute while the field is quiet, so that points are settled then too. No function has memory between calls but the state,
+   and none uses the heap, a system call or a global. Two states may be used by two threads at once.
 
    Addresses are never null, also where the length beside them is 0, and are those of whole words; state, event and report
    buffer lie apart. Nothing else is asked: bytes and words may be anything, and what is out of form is refused.
@@ -18,9 +19,9 @@
 extern "C" {
 #endif
 
-#define YOKEMANGO_VERSION "1.0.0-pre"
+#define YOKEMANGO_VERSION "1.1.0-pre"
 #define YOKEMANGO_VERSION_MAJOR 1
-#define YOKEMANGO_VERSION_MINOR 0
+#define YOKEMANGO_VERSION_MINOR 1
 #define YOKEMANGO_VERSION_PATCH 0
 
 /* ---- limits */
@@ -51,7 +52,7 @@ enum yokemango_refusal {
     YOKEMANGO_REFUSED_STATE = 8,           /* a state that isn't well formed */
     YOKEMANGO_REFUSED_EVENT = 9,           /* an event under 2 words, of more than 32 rows, or of a wrong length */
     YOKEMANGO_REFUSED_ROW = 10,            /* an unknown relation, or an unused column not 0; place: the row, from 0 */
-    YOKEMANGO_REFUSED_TIME = 11,           /* a time below the last point's */
+    YOKEMANGO_REFUSED_TIME = 11,           /* a time below the latest known, of a point or a notice */
     YOKEMANGO_REFUSED_FULL = 12,           /* 10,000,000 points already */
     YOKEMANGO_REFUSED_CROWDED = 13,        /* over 32 valuations of a node at a point; place: the node */
     YOKEMANGO_REFUSED_BACKLOG = 14,        /* over 32 points not settled */
@@ -75,7 +76,7 @@ static inline const char *yokemango_refusal_words(uint32_t number)
     case YOKEMANGO_REFUSED_STATE: return "the state isn't well formed";
     case YOKEMANGO_REFUSED_EVENT: return "under 2 words, over 32 rows, or a wrong length";
     case YOKEMANGO_REFUSED_ROW: return "no such relation, or an unused column that isn't 0";
-    case YOKEMANGO_REFUSED_TIME: return "the time is below the last point's";
+    case YOKEMANGO_REFUSED_TIME: return "the time is below the latest known";
     case YOKEMANGO_REFUSED_FULL: return "10,000,000 points were taken already";
     case YOKEMANGO_REFUSED_CROWDED: return "over 32 valuations at a point newly settled";
     case YOKEMANGO_REFUSED_BACKLOG: return "over 32 points would be open";
@@ -91,13 +92,14 @@ static inline const char *yokemango_refusal_words(uint32_t number)
 
 /* ---- the state, and answers */
 
-/* A running rule. Plain words that point nowhere, so it may be copied and kept anywhere. A program reads `points` and
-   `count` and leaves the rest to the functions below; it need not, since a state that was changed is refused by 8 or taken as
-   it stands, and harms nothing. */
+/* A running rule. Plain words that point nowhere, so it may be copied and kept anywhere. A program reads `points`, `latest`
+   and `count` and leaves the rest to the functions below; it need not, since a state that was changed is refused by 8 or taken
+   as it stands, and harms nothing. */
 struct yokemango_state {
     uint8_t rule[YOKEMANGO_MAX_RULE_BYTES];       /* the rule file */
     uint32_t bytes;                               /* its length */
     uint32_t points;                              /* points accepted */
+    uint32_t latest;                              /* the latest known time, of a point or a notice; 0 before any */
     uint32_t times[YOKEMANGO_TIME_WORDS];         /* retained times */
     uint32_t retained;                            /* how many */
     uint32_t owners[YOKEMANGO_MAX_KEPT];          /* of each kept entry: node * 2, and 1 more for a pair of valuation and age */
@@ -110,7 +112,8 @@ struct yokemango_checked {
     uint32_t number;                              /* 0, or the refusal */
     uint32_t place;                               /* its place */
     uint32_t reach;                               /* seconds, 0 on a refusal: in a rule without "next", a point is reported at the
-                                                     latest by the first event whose time is at least this much after its own */
+                                                     latest by the first event or notice whose time is at least this much after
+                                                     its own */
     uint32_t free;                                /* the pattern's free variables, bit k for variable k; 0 on a refusal */
 };
 
@@ -135,13 +138,13 @@ struct yokemango_figures {
 };
 
 /* The layout that the library has. */
-typedef char yokemango_state_has_13216_bytes[sizeof(struct yokemango_state) == 13216 ? 1 : -1];
+typedef char yokemango_state_has_13220_bytes[sizeof(struct yokemango_state) == 13220 ? 1 : -1];
 typedef char yokemango_checked_has_16_bytes[sizeof(struct yokemango_checked) == 16 ? 1 : -1];
-typedef char yokemango_started_has_13232_bytes[sizeof(struct yokemango_started) == 13232 ? 1 : -1];
+typedef char yokemango_started_has_13236_bytes[sizeof(struct yokemango_started) == 13236 ? 1 : -1];
 typedef char yokemango_taken_has_12_bytes[sizeof(struct yokemango_taken) == 12 ? 1 : -1];
 typedef char yokemango_figures_has_12_bytes[sizeof(struct yokemango_figures) == 12 ? 1 : -1];
 
-/* ---- check a rule, start a state and take events */
+/* ---- check a rule, start a state, take events and notices */
 
 /* Checks a rule, with no state and next to no stack; refusals are 1 to 7. */
 struct yokemango_checked yokemango_check(const uint8_t *rule, size_t rule_len);
@@ -152,15 +155,21 @@ struct yokemango_started yokemango_start(const uint8_t *rule, size_t rule_len);
 /* Takes an event in the memory of a state: `rule` to `count` are its fields, lent with their lengths. Another length than
    the field's own is refused by 8. A program calls yokemango_take_in below, which passes them. */
 struct yokemango_taken yokemango_take(
-    const uint8_t *rule, size_t rule_len, uint32_t bytes, uint32_t *points, uint32_t *times, size_t times_len,
+    const uint8_t *rule, size_t rule_len, uint32_t bytes, uint32_t *points, uint32_t *latest, uint32_t *times, size_t times_len,
     uint32_t *retained, uint32_t *owners, size_t owners_len, uint32_t *numbers, size_t numbers_len, uint32_t *values,
     size_t values_len, uint32_t *count, const uint32_t *event, size_t event_len, uint32_t *report, size_t report_len);
 
+/* Takes a notice in the same memory. A program calls yokemango_notice_in below. */
+struct yokemango_taken yokemango_notice(
+    const uint8_t *rule, size_t rule_len, uint32_t bytes, uint32_t *points, uint32_t *latest, uint32_t *times, size_t times_len,
+    uint32_t *retained, uint32_t *owners, size_t owners_len, uint32_t *numbers, size_t numbers_len, uint32_t *values,
+    size_t values_len, uint32_t *count, uint32_t time, uint32_t *report, size_t report_len);
+
 /* The figures of a state whose fields are lent in the same way. A program calls yokemango_figures_in below. */
 struct yokemango_figures yokemango_figures(
-    const uint8_t *rule, size_t rule_len, uint32_t bytes, uint32_t points, const uint32_t *times, size_t times_len,
-    uint32_t retained, const uint32_t *owners, size_t owners_len, const uint32_t *numbers, size_t numbers_len,
-    const uint32_t *values, size_t values_len, uint32_t count);
+    const uint8_t *rule, size_t rule_len, uint32_t bytes, uint32_t points, uint32_t latest, const uint32_t *times,
+    size_t times_len, uint32_t retained, const uint32_t *owners, size_t owners_len, const uint32_t *numbers,
+    size_t numbers_len, const uint32_t *values, size_t values_len, uint32_t count);
 
 /* ---- read a report: P points, F free variables, total rows; P triples of point, time and row count; rows of F words
 
@@ -205,18 +214,30 @@ static inline struct yokemango_checked yokemango_start_in(struct yokemango_state
 static inline struct yokemango_taken yokemango_take_in(struct yokemango_state *state, const uint32_t *event, size_t event_len, uint32_t *report, size_t report_len)
 {
     return yokemango_take(
-        state->rule, YOKEMANGO_MAX_RULE_BYTES, state->bytes, &state->points, state->times, YOKEMANGO_TIME_WORDS,
-        &state->retained, state->owners, YOKEMANGO_MAX_KEPT, state->numbers, YOKEMANGO_MAX_KEPT, state->values,
-        4u * YOKEMANGO_MAX_KEPT, &state->count, event, event_len, report, report_len);
+        state->rule, YOKEMANGO_MAX_RULE_BYTES, state->bytes, &state->points, &state->latest, state->times,
+        YOKEMANGO_TIME_WORDS, &state->retained, state->owners, YOKEMANGO_MAX_KEPT, state->numbers, YOKEMANGO_MAX_KEPT,
+        state->values, 4u * YOKEMANGO_MAX_KEPT, &state->count, event, event_len, report, report_len);
+}
+
+/* Takes a clock notice into `state`: a time and no point. What it settles is reported as by an event; "next" is settled by
+   events alone. The answer has the words written, at least 3, or the first of the refusals 8, 11, 13, 15 and 16 that applies;
+   then no word of `state` or `report` is changed. The time may be the latest known again. A later event below it is refused by
+   11, so a program takes the events that it has before it gives a notice. */
+static inline struct yokemango_taken yokemango_notice_in(struct yokemango_state *state, uint32_t time, uint32_t *report, size_t report_len)
+{
+    return yokemango_notice(
+        state->rule, YOKEMANGO_MAX_RULE_BYTES, state->bytes, &state->points, &state->latest, state->times,
+        YOKEMANGO_TIME_WORDS, &state->retained, state->owners, YOKEMANGO_MAX_KEPT, state->numbers, YOKEMANGO_MAX_KEPT,
+        state->values, 4u * YOKEMANGO_MAX_KEPT, &state->count, time, report, report_len);
 }
 
 /* The figures of `state`: its open points, or 8, and its kept entries. */
 static inline struct yokemango_figures yokemango_figures_in(const struct yokemango_state *state)
 {
     return yokemango_figures(
-        state->rule, YOKEMANGO_MAX_RULE_BYTES, state->bytes, state->points, state->times, YOKEMANGO_TIME_WORDS,
-        state->retained, state->owners, YOKEMANGO_MAX_KEPT, state->numbers, YOKEMANGO_MAX_KEPT, state->values,
-        4u * YOKEMANGO_MAX_KEPT, state->count);
+        state->rule, YOKEMANGO_MAX_RULE_BYTES, state->bytes, state->points, state->latest, state->times,
+        YOKEMANGO_TIME_WORDS, state->retained, state->owners, YOKEMANGO_MAX_KEPT, state->numbers, YOKEMANGO_MAX_KEPT,
+        state->values, 4u * YOKEMANGO_MAX_KEPT, state->count);
 }
 
 /* A point of a report: `rows` rows of `columns` words each, end to end from `words` on. */

@@ -31,7 +31,7 @@ REASONS = {
     8: "the state isn't well formed",
     9: "under 2 words, over 32 rows, or a wrong length",
     10: "no such relation, or an unused column that isn't 0",
-    11: "the time is below the last point's",
+    11: "the time is below the latest known",
     12: "10,000,000 points were taken already",
     13: "over 32 valuations at a point newly settled",
     14: "over 32 points would be open",

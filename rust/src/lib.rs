@@ -2,7 +2,7 @@
 //! thirty minutes". It takes events one by one, in fixed memory, and reports for each point, in the very call that settles
 //! it, exactly the valuations that break the rule. What it does is proved; this crate is a thin safe wrapper around it.
 //!
-//! A rule is checked, a state is started, and events are taken:
+//! A rule is checked, a state is started, events are taken as they come, and clock notices while none come:
 //!
 //! ```
 //! use yokemango::{Event, Refusal, Report, Rule, State, MAX_REPORT_WORDS};
@@ -20,21 +20,23 @@
 //! let close = Event::new(&rule, 130).with(1, &[9])?;
 //! state.take(&close, &mut buffer)?;
 //!
-//! // 61 seconds after the leak, it is known that valve 7 wasn't closed in time
-//! let report = state.take(&Event::new(&rule, 161), &mut buffer)?;
+//! // no event comes, and a clock notice 61 seconds after the leak reports that valve 7 wasn't closed in time
+//! assert!(state.notice(160, &mut buffer)?.is_empty());
+//! let report = state.notice(161, &mut buffer)?;
+//! assert_eq!(report.len(), 1);
 //! for point in &report {
 //!     assert_eq!((point.number(), point.time()), (0, 100));
 //!     assert!(point.rows().eq([[7]]));
 //! }
 //!
-//! // a refused event changes nothing
-//! assert_eq!(state.take(&Event::new(&rule, 100), &mut buffer).err(), Some(Refusal::Time));
-//! assert_eq!((state.points(), state.open_points()), (3, Ok(2)));
+//! // an event below the notice is refused, which changes nothing
+//! assert_eq!(state.take(&Event::new(&rule, 160), &mut buffer).err(), Some(Refusal::Time));
+//! assert_eq!((state.points(), state.latest(), state.open_points()), (2, 161, Ok(1)));
 //! # Ok(())
 //! # }
 //! ```
 //!
-//! It needs no heap and no operating system. A state is 13,216 bytes; the longest report is 4,326 words.
+//! It needs no heap and no operating system. A state is 13,220 bytes; the longest report is 4,326 words.
 //!
 //! To build it, the environment variable `YOKEMANGO_LIB` names the folder that has libyokemango.a, the monitor's static
 //! library.
@@ -81,7 +83,7 @@ pub const MAX_EVENT_WORDS: usize = 162;
 /// The words of the longest report: a buffer of this length never meets [`Refusal::Short`].
 pub const MAX_REPORT_WORDS: usize = 4_326;
 /// The words of a state.
-pub const STATE_WORDS: usize = 3_304;
+pub const STATE_WORDS: usize = 3_305;
 
 #[cfg(test)]
 mod tests {

@@ -11,6 +11,7 @@ pub(crate) struct State {
     rule: [u8; MAX_RULE_BYTES],
     bytes: u32,
     pub(crate) points: u32,
+    pub(crate) latest: u32,
     times: [u32; TIME_WORDS],
     retained: u32,
     owners: [u32; ENTRIES],
@@ -53,7 +54,7 @@ pub(crate) struct Figures {
 // The layout that the library has.
 const _: () = {
     assert!(size_of::<State>() == 4 * STATE_WORDS && align_of::<State>() == 4);
-    assert!(size_of::<Checked>() == 16 && size_of::<Started>() == 13_232 && size_of::<Taken>() == 12 && size_of::<Figures>() == 12);
+    assert!(size_of::<Checked>() == 16 && size_of::<Started>() == 13_236 && size_of::<Taken>() == 12 && size_of::<Figures>() == 12);
 };
 
 extern "C" {
@@ -64,6 +65,7 @@ extern "C" {
         rule_len: usize,
         bytes: u32,
         points: *mut u32,
+        latest: *mut u32,
         times: *mut u32,
         times_len: usize,
         retained: *mut u32,
@@ -79,11 +81,32 @@ extern "C" {
         report: *mut u32,
         report_len: usize,
     ) -> Taken;
+    fn yokemango_notice(
+        rule: *const u8,
+        rule_len: usize,
+        bytes: u32,
+        points: *mut u32,
+        latest: *mut u32,
+        times: *mut u32,
+        times_len: usize,
+        retained: *mut u32,
+        owners: *mut u32,
+        owners_len: usize,
+        numbers: *mut u32,
+        numbers_len: usize,
+        values: *mut u32,
+        values_len: usize,
+        count: *mut u32,
+        time: u32,
+        report: *mut u32,
+        report_len: usize,
+    ) -> Taken;
     fn yokemango_figures(
         rule: *const u8,
         rule_len: usize,
         bytes: u32,
         points: u32,
+        latest: u32,
         times: *const u32,
         times_len: usize,
         retained: u32,
@@ -116,6 +139,7 @@ pub(crate) fn take(state: &mut State, event: &[u32], report: &mut [u32]) -> Take
             MAX_RULE_BYTES,
             state.bytes,
             &mut state.points,
+            &mut state.latest,
             state.times.as_mut_ptr(),
             TIME_WORDS,
             &mut state.retained,
@@ -134,6 +158,31 @@ pub(crate) fn take(state: &mut State, event: &[u32], report: &mut [u32]) -> Take
     }
 }
 
+pub(crate) fn notice(state: &mut State, time: u32, report: &mut [u32]) -> Taken {
+    unsafe {
+        yokemango_notice(
+            state.rule.as_ptr(),
+            MAX_RULE_BYTES,
+            state.bytes,
+            &mut state.points,
+            &mut state.latest,
+            state.times.as_mut_ptr(),
+            TIME_WORDS,
+            &mut state.retained,
+            state.owners.as_mut_ptr(),
+            ENTRIES,
+            state.numbers.as_mut_ptr(),
+            ENTRIES,
+            state.values.as_mut_ptr(),
+            4 * ENTRIES,
+            &mut state.count,
+            time,
+            report.as_mut_ptr(),
+            report.len(),
+        )
+    }
+}
+
 pub(crate) fn figures(state: &State) -> Figures {
     unsafe {
         yokemango_figures(
@@ -141,6 +190,7 @@ pub(crate) fn figures(state: &State) -> Figures {
             MAX_RULE_BYTES,
             state.bytes,
             state.points,
+            state.latest,
             state.times.as_ptr(),
             TIME_WORDS,
             state.retained,

@@ -48,7 +48,7 @@ pub enum Refusal {
         /// The first such row, from 0.
         row: u32,
     },
-    /// 11: the time is below the last point's.
+    /// 11: the time is below the latest known, of a point or a notice.
     Time,
     /// 12: there are 10,000,000 points already.
     Full,
@@ -131,7 +131,7 @@ impl Refusal {
             Refusal::State => "the state isn't well formed",
             Refusal::Event => "under 2 words, over 32 rows, or a wrong length",
             Refusal::Row { .. } => "no such relation, or an unused column that isn't 0",
-            Refusal::Time => "the time is below the last point's",
+            Refusal::Time => "the time is below the latest known",
             Refusal::Full => "10,000,000 points were taken already",
             Refusal::Crowded { .. } => "over 32 valuations at a point newly settled",
             Refusal::Backlog => "over 32 points would be open",

@@ -34,8 +34,8 @@ impl<'a> Rule<'a> {
         self.file
     }
 
-    /// The reach in seconds: in a rule without "next", a point is reported at the latest by the first event whose time is at
-    /// least this much after its own.
+    /// The reach in seconds: in a rule without "next", a point is reported at the latest by the first event or notice whose time
+    /// is at least this much after its own.
     pub fn reach(&self) -> u32 {
         self.reach
     }

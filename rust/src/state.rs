@@ -1,7 +1,7 @@
 use crate::{library, Event, Refusal, Report, Rule, STATE_WORDS};
 use core::fmt;
 
-/// A running rule: 13,216 bytes that point nowhere. It may be copied and kept anywhere.
+/// A running rule: 13,220 bytes that point nowhere. It may be copied and kept anywhere.
 #[derive(Clone, PartialEq, Eq)]
 pub struct State(library::State);
 
@@ -24,15 +24,27 @@ impl State {
     /// Takes an event that is given as its words: time, row count m, m relations, m rows of 4 words with unused columns 0.
     pub fn take_words<'b>(&mut self, event: &[u32], buffer: &'b mut [u32]) -> Result<Report<'b>, Refusal> {
         let taken = library::take(&mut self.0, event, buffer);
-        match taken.number {
-            0 => Ok(Report::written(&buffer[..taken.words as usize])),
-            number => Err(Refusal::of(number, taken.place)),
-        }
+        answer(taken, buffer)
+    }
+
+    /// Takes a clock notice: a time and no point. What it settles is reported as by an event; "next" is settled by events alone.
+    /// Refusals are 8, 11, 13, 15 and 16, and leave state and buffer as they were.
+    ///
+    /// A program gives a notice a minute while no event comes. Its time may be the latest known again; a later event below it is
+    /// refused by 11, so the events that are there are taken first.
+    pub fn notice<'b>(&mut self, time: u32, buffer: &'b mut [u32]) -> Result<Report<'b>, Refusal> {
+        let taken = library::notice(&mut self.0, time, buffer);
+        answer(taken, buffer)
     }
 
     /// The points taken so far.
     pub fn points(&self) -> u32 {
         self.0.points
+    }
+
+    /// The latest known time, of a point or a notice; 0 before any.
+    pub fn latest(&self) -> u32 {
+        self.0.latest
     }
 
     /// The kept entries: at most 512.
@@ -60,9 +72,17 @@ impl State {
     }
 }
 
+/// The report at the front of the buffer, or the refusal.
+fn answer(taken: library::Taken, buffer: &[u32]) -> Result<Report<'_>, Refusal> {
+    match taken.number {
+        0 => Ok(Report::written(&buffer[..taken.words as usize])),
+        number => Err(Refusal::of(number, taken.place)),
+    }
+}
+
 impl fmt::Debug for State {
     fn fmt(&self, out: &mut fmt::Formatter) -> fmt::Result {
-        out.debug_struct("State").field("points", &self.points()).field("kept", &self.kept()).finish_non_exhaustive()
+        out.debug_struct("State").field("points", &self.points()).field("latest", &self.latest()).field("kept", &self.kept()).finish_non_exhaustive()
     }
 }
 
@@ -89,6 +109,19 @@ mod tests {
     }
 
     #[test]
+    fn a_notice_moves_the_latest_time_and_no_point() {
+        let rule = Rule::check(LEAK).unwrap();
+        let mut state = State::start(&rule).unwrap();
+        assert_eq!((state.points(), state.latest()), (0, 0));
+        state.take(&Event::new(&rule, 100).with(0, &[7]).unwrap(), &mut [0; 3]).unwrap();
+        assert_eq!((state.points(), state.latest(), state.open_points()), (1, 100, Ok(1)));
+        assert!(state.notice(160, &mut [0; 3]).unwrap().is_empty());
+        assert_eq!((state.points(), state.latest(), state.open_points()), (1, 160, Ok(1)));
+        assert_eq!(state.notice(161, &mut [0; 7]).unwrap().total_rows(), 1);
+        assert_eq!((state.points(), state.latest(), state.open_points(), state.kept()), (1, 161, Ok(0), 0));
+    }
+
+    #[test]
     fn a_refusal_leaves_state_and_buffer() {
         let rule = Rule::check(LEAK).unwrap();
         let mut state = State::start(&rule).unwrap();
@@ -97,6 +130,7 @@ mod tests {
         assert_eq!(state.take(&Event::new(&rule, 1), &mut buffer).err(), Some(Refusal::Short { needed: 3 }));
         assert_eq!(state.take_words(&[1], &mut buffer).err(), Some(Refusal::Event));
         assert_eq!(state.take_words(&[1, 1, 2, 0, 0, 0, 0], &mut buffer).err(), Some(Refusal::Row { row: 0 }));
+        assert_eq!(state.notice(1, &mut buffer).err(), Some(Refusal::Short { needed: 3 }));
         assert!(state == before && buffer == [5; 2]);
     }
 
@@ -110,6 +144,7 @@ mod tests {
         assert!(again.take(&Event::new(&rule, 2), &mut [0; 3]).is_ok());
         let mut nothing = State::from_words(&[0; STATE_WORDS]);
         assert_eq!(nothing.take(&Event::new(&rule, 2), &mut [0; 3]).err(), Some(Refusal::State));
+        assert_eq!(nothing.notice(2, &mut [0; 3]).err(), Some(Refusal::State));
         assert_eq!(nothing.open_points(), Err(Refusal::State));
     }
 }

@@ -6,8 +6,9 @@
 //! Every buffer that is lent ends, or begins, at a page that can't be read or written, so that a word read or written outside
 //! it stops the run. What is tried:
 //!
-//! - lists of events, some to be refused, each with report buffers of every length from 0 up to enough. The monitor written by
-//!   hand, with which the benchmark compares, takes the accepted ones too;
+//! - lists of events and notices, some to be refused, each with report buffers of every length from 0 up to enough. The monitor
+//!   written by hand, with which the benchmark compares, takes the accepted ones too;
+//! - notices of four rules, word for word;
 //! - states changed in a word: every bit of the words in use and random values in any word. Refusal 8 comes exactly where
 //!   docs/STATE.md has it (tests/formed.rs), and a refusal leaves state and buffer as they were;
 //! - rules damaged in a byte or cut;
@@ -27,9 +28,10 @@ mod keeper;
 #[path = "../../tests/library.rs"]
 mod library;
 
-use draw::Draw;
-use input::{event, Random, LONGEST_REPORT};
-use keeper::{point_of, reckon, Log, Meaning};
+use draw::{move_on, Draw};
+use input::{atom, event, node, rule_l, Random, EVENTUALLY, LONGEST_REPORT, NEXT, ONCE};
+use keeper::{fed, Fed, Log, Meaning, MOST_POINTS};
+use std::mem::{offset_of, transmute};
 use std::process::exit;
 use yokemango::{Event, Refusal, Report, Rule, State, Unfit, STATE_WORDS};
 
@@ -83,8 +85,11 @@ impl Fenced {
 struct Tally {
     lists: u64,
     calls: u64,
-    taken: u64,
+    events: u64,
+    notices: u64,
+    settling: u64,
     refusals: [u64; 18],
+    notices_refused: [u64; 18],
     lengths: u64,
     rows_unfit: u64,
     states: u64,
@@ -112,16 +117,22 @@ impl Run {
 
     /// One call with a report buffer of `room` words, by the function for C and by the crate's. What it answers, and the
     /// buffer before and after it.
-    fn call(&mut self, g: &mut Random, state: &mut State, event: &[u32], room: usize) -> (Result<usize, Refusal>, Vec<u32>, Vec<u32>) {
+    fn call(&mut self, g: &mut Random, state: &mut State, taking: &Fed, room: usize) -> (Result<usize, Refusal>, Vec<u32>, Vec<u32>) {
         let at_end = g.one_in(2);
-        let event = self.event.copy(event, at_end);
         let buffer = self.report.words(room, at_end);
         buffer.iter_mut().for_each(|w| *w = g.next() as u32);
         let before = buffer.to_vec();
-        let taken = library::take(&raw_of(state.words()), event, buffer);
+        let taken = match taking {
+            Fed::Event(words) => library::take(&raw_of(state.words()), self.event.copy(words, at_end), buffer),
+            Fed::Notice(time) => library::notice(&raw_of(state.words()), *time, buffer),
+        };
         let in_c = buffer.to_vec();
         buffer.copy_from_slice(&before);
-        let answer = state.take_words(event, buffer).map(|report| 3 + 3 * report.len() + report.columns() * report.total_rows());
+        let report = match taking {
+            Fed::Event(words) => state.take_words(self.event.copy(words, at_end), buffer),
+            Fed::Notice(time) => state.notice(*time, buffer),
+        };
+        let answer = report.map(|report| 3 + 3 * report.len() + report.columns() * report.total_rows());
         let after = buffer.to_vec();
         self.tally.calls += 1;
         let said = match answer {
@@ -129,6 +140,7 @@ impl Run {
             Err(refusal) => (refusal.number(), refusal.place(), 0),
         };
         self.tally.refusals[said.0 as usize] += 1;
+        self.tally.notices_refused[said.0 as usize] += matches!(taking, Fed::Notice(_)) as u64;
         if (taken.number, taken.place, taken.words) != said || taken.state != raw_of(state.words()) || in_c != after {
             self.differ(&format!("the function for C gives another answer than {answer:?}, another state or other words"));
         }
@@ -136,7 +148,7 @@ impl Run {
     }
 }
 
-// ---- lists of events
+// ---- lists of events and notices
 
 fn list(run: &mut Run, seed: u64) {
     run.seed = seed;
@@ -153,25 +165,36 @@ fn list(run: &mut Run, seed: u64) {
     let (mut log, mut time) = (Log::new(&meaning), draw.first_time());
     let mut by_hand = incremental::Monitor::new(&bytes);
     let mut last_report = vec![];
+    // one taking in so many is a notice
+    let notices = draw.g.pick(&[2, 4, 8, 100]);
     for _ in 0..draw.g.from(5, 40) {
-        time = time.saturating_add(draw.step(&meaning.rule, log.open()));
-        let rows = draw.rows();
-        let mut words = event(time, &rows);
-        build(run, &rule, time, &rows, &words);
-        if draw.g.one_in(12) {
-            draw.damage(&mut words, log.last_time());
-        }
-        if let Some(report) = take(run, &mut draw.g, &mut state, &mut log, &words) {
-            if by_hand.take(&words) != report {
+        let taking = if draw.g.one_in(notices) {
+            Fed::Notice(draw.notice(&log, time))
+        } else {
+            time = time.saturating_add(draw.step(&meaning.rule, log.open()));
+            let rows = draw.rows();
+            let mut words = event(time, &rows);
+            build(run, &rule, time, &rows, &words);
+            if draw.g.one_in(12) {
+                draw.damage(&mut words, log.latest());
+            }
+            Fed::Event(words)
+        };
+        if let Some(report) = take(run, &mut draw.g, &mut state, &mut log, &taking) {
+            let expected = match &taking {
+                Fed::Event(words) => by_hand.take(words),
+                Fed::Notice(time) => by_hand.notice(*time),
+            };
+            if expected != report {
                 run.differ("the monitor written by hand gives another report");
             }
             last_report = report;
         }
-        time = log.last_time().unwrap_or(time);
+        time = log.latest().unwrap_or(time);
     }
-    let words = event(time, &draw.rows());
-    let late = event(time.saturating_add(604_800), &draw.rows());
-    other_states(run, &mut draw.g, &state, &[words, late]);
+    let late = time.saturating_add(604_800);
+    let takings = [Fed::Event(event(time, &draw.rows())), Fed::Notice(late), Fed::Event(event(late, &draw.rows()))];
+    other_states(run, &mut draw.g, &state, &takings);
     damaged_rules(run, &mut draw.g, &bytes);
     damaged_reports(run, &mut draw.g, &last_report);
 }
@@ -200,10 +223,10 @@ fn build(run: &mut Run, rule: &Rule, time: u32, rows: &[input::Row], words: &[u3
     }
 }
 
-/// An event, with every length of buffer that is too short and one that is enough, beside the keeper. The report, if it is
-/// taken.
-fn take(run: &mut Run, g: &mut Random, state: &mut State, log: &mut Log, words: &[u32]) -> Option<Vec<u32>> {
-    let reckoned = point_of(log, words).map(|p| reckon(log, p));
+/// An event or a notice, with every length of buffer that is too short and one that is enough, beside the keeper. The report,
+/// if it is taken.
+fn take(run: &mut Run, g: &mut Random, state: &mut State, log: &mut Log, taking: &Fed) -> Option<Vec<u32>> {
+    let reckoned = fed(log, taking);
     let refusal = match &reckoned {
         Err(refusal) => Some(*refusal),
         Ok(r) => r.refusal,
@@ -220,7 +243,7 @@ fn take(run: &mut Run, g: &mut Random, state: &mut State, log: &mut Log, words: 
             None => Ok(report.len()),
         };
         let before = state.clone();
-        let (answer, buffer, after) = run.call(g, state, words, room);
+        let (answer, buffer, after) = run.call(g, state, taking, room);
         run.tally.lengths += 1;
         if answer.map_err(|r| (r.number(), r.place())) != expected {
             run.differ(&format!("the answer is {answer:?} for {expected:?}"));
@@ -233,30 +256,131 @@ fn take(run: &mut Run, g: &mut Random, state: &mut State, log: &mut Log, words: 
             run.differ("the state of a refused call isn't as it was");
         }
     }
-    let figures = |state: &State| (state.points() as usize, state.open_points().map(|n| n as usize), state.kept() as usize);
+    let figures = |state: &State| (state.points() as usize, Some(state.latest()), state.open_points().map(|n| n as usize), state.kept() as usize);
     let (None, Ok(r)) = (refusal, reckoned) else { return None };
-    run.tally.taken += 1;
+    match taking {
+        Fed::Event(_) => run.tally.events += 1,
+        Fed::Notice(_) => {
+            run.tally.notices += 1;
+            run.tally.settling += !r.reported.is_empty() as u64;
+        }
+    }
     *log = r.log;
-    if figures(state) != (log.size(), Ok(r.open), r.kept) {
+    if figures(state) != (log.size(), log.latest(), Ok(r.open), r.kept) {
         run.differ(&format!("the figures are {:?}", figures(state)));
     }
     Some(report)
 }
 
+// ---- notices, word for word
+
+/// Takes from a start of the rule, each with the length of the buffer and the answer. The state after them.
+fn answers(run: &mut Run, g: &mut Random, rule: input::Rule, takings: &[(Fed, usize, Result<&[u32], Refusal>)]) -> State {
+    let bytes = rule.bytes();
+    let mut state = State::start(&Rule::check(&bytes).unwrap()).unwrap();
+    for (k, (taking, room, expected)) in takings.iter().enumerate() {
+        let before = state.clone();
+        let (answer, buffer, after) = run.call(g, &mut state, taking, *room);
+        let report = expected.unwrap_or(&[]);
+        let written = after.starts_with(report) && after[report.len()..] == buffer[report.len()..];
+        if answer != expected.map(<[u32]>::len) || !written || answer.is_err() && state != before {
+            run.differ(&format!("taking {k} is answered {answer:?}, and the buffer is then {after:?}"));
+        }
+    }
+    state
+}
+
+fn notices(run: &mut Run, g: &mut Random) {
+    const NOTHING: Result<&[u32], Refusal> = Ok(&[0, 1, 0]);
+    let rows = |relation: u32, values: std::ops::Range<u32>| values.map(|v| (relation, vec![v])).collect::<Vec<_>>();
+    let leak = |time: u32| Fed::Event(event(time, &rows(0, 7..8)));
+    let close = |time: u32| Fed::Event(event(time, &rows(1, 7..8)));
+    let crowd = |time: u32, from: u32, count: u32| Fed::Event(event(time, &rows(0, from..from + count)));
+
+    // a leak is reported 61 seconds later, by a notice as by an event
+    let state = answers(run, g, rule_l(), &[
+        (Fed::Notice(50), 3, NOTHING),
+        (close(49), 3, Err(Refusal::Time)),
+        (leak(100), 3, NOTHING),
+        (Fed::Notice(160), 3, NOTHING),
+        (Fed::Notice(159), 9, Err(Refusal::Time)),
+        (Fed::Notice(160), 9, NOTHING),
+        (Fed::Notice(161), 0, Err(Refusal::Short { needed: 7 })),
+        (Fed::Notice(161), 6, Err(Refusal::Short { needed: 7 })),
+        (Fed::Notice(160), 3, NOTHING),
+        (Fed::Notice(161), 9, Ok(&[1, 1, 1, 0, 100, 1, 7])),
+        (close(160), 9, Err(Refusal::Time)),
+        (Fed::Notice(161), 3, NOTHING),
+        (close(161), 3, NOTHING),
+        (Fed::Notice(u32::MAX), 6, Ok(&[1, 1, 0, 1, 161, 0])),
+        (leak(u32::MAX), 3, NOTHING),
+        (Fed::Notice(u32::MAX), 3, NOTHING),
+    ]);
+    if (state.points(), state.latest(), state.open_points(), state.kept()) != (3, u32::MAX, Ok(1), 1) {
+        run.differ(&format!("the notices of rule L leave {state:?}"));
+    }
+
+    // "next" is settled by an event alone
+    let rule = input::Rule { arities: vec![1], nodes: vec![atom(0, &[0]), node(NEXT, 0, 0, 0, 0)] };
+    answers(run, g, rule, &[
+        (leak(100), 3, NOTHING),
+        (Fed::Notice(604_900), 3, NOTHING),
+        (Fed::Notice(u32::MAX), 3, NOTHING),
+        (leak(u32::MAX), 7, Ok(&[1, 1, 1, 0, 100, 1, 7])),
+    ]);
+
+    // 64 rows within the window of one point; a refused notice doesn't move the latest time
+    let eventually = [atom(0, &[0]), node(EVENTUALLY, 0, 0, 0, 61)];
+    let rule = input::Rule { arities: vec![1], nodes: eventually.to_vec() };
+    answers(run, g, rule, &[
+        (crowd(0, 0, 32), 3, NOTHING),
+        (crowd(1, 32, 32), 3, NOTHING),
+        (Fed::Notice(60), 3, NOTHING),
+        (Fed::Notice(61), 0, Err(Refusal::Crowded { node: 1 })),
+        (Fed::Notice(60), 3, NOTHING),
+    ]);
+
+    // 20 points of 16 rows are kept as 20 times 16 entries while they are open, as 19 times 32 and 16 once they are settled
+    let rule = input::Rule { arities: vec![1], nodes: [&eventually[..], &[node(ONCE, 1, 0, 0, 604_800)]].concat() };
+    let mut takings: Vec<_> = (0..20).map(|k| (crowd(k, 16 * (k % 2), 16), 3, NOTHING)).collect();
+    takings.extend([(Fed::Notice(60), 3, NOTHING), (Fed::Notice(80), 0, Err(Refusal::Kept)), (Fed::Notice(60), 3, NOTHING)]);
+    answers(run, g, rule, &takings);
+
+    // after as many points as there may be, a notice still reports
+    let state = answers(run, g, rule_l(), &[(close(39), 3, NOTHING), (leak(100), 6, Ok(&[1, 1, 0, 0, 39, 0]))]);
+    let mut raw = raw_of(state.words());
+    move_on(&mut raw, MOST_POINTS as u32 - 2);
+    let mut last = State::from_words(&words_of(raw));
+    let refused = run.call(g, &mut last, &close(161), 7).0;
+    let (answer, _, report) = run.call(g, &mut last, &Fed::Notice(161), 7);
+    if refused != Err(Refusal::Full) || answer != Ok(7) || report != [1, 1, 1, 9_999_999, 100, 1, 7] {
+        run.differ(&format!("after all points an event is answered {refused:?}, a notice {answer:?} and {report:?}"));
+    }
+}
+
 // ---- states changed in a word
 
-fn other_states(run: &mut Run, g: &mut Random, state: &State, events: &[Vec<u32>; 2]) {
+// The words at which the fields begin.
+const BYTES: usize = offset_of!(library::State, bytes) / 4;
+const POINTS: usize = offset_of!(library::State, points) / 4;
+const LATEST: usize = offset_of!(library::State, latest) / 4;
+const TIMES: usize = offset_of!(library::State, times) / 4;
+const RETAINED: usize = offset_of!(library::State, retained) / 4;
+const OWNERS: usize = offset_of!(library::State, owners) / 4;
+const NUMBERS: usize = offset_of!(library::State, numbers) / 4;
+const VALUES: usize = offset_of!(library::State, values) / 4;
+const COUNT: usize = offset_of!(library::State, count) / 4;
+
+fn other_states(run: &mut Run, g: &mut Random, state: &State, takings: &[Fed; 3]) {
     let words = *state.words();
     let raw = raw_of(&words);
-    // where each field begins: rule, bytes, points, times, retained, owners, numbers, values, count
-    let (bytes, points, times, retained, owners, numbers, values, count) = (163, 164, 165, 230, 231, 743, 1_255, 3_303);
     let kept = raw.count as usize;
     let mut used: Vec<usize> = (0..(raw.bytes as usize).div_ceil(4)).collect();
-    used.extend([bytes, points, retained, count]);
-    used.extend((0..raw.retained as usize).map(|k| times + k));
+    used.extend([BYTES, POINTS, LATEST, RETAINED, COUNT]);
+    used.extend((0..raw.retained as usize).map(|k| TIMES + k));
     for k in 0..kept {
-        used.extend([owners + k, numbers + k]);
-        used.extend((0..4).map(|v| values + 4 * k + v));
+        used.extend([OWNERS + k, NUMBERS + k]);
+        used.extend((0..4).map(|v| VALUES + 4 * k + v));
     }
     // every bit of the words in use in one list of 32, some bits of some of them in the others
     let every = run.seed % 32 == 0;
@@ -265,7 +389,7 @@ fn other_states(run: &mut Run, g: &mut Random, state: &State, events: &[Vec<u32>
             if every || g.one_in(128) {
                 let mut changed = words;
                 changed[*w] ^= 1 << bit;
-                other_state(run, g, &changed, events);
+                other_state(run, g, &changed, takings);
             }
         }
     }
@@ -281,32 +405,40 @@ fn other_states(run: &mut Run, g: &mut Random, state: &State, events: &[Vec<u32>
                 _ => g.next() as u32,
             };
         }
-        other_state(run, g, &changed, events);
+        other_state(run, g, &changed, takings);
     }
     let noise: [u32; STATE_WORDS] = std::array::from_fn(|_| g.next() as u32);
-    other_state(run, g, &noise, events);
+    other_state(run, g, &noise, takings);
 }
 
 fn raw_of(words: &[u32; STATE_WORDS]) -> library::State {
-    unsafe { std::mem::transmute(*words) }
+    unsafe { transmute(*words) }
 }
 
-fn other_state(run: &mut Run, g: &mut Random, words: &[u32; STATE_WORDS], events: &[Vec<u32>; 2]) {
+fn words_of(raw: library::State) -> [u32; STATE_WORDS] {
+    unsafe { transmute(raw) }
+}
+
+fn other_state(run: &mut Run, g: &mut Random, words: &[u32; STATE_WORDS], takings: &[Fed; 3]) {
     run.tally.states += 1;
     let well_formed = formed::well_formed(&raw_of(words));
     let mut state = State::from_words(words);
     // a state that is taken is taken on
     for k in 0..3 {
         let before = state.clone();
-        let event = &events[(k + run.tally.states as usize) % 2];
+        let taking = &takings[(k + run.tally.states as usize) % 3];
         let room = g.pick(&[0, 3, 40, LONGEST_REPORT]);
-        let (answer, buffer, after) = run.call(g, &mut state, event, room);
+        let (answer, buffer, after) = run.call(g, &mut state, taking, room);
+        let known: &[u32] = match taking {
+            Fed::Event(_) => &[8, 9, 10, 11, 12, 13, 14, 15, 16],
+            Fed::Notice(_) => &[8, 11, 13, 15, 16],
+        };
         if (answer == Err(Refusal::State)) == well_formed || state.open_points().is_ok() != well_formed {
             run.differ(&format!("a state that is well formed: {well_formed} is answered {answer:?}"));
         }
         let written = match answer {
             Ok(words) => words,
-            Err(refusal) if !(8..=16).contains(&refusal.number()) => run.differ(&format!("a taking answers {refusal}")),
+            Err(refusal) if !known.contains(&refusal.number()) => run.differ(&format!("a taking answers {refusal}")),
             Err(_) if state != before => run.differ("the state of a refused call isn't as it was"),
             Err(_) => 0,
         };
@@ -331,12 +463,11 @@ fn crowded_states(run: &mut Run, g: &mut Random) {
     let leaks: Vec<input::Row> = (0..32).map(|v| (0, vec![v])).collect();
     state.take_words(&event(100, &leaks), &mut [0; 3]).unwrap();
     let mut words = *state.words();
-    let (owners, numbers, values, count) = (231, 743, 1_255, 3_303);
-    let events = [event(100, &[]), event(161, &[])];
+    let takings = [Fed::Event(event(100, &[])), Fed::Notice(161), Fed::Event(event(161, &[]))];
     let refused = run.tally.states_refused;
     for k in [31, 32, 33] {
-        (words[owners + k], words[numbers + k], words[values + 4 * k], words[count]) = (0, 0, k as u32, k as u32 + 1);
-        other_state(run, g, &words, &events);
+        (words[OWNERS + k], words[NUMBERS + k], words[VALUES + 4 * k], words[COUNT]) = (0, 0, k as u32, k as u32 + 1);
+        other_state(run, g, &words, &takings);
     }
     if run.tally.states_refused != refused + 2 {
         run.differ("a state with 33 rows of a node at a point isn't refused, or one with 32 is");
@@ -464,21 +595,26 @@ fn main() {
     let words = 4 * (LONGEST_REPORT + 16);
     let mut run = Run { seed, event: Fenced::new(PAGE), report: Fenced::new(words), rule: Fenced::new(PAGE), tally: Tally::default() };
     crowded_states(&mut run, &mut Random(seed));
+    notices(&mut run, &mut Random(seed));
     for k in 0..lists {
         list(&mut run, seed.wrapping_add(k));
     }
     let t = &run.tally;
-    println!("{} lists, {} events taken, {} calls; {} of them with a buffer of some length up to enough", t.lists, t.taken, t.calls, t.lengths);
+    println!("{} lists, {} calls; {} of them with a buffer of some length up to enough", t.lists, t.calls, t.lengths);
+    println!("{} events taken; {} notices taken, {} of them with a point reported", t.events, t.notices, t.settling);
     println!("{} rows that the builder refused", t.rows_unfit);
-    println!("{} changed states: {} refused by 8, {} events taken from the others", t.states, t.states_refused, t.states_taken);
+    println!("{} changed states: {} refused by 8, {} events and notices taken from the others", t.states, t.states_refused, t.states_taken);
     println!("{} damaged rules, {} of them accepted; {} reports, {} of them in form", t.rules, t.rules_accepted, t.reports, t.reports_in_form);
-    let rare: Vec<String> = t.refusals.iter().enumerate().skip(1).filter(|(n, met)| **met < lists / 25 && *n != 12).map(|(n, _)| n.to_string()).collect();
+    let least = lists / 25;
+    let mut rare: Vec<String> = (1..=17).filter(|n| t.refusals[*n] < least && *n != 12).map(|n| format!("refusal {n}")).collect();
+    rare.extend([8, 11, 13, 16].iter().filter(|n| t.notices_refused[**n] < least).map(|n| format!("refusal {n} of a notice")));
+    rare.extend((t.settling < least).then(|| "a notice that reports".to_string()));
     for (number, met) in t.refusals.iter().enumerate().skip(1) {
-        println!("refusal {number}: {met}");
+        println!("refusal {number}: {met}, of notices {}", t.notices_refused[number]);
     }
     println!("no difference");
     if lists >= 500 && !rare.is_empty() {
-        println!("refusals met too rarely: {}", rare.join(", "));
+        println!("met too rarely: {}", rare.join(", "));
         exit(1);
     }
 }

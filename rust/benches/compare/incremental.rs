@@ -1,5 +1,5 @@
 //! A monitor as it is written by hand, for speed, with nothing proved: Vec, VecDeque and BTreeMap, general over the fourteen
-//! kinds. It takes accepted rules and events in form, has no limits, and gives the words of the report.
+//! kinds. It takes accepted rules, events in form and notices, has no limits, and gives the words of the report.
 use std::collections::{BTreeMap, VecDeque};
 
 type Row = [u32; 4];
@@ -15,11 +15,12 @@ pub struct Monitor {
     report: Vec<u32>,
 }
 
-/// The times of the points from `base` on.
+/// The times of the points from `base` on, and the latest known time, of a point or a notice.
 struct Clock {
     times: VecDeque<u32>,
     base: usize,
     points: usize,
+    latest: u32,
 }
 
 /// Emptied sets, so that their memory is used again.
@@ -281,7 +282,7 @@ impl Node {
                     until.take(left.as_ref().zip(a.as_ref()), &b, self.settled);
                     a.into_iter().chain([b]).for_each(|set| spare.put(set));
                 }
-                let known = if until.taken < clock.points { clock.time(until.taken) } else { clock.time(clock.points - 1) } as u64;
+                let known = if until.taken < clock.points { clock.time(until.taken) } else { clock.latest } as u64;
                 while self.settled < until.taken && clock.time(self.settled) as u64 + window.end.unwrap_or(0) as u64 <= known {
                     let mut out = spare.set();
                     until.settle(self.settled, *window, clock, &mut out);
@@ -405,7 +406,7 @@ impl Monitor {
             nodes.push(Node { op, free, settled: 0, out: VecDeque::new() });
         }
         let columns = (0..4).filter(|k| nodes[count - 1].free[*k] != 0).collect();
-        let clock = Clock { times: VecDeque::new(), base: 0, points: 0 };
+        let clock = Clock { times: VecDeque::new(), base: 0, points: 0, latest: 0 };
         Monitor { nodes, columns, clock, spare: Spare(Vec::new()), reported: 0, report: Vec::new() }
     }
 
@@ -413,10 +414,28 @@ impl Monitor {
     pub fn take(&mut self, event: &[u32]) -> &[u32] {
         self.clock.times.push_back(event[0]);
         self.clock.points += 1;
+        self.clock.latest = event[0];
         for x in 0..self.nodes.len() {
             let (below, above) = self.nodes.split_at_mut(x);
             above[0].step(below, event, &self.clock, &mut self.spare);
         }
+        self.finish()
+    }
+
+    /// Takes a notice, which gives atoms no point, and gives the words of the report.
+    #[allow(dead_code)]
+    pub fn notice(&mut self, time: u32) -> &[u32] {
+        self.clock.latest = time;
+        for x in 0..self.nodes.len() {
+            let (below, above) = self.nodes.split_at_mut(x);
+            if !matches!(above[0].op, Op::Atom { .. }) {
+                above[0].step(below, &[], &self.clock, &mut self.spare);
+            }
+        }
+        self.finish()
+    }
+
+    fn finish(&mut self) -> &[u32] {
         self.write_report();
         let least = self.nodes.iter().map(|n| n.settled).min().unwrap_or(0);
         while self.clock.base + 1 < least {
