@@ -73,7 +73,7 @@ int main(int argc, char **argv)
         if (k < LENGTH(events) && events[k].words[0] == now) {
             taken = yokemango_take_in(&state, events[k].words, events[k].length, report, YOKEMANGO_MAX_REPORT_WORDS);
             k++;
-        } else if (now - state.latest >= MINUTE) {
+        } else if (now > state.latest && now - state.latest >= MINUTE) {
             taken = yokemango_notice_in(&state, now, report, YOKEMANGO_MAX_REPORT_WORDS);
         } else {
             continue;

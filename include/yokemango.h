@@ -208,9 +208,9 @@ static inline struct yokemango_checked yokemango_start_in(struct yokemango_state
 
    Stack of a call in bytes, by the nodes of the rule, measured:
      nodes                                        2 or 4        8       16       32
-     a usual event                                 9,232    9,800   11,528   12,104
-     an event that settles 32 points at once      61,504  155,256  155,832  156,408
-   yokemango_start takes 13,544 and yokemango_figures 1,368. */
+     a usual event                                 9,488   10,056   11,784   12,360
+     an event that settles 32 points at once      61,760  155,512  156,088  156,664
+   A notice takes 16 bytes less, yokemango_start takes 13,552 and yokemango_figures 1,384. */
 static inline struct yokemango_taken yokemango_take_in(struct yokemango_state *state, const uint32_t *event, size_t event_len, uint32_t *report, size_t report_len)
 {
     return yokemango_take(

@@ -1,5 +1,6 @@
 /* The header as a program in C uses it, on rule L, whose file is named: what a refusal leaves, what a report gives back, what
-   notices settle, and the constants. Built with the address and undefined-behaviour sanitizers; buffers are of exact length, on the heap. */
+   notices settle, and the constants. Built with the address and undefined-behaviour sanitizers; buffers are of exact length,
+   on the heap. */
 #include <stdio.h>
 #include <stdlib.h>
 #include <string.h>

@@ -24,7 +24,7 @@ fn main() -> Result<(), Box<dyn Error>> {
     for now in 100..=320 {
         let report = match events.next_if(|event| event.time() == now) {
             Some(event) => state.take(event, &mut buffer)?,
-            None if now - state.latest() >= MINUTE => state.notice(now, &mut buffer)?,
+            None if now.saturating_sub(state.latest()) >= MINUTE => state.notice(now, &mut buffer)?,
             None => continue,
         };
         for point in report {
