@@ -66,6 +66,7 @@ abbrev pub fedOf : Handed → List ℕ → Fed
 fedOf Event w = event w
 fedOf Notice w = notice (getD w 0 0)
 
+-- of a notice there is one word and no more; an event may be any words
 abbrev pub HandedWhole : Handed → List ℕ → Type 0
 HandedWhole Event w = Unit
 HandedWhole Notice w = length w ≡ 1
