@@ -2,6 +2,7 @@
 use meaning::Comparison;
 use meaning::Term;
 use meaning::Terms;
+use rowset::Gathered;
 use rowset::Row;
 ghost use mathlib.Core.Path.{_≡_};
 ghost use mathlib.Core.Bool.{_&&_, _||_, not, cond};
@@ -14,9 +15,10 @@ ghost use Rattle.meaning.specs.Formula.{termsOf, compares, isVariable, variable
 ghost use Rattle.meaning.specs.Definition2.{value};
 ghost use Rattle.meaning.specs.Log.{relationIn};
 ghost use Rattle.meaning.specs.Event.{rowCount, columnsOf};
-ghost use Rattle.meaning.specs.Evaluator.{cutTo, valuationOf, bound, matches, atomRows, agrees, joined, andRows, lookUp};
+ghost use Rattle.meaning.specs.Evaluator.{cutTo, valuationOf, bound, matches, atomRows, agrees, joined, andRows};
+ghost use Rattle.meaning.specs.LookUp.{lookUp, isThere};
 ghost use Rattle.rowset.specs.Rows.{wordsOf, rowsFrom};
-ghost use Rattle.rowset.specs.Sets.{Run, SetRoom, Added};
+ghost use Rattle.rowset.specs.Sets.{Run, SetRoom, Added, GatherRoom, Gathers};
 ghost use Rattle.kinds.specs.Kinds.{inMask, EventThere, rowsWith};
 
 // Four variables: whether each is in a set.
@@ -157,13 +159,8 @@ pub fn copy(rows: &[u32], from: usize, to: usize, out: &mut [u32], n: usize) -> 
     requires { ⌜ SetRoom (now out) n ⌝ }
     ensures { λ k. ⌜ Added (now (out .entry)) n (now (out .exit)) k (rowsFrom (now (rows .entry)) from (to - from)) ⌝ }
 {
-    let mut k = n;
-    let mut i = from;
-    while i < to {
-        k = rowset::add(out, k, rowset::row_at(rows, i));
-        i += 1;
-    }
-    k
+    let g = rowset::add_rows(rows, from, to, out, Gathered { count: n, near: 0 });
+    g.count
 }
 
 // The rows that join a row of the left child with those of the right child that agree with it.
@@ -181,16 +178,16 @@ fn and_row(
     requires { ⌜ SetRoom (now out) n ⌝ }
     ensures { λ k. ⌜ Added (now (out .entry)) n (now (out .exit)) k (map (joined (inMask f) (wordsOf u)) (select (agrees (inMask f) (inMask g) (wordsOf u)) (rowsFrom (now (rows .entry)) from (to - from)))) ⌝ }
 {
-    let mut k = n;
+    let mut set = Gathered { count: n, near: 0 };
     let mut i = from;
     while i < to {
         let w = rowset::row_at(rows, i);
         let ok = agree(f, g, u, w);
         let row = join(f, u, w);
-        k = rowset::add_if(ok, out, k, row);
+        set = rowset::add_if(ok, out, set, row);
         i += 1;
     }
-    k
+    set.count
 }
 
 // "and": f and g are the masks of the children's variables; the left child's rows are from..to, the right child's start..end.
@@ -234,17 +231,17 @@ pub fn and_not(
     requires { ⌜ Run (now rows) from to ⌝ }
     requires { ⌜ Run (now rows) start end ⌝ }
     requires { ⌜ SetRoom (now out) n ⌝ }
-    ensures { λ k. ⌜ Added (now (out .entry)) n (now (out .exit)) k (select (λ u. not (lookUp (cutTo (inMask g) (valuationOf u)) (rowsFrom (now (rows .entry)) start (end - start)))) (rowsFrom (now (rows .entry)) from (to - from))) ⌝ }
+    ensures { λ k. ⌜ Added (now (out .entry)) n (now (out .exit)) k (select (λ u. not (isThere (lookUp (cutTo (inMask g) (valuationOf u)) (rowsFrom (now (rows .entry)) start (end - start))))) (rowsFrom (now (rows .entry)) from (to - from))) ⌝ }
 {
-    let mut k = n;
+    let mut set = Gathered { count: n, near: 0 };
     let mut i = from;
     while i < to {
         let u = rowset::row_at(rows, i);
         let found = rowset::contains(rows, start, end, cut(g, u));
-        k = rowset::add_if(!found, out, k, u);
+        set = rowset::add_if(!found, out, set, u);
         i += 1;
     }
-    k
+    set.count
 }
 
 // "keep": a row is put in where its values of the two terms compare so.
@@ -262,17 +259,17 @@ pub fn keep(
     requires { ⌜ SetRoom (now out) n ⌝ }
     ensures { λ k. ⌜ Added (now (out .entry)) n (now (out .exit)) k (select (λ u. compares c (value (valuationOf u) s) (value (valuationOf u) t)) (rowsFrom (now (rows .entry)) from (to - from))) ⌝ }
 {
-    let mut k = n;
+    let mut set = Gathered { count: n, near: 0 };
     let mut i = from;
     while i < to {
         let u = rowset::row_at(rows, i);
         let a = term_value(u, s);
         let b = term_value(u, t);
         let ok = compare(c, a, b);
-        k = rowset::add_if(ok, out, k, u);
+        set = rowset::add_if(ok, out, set, u);
         i += 1;
     }
-    k
+    set.count
 }
 
 // "exists": variable x is no longer free.
@@ -281,14 +278,14 @@ pub fn exists(x: u32, rows: &[u32], from: usize, to: usize, out: &mut [u32], n: 
     requires { ⌜ SetRoom (now out) n ⌝ }
     ensures { λ k. ⌜ Added (now (out .entry)) n (now (out .exit)) k (map (λ u. cutTo (λ y. not (eqb y x)) (valuationOf u)) (rowsFrom (now (rows .entry)) from (to - from))) ⌝ }
 {
-    let mut k = n;
+    let mut set = Gathered { count: n, near: 0 };
     let mut i = from;
     while i < to {
         let u = without(x, rowset::row_at(rows, i));
-        k = rowset::add(out, k, u);
+        set = rowset::add(out, set, u);
         i += 1;
     }
-    k
+    set.count
 }
 
 fn is_variable(x: u32, t: Term) -> bool
@@ -488,16 +485,23 @@ fn columns_at(event: &[u32], m: usize, k: usize) -> Row
 }
 
 // What an atom puts in for one row of an event.
-fn atom_row(relation: u32, found: u32, ts: Terms, c: Row, out: &mut [u32], n: usize) -> usize
-    requires { ⌜ SetRoom (now out) n ⌝ }
-    ensures { λ k. ⌜ Added (now (out .entry)) n (now (out .exit)) k (cond (eqb found relation && matches (termsOf ts) (take (ts .count) (wordsOf c))) (map (bound (termsOf ts) (take (ts .count) (wordsOf c))) variables ∷ []) []) ⌝ }
+fn atom_row(
+    relation: u32,
+    found: u32,
+    ts: Terms,
+    c: Row,
+    out: &mut [u32],
+    set: Gathered,
+) -> Gathered
+    requires { ⌜ GatherRoom (now out) set ⌝ }
+    ensures { λ g. ⌜ Gathers (now (out .entry)) set (now (out .exit)) g (cond (eqb found relation && matches (termsOf ts) (take (ts .count) (wordsOf c))) (map (bound (termsOf ts) (take (ts .count) (wordsOf c))) variables ∷ []) []) ⌝ }
 {
     if found == relation {
         let ok = columns_match(ts, c);
         let row = bound_row(ts, c);
-        return rowset::add_if(ok, out, n, row);
+        return rowset::add_if(ok, out, set, row);
     }
-    n
+    set
 }
 
 // How many rows an event has; a notice, which is one word, has none.
@@ -517,12 +521,12 @@ pub fn atom(relation: u32, ts: Terms, event: &[u32], out: &mut [u32], n: usize) 
     ensures { λ k. ⌜ Added (now (out .entry)) n (now (out .exit)) k (atomRows (termsOf ts) (relationIn relation (rowsWith (ts .count) (now (event .entry))))) ⌝ }
 {
     let m = row_total(event);
-    let mut k = n;
+    let mut set = Gathered { count: n, near: 0 };
     let mut i = 0;
     while i < m {
         let c = columns_at(event, m, i);
-        k = atom_row(relation, event[2 + i], ts, c, out, k);
+        set = atom_row(relation, event[2 + i], ts, c, out, set);
         i += 1;
     }
-    k
+    set.count
 }

@@ -1,7 +1,7 @@
 -- The evaluator: the valuations of a formula at a point, as a strictly ascending list of rows of four words, 0 where a variable isn't free.
 -- proofs/Agreement shows that these are the valuations that satisfy the formula by Definition 2.
 use Prim.Native.Nat.{ℕ, suc, _-_}
-use mathlib.Core.Bool.{Bool, true, false, not, cond, _&&_, _||_}
+use mathlib.Core.Bool.{Bool, true, not, cond, _&&_, _||_}
 use mathlib.Core.List.{List, [], _∷_, _++_, map}
 use lib.ListN.{getD}
 use lib.Dec.{ltb, eqb}
@@ -37,11 +37,6 @@ setOf rows = insertAll [] rows
 
 abbrev pub member : List ℕ → List (List ℕ) → Bool
 member r rows = any (sameRow r) rows
-
--- looking for a row stops at the first that isn't before it; in an ascending list of rows of its length that finds its members
-abbrev pub lookUp : List ℕ → List (List ℕ) → Bool
-lookUp r [] = false
-lookUp r (s ∷ rows) = cond (before s r) (lookUp r rows) (sameRow r s)
 
 -- the value that columns give to a variable: that of the first column whose term it is
 abbrev pub bound : List Term → List ℕ → ℕ → ℕ

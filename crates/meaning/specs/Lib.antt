@@ -6,6 +6,7 @@ pub mod Formula
 pub mod Definition2
 pub mod Order
 pub mod Evaluator
+pub mod LookUp
 pub mod Exact
 pub mod Settled
 pub mod View

@@ -4,9 +4,8 @@ use native.Mathlib.Omega.{arith}
 use mathlib.Core.Path.{_≡_, refl, sym, _∙_, ap, ap₂}
 use mathlib.Core.Bool.{Bool, true, false, not, cond, _&&_, _||_}
 use mathlib.Core.List.{List, [], _∷_, append-nil, List·Memᴰ, List·Memᴰ·head, List·Memᴰ·tail}
-use lib.ListN.{length}
 use lib.Dec.{ltb, eqb}
-use borrow.Author.Tests.{ltb-true, ltb-false, lt-ltb, le-ltb, eq-eqb, ne-eqb}
+use borrow.Author.Tests.{ltb-true, ltb-false, lt-ltb, le-ltb, ne-eqb}
 use Rattle.meaning.specs.Lists.{all, select, gather}
 use Rattle.meaning.specs.Log.{Log, Ordered, size, time, rowsAt, elapsed, pointBefore, pointAfter, pointsFrom}
 use Rattle.meaning.specs.Formula.{Formula, free, termsOf, inWindow, variables}
@@ -21,7 +20,6 @@ use Rattle.meaning.specs.declared.Window.{Window}
 use Rattle.meaning.specs.declared.Node.{Node}
 use Rattle.meaning.specs.declared.Node.the-variants.{Atom, And, AndNot, Keep, Or, Exists, Previous, Next, Since, NotSince, Until, NotUntil, Once, Eventually}
 use Rattle.meaning.proofs.Fine.{Fine}
-use Rattle.meaning.proofs.Rows.{all-of}
 use Rattle.meaning.proofs.Points.{first, second, all-same, select-same, select-append, select-none, gather-same, pointsFrom-append, Tested, passed, failed, tested}
 use Rattle.meaning.proofs.Agreement.{ascends, rows-length}
 use Rattle.meaning.proofs.Settles.{UntilSettled, until-parts, since-each, twin, present}
@@ -42,7 +40,7 @@ pub record InputsAgree (v : Inputs) (l : Log) (F : ℕ → Formula) (n : Node) (
 -- a child's rows, asked for a row
 found-among : (v : Inputs) (l : Log) (F : ℕ → Formula) (a : ℕ) (k : Point) → Fine (F a) → v .free ≡ (λ y. free (F y)) → v .rows a k ≡ vals l (F a) k → (u : List ℕ) → found v a u k ≡ among (free (F a)) (vals l (F a)) u k
 found-among v l F a k f e r u =
-    rw (e, r) (look-member (cutTo (free (F a)) (valuationOf u)) (vals l (F a) k) (all-of _ (vals l (F a) k) (λ s m. eq-eqb (length s) 4 (rows-length l (F a) f k s m))) (ascends l (F a) f k))
+    rw (e, r) (look-member (cutTo (free (F a)) (valuationOf u)) (vals l (F a) k) (rows-length l (F a) f k) (ascends l (F a) f k))
 
 -- until over fewer points, where the others are past the window's end
 pub until-cut : (τ τ' : Point → Stamp) (m n : ℕ) (w : Window) (left left' : List ℕ → Point → Bool) (right right' : Point → List (List ℕ)) (i : Point)

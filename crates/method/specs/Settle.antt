@@ -8,7 +8,8 @@ use Rattle.meaning.specs.Lists.{all, select, gather}
 use Rattle.meaning.specs.Log.{elapsed, pointBefore, pointAfter, pointsFrom}
 use Rattle.meaning.specs.Formula.{termsOf, inWindow, compares}
 use Rattle.meaning.specs.Definition2.{value}
-use Rattle.meaning.specs.Evaluator.{cutTo, valuationOf, setOf, atomRows, andRows, lasting, untilRows, lookUp}
+use Rattle.meaning.specs.Evaluator.{cutTo, valuationOf, setOf, atomRows, andRows, lasting, untilRows}
+use Rattle.meaning.specs.LookUp.{lookUp, isThere}
 use Rattle.meaning.specs.View.{passes}
 use Rattle.meaning.specs.Kept.{belowEnd, countedAge}
 use Rattle.meaning.specs.declared.Point.{Point}
@@ -32,7 +33,7 @@ pub record Inputs : Type 0 where
 
 -- a child's rows at a point, asked for a row cut down to the child's variables
 abbrev pub found : Inputs → ℕ → List ℕ → Point → Bool
-found v a u k = lookUp (cutTo (v .free a) (valuationOf u)) (v .rows a k)
+found v a u k = isThere (lookUp (cutTo (v .free a) (valuationOf u)) (v .rows a k))
 
 -- as many points as the second argument says, from the first back
 abbrev pub backFrom : Point → ℕ → List Point

@@ -30,7 +30,7 @@ use Rattle.method.specs.WellFormed.{pairFits, pairsFit}
 use Rattle.method.proofs.Views.{Branches, none, single, double, viewed}
 use Rattle.method.proofs.Bounds.{before-step, after-step}
 use Rattle.rowset.specs.Sets.{Added}
-use Rattle.rowset.proofs.Growing.{added-as}
+use Rattle.rowset.proofs.Growing.{added-as, set-made}
 use Rattle.kinds.specs.Kinds.{rowsWith}
 use Rattle.kinds.proofs.Atoms.{atom-reads}
 use Rattle.room.specs.Room.{setIn, setAt, SetsInOrder}
@@ -40,7 +40,6 @@ use Rattle.node_sets.specs.NodeEntries.{setEntries}
 use Rattle.node_sets.specs.Blocks.{MovedDown, RoomToKeep, EntriesPut}
 use Rattle.since.specs.Since.{heldIn}
 use Rattle.settling.specs.Inputs.{PointSettled}
-use Rattle.settling.proofs.Gives.{set-made}
 use Rattle.node_step.specs.declared.Own.{Own}
 use Rattle.node_step.specs.Figures.{CallReady}
 use Rattle.node_step.specs.Walks.{setWords}

@@ -1,19 +1,21 @@
--- Pairs put in at once behind those that are there: where all of them ascend, that is what putting them in one by one gives.
+-- Pairs put in at once behind those that are there: where they ascend, and all that are there stand before them, that is what putting them in one by one gives.
 use Prim.Native.Nat.{ℕ, _+_, _-_, _*_, _≤_, _<_, min}
+use native.Mathlib.Nat.{eq-or-lt-of-le}
 use native.Mathlib.Omega.{arith}
 use mathlib.Core.Path.{_≡_, refl, sym, ap, ap₂, _∙_}
 use mathlib.Core.Bool.{true}
-use mathlib.Core.List.{List, [], _∷_, _++_, map, append-nil, List·Memᴰ·head, Memᴰ·append-right}
+use mathlib.Core.Logic.{_⊎_, inl, inr}
+use mathlib.Core.List.{List, [], _∷_, _++_, map, append-nil, List·Memᴰ, List·Memᴰ·head, List·Memᴰ·tail, List·Memᴰ·not-nil, List·Memᴰ·cases-cons, List·Memᴰ·append-cases, Memᴰ·of-map}
 use lib.ListN.{length, getD, drop}
 use lib.Seq.{append-snoc}
-use lib.Dec.{ltb}
-use borrow.Author.Tests.{ltb-true, ltb-false, lt-ltb}
+use borrow.Author.Tests.{lt-ltb}
 use Rattle.meaning.specs.Lists.{range}
 use Rattle.meaning.specs.Order.{before, ascending}
 use Rattle.meaning.specs.Evaluator.{insert, insertAll}
-use Rattle.meaning.proofs.Points.{Tested, passed, failed, tested}
-use Rattle.meaning.proofs.Rows.{head-before, ascending-tail}
+use Rattle.meaning.proofs.Rows.{range-at, before-transitive, head-before, ascending-tail}
 use Rattle.rowset.specs.Rows.{rowAt}
+use Rattle.rowset.specs.Sets.{Led}
+use Rattle.rowset.specs.declared.Gathered.{Gathered}
 use Rattle.meaning.proofs.Order.{asymmetric}
 use Rattle.rowset.proofs.Runs.{run-append, run-same}
 use Rattle.kinds.specs.Kinds.{pairAt, pairsFrom}
@@ -24,16 +26,27 @@ use Rattle.pairs.proofs.Runs.{pairs-length}
 use Rattle.pairs.proofs.Growing.{pairs-as}
 use Rattle.pairs.proofs.Ascents.{ascends-run, next-before, both-grown, rising}
 
-insert-behind : (set : List (List ℕ)) (x : List ℕ) (xs : List (List ℕ)) → ascending (set ++ x ∷ xs) ≡ true → insert x set ≡ set ++ x ∷ []
-insert-behind [] x xs a = refl
-insert-behind (s ∷ set) x xs a =
-    let p : before s x ≡ true = head-before s a (Memᴰ·append-right set (List·Memᴰ·head refl)) in
-    rw (asymmetric s x p, p) (ap (λ t. s ∷ t) (insert-behind set x xs (ascending-tail s (set ++ x ∷ xs) a)))
+-- what stands behind a list is put behind it
+insert-behind : (set : List (List ℕ)) (x : List ℕ) → ((s : List ℕ) → List·Memᴰ s set → before s x ≡ true) → insert x set ≡ set ++ x ∷ []
+insert-behind [] x h = refl
+insert-behind (s ∷ set) x h =
+    let p : before s x ≡ true = h s (List·Memᴰ·head refl) in
+    rw (asymmetric s x p, p) (ap (λ t. s ∷ t) (insert-behind set x (λ u m. h u (List·Memᴰ·tail m))))
 
-insertAll-behind : (set xs : List (List ℕ)) → ascending (set ++ xs) ≡ true → insertAll set xs ≡ set ++ xs
-insertAll-behind set [] a = sym (append-nil set)
-insertAll-behind set (x ∷ xs) a =
-    ap (λ s. insertAll s xs) (insert-behind set x xs a) ∙ insertAll-behind (set ++ x ∷ []) xs (ap ascending (append-snoc set x xs) ∙ a) ∙ append-snoc set x xs
+insertAll-behind : (set xs : List (List ℕ)) → ascending xs ≡ true → ((s x : List ℕ) → List·Memᴰ s set → List·Memᴰ x xs → before s x ≡ true) → insertAll set xs ≡ set ++ xs
+insertAll-behind set [] a h = sym (append-nil set)
+insertAll-behind set (x ∷ xs) a h =
+    ap (λ s. insertAll s xs) (insert-behind set x (λ s m. h s x m (List·Memᴰ·head refl)))
+    ∙ insertAll-behind (set ++ x ∷ []) xs (ascending-tail x xs a) (λ s y m o. next s y o (List·Memᴰ·append-cases set m))
+    ∙ append-snoc set x xs
+  where
+    next : (s y : List ℕ) → List·Memᴰ y xs → List·Memᴰ s set ⊎ List·Memᴰ s (x ∷ []) → before s y ≡ true
+    next s y o (inl m) = h s y m (List·Memᴰ·tail o)
+    next s y o (inr m) = first-of (List·Memᴰ·cases-cons m)
+      where
+        first-of : (s ≡ x) ⊎ List·Memᴰ s [] → before s y ≡ true
+        first-of (inl e) = rw e (head-before x a o)
+        first-of (inr n) = absurd (List·Memᴰ·not-nil n)
 
 module _ (oldAges oldValues : List ℕ) (m by most : ℕ) (up : ascending (pairsFrom oldAges oldValues 0 m) ≡ true) where
   -- pair k grown older, and all where none is cut down
@@ -49,8 +62,11 @@ module _ (oldAges oldValues : List ℕ) (m by most : ℕ) (up : ascending (pairs
       run-same grownAt (λ k. min (getD oldAges k 0 + by) most ∷ rowAt oldValues k) 0 m (λ k a b. let e : getD oldAges k 0 + by ≡ min (getD oldAges k 0 + by) most = omega (arith, ages-small s u k (omega arith)) in ap (λ age. age ∷ rowAt oldValues k) e)
       ∙ sym (map-twice (λ p. min (getD p 0 0 + by) most ∷ drop 1 p) (pairAt oldAges oldValues) (range 0 m))
 
-  module _ {ages values : List ℕ} {n : ℕ} {ages' values' : List ℕ} (b : Behind oldAges m by most ages n) (room : PairRoom ages values n)
-      (p : WordsPut ages n ages' m (λ k. getD oldAges k 0 + by)) (q : WordsPut values (n * 4) values' (m * 4) (λ k. getD oldValues k 0)) where
+  module _ {ages values : List ℕ} {set : Gathered} {ages' values' : List ℕ} (b : Behind oldAges m by most ages set) (room : PairRoom ages values set)
+      (p : WordsPut ages (set .count) ages' m (λ k. getD oldAges k 0 + by)) (q : WordsPut values (set .count * 4) values' (m * 4) (λ k. getD oldValues k 0)) where
+    abbrev n : ℕ
+    n = set .count
+
     stays-at : (k : ℕ) → k < n → pairAt ages' values' k ≡ pairAt ages values k
     stays-at k l =
         let e = p .below k l in
@@ -86,39 +102,47 @@ module _ (oldAges oldValues : List ℕ) (m by most : ℕ) (up : ascending (pairs
         let z : 0 + k ≡ k = omega arith in
         rw (y, z) (put-at k l)))
 
-    each-before : (k : ℕ) → k + 1 < n + m → before (pairAt ages' values' k) (pairAt ages' values' (k + 1)) ≡ true
-    each-before k l = go (tested (ltb (k + 1) n)) (tested (ltb k n))
+    -- each pair that is there stands before each that is put in
+    all-before : (k j : ℕ) → k < n → j < m → before (pairAt ages values k) (grownAt j) ≡ true
+    all-before k j l o = go (eq-or-lt-of-le (omega arith))
       where
-        go : Tested (ltb (k + 1) n) → Tested (ltb k n) → before (pairAt ages' values' k) (pairAt ages' values' (k + 1)) ≡ true
-        go (passed d) t =
-            let o : k + 1 < n = ltb-true (k + 1) n d in
-            ap₂ before (stays-at k (omega arith)) (stays-at (k + 1) o) ∙ next-before ages values n (room .ascends (omega (arith, b .room))) k o
-        go (failed d) (passed t) =
-            let o = ltb-true k n t in
-            let u = ltb-false (k + 1) n d in
-            let z : k + 1 ≡ n + 0 = omega arith in
-            let y : k ≡ n - 1 = omega arith in
-            let a : getD ages k 0 < getD oldAges 0 0 + by = rw y (b .after (omega arith)) in
-            ap₂ before (stays-at k o) (ap (pairAt ages' values') z ∙ put-at 0 (b .some)) ∙ (rw (lt-ltb (getD ages k 0) (getD oldAges 0 0 + by) a))
-        go (failed d) (failed t) =
-            let o = ltb-false k n t in
-            let y : k ≡ n + (k - n) = omega arith in
-            let z : k + 1 ≡ n + (k - n + 1) = omega arith in
-            ap₂ before (ap (pairAt ages' values') y ∙ put-at (k - n) (omega arith)) (ap (pairAt ages' values') z ∙ put-at (k - n + 1) (omega arith))
-            ∙ both-grown (getD oldAges (k - n) 0) (getD oldAges (k - n + 1) 0) (rowAt oldValues (k - n)) (rowAt oldValues (k - n + 1)) (next-before oldAges oldValues m up (k - n) (omega arith)) by
+        last-before : before (pairAt ages values (n - 1)) (grownAt j) ≡ true
+        last-before = rw (lt-ltb (getD ages (n - 1) 0) (getD oldAges j 0 + by) (omega (arith, b .after (omega arith), rising oldAges oldValues m up 0 j (omega arith) o)))
 
-    all-ascend : ascending (pairsFrom ages' values' 0 (n + m)) ≡ true
+        go : (k ≡ n - 1) ⊎ (k < n - 1) → before (pairAt ages values k) (grownAt j) ≡ true
+        go (inl e) = rw e last-before
+        go (inr v) =
+            let near : set .near ≡ n - 1 = b .last (omega arith) in
+            let led : Led (pairAt ages values) (n - 1) = rw near at (room .led) in
+            before-transitive (pairAt ages values k) (pairAt ages values (n - 1)) (grownAt j) (led k v) last-before
+
+    item-at : {at : ℕ → List ℕ} {c : ℕ} (u : List ℕ) → List·Memᴰ u (map at (range 0 c)) → (k : ℕ) × (k < c) × (at k ≡ u)
+    item-at {at} {c} u h =
+        let (k, i, e) = Memᴰ·of-map at (range 0 c) h in
+        (k, omega (arith, range-at 0 c i .1), e)
+
+    grown-ascend : ascending (map grownAt (range 0 m)) ≡ true
+    grown-ascend =
+        ascends-run grownAt 0 m
+        (λ k u o. both-grown (getD oldAges k 0) (getD oldAges (k + 1) 0) (rowAt oldValues k) (rowAt oldValues (k + 1)) (next-before oldAges oldValues m up k (omega arith)) by)
+
+    put-behind : insertAll (pairsFrom ages values 0 n) (map grownAt (range 0 m)) ≡ pairsFrom ages values 0 n ++ map grownAt (range 0 m)
     unfolding pairsFrom
-    all-ascend = ascends-run (pairAt ages' values') 0 (n + m) (λ k u o. each-before k (omega arith))
+    put-behind =
+        insertAll-behind (pairsFrom ages values 0 n) (map grownAt (range 0 m)) grown-ascend
+        (λ s x i o.
+        let (k, l, e) = item-at {at = pairAt ages values} {c = n} s i in
+        let (j, q, f) = item-at {at = grownAt} {c = m} x o in
+        sym (ap₂ before e f) ∙ all-before k j l q)
 
-    pub add-behind : PairsAdded ages values n ages' values' (n + m) (grownPairs by most (pairsFrom oldAges oldValues 0 m))
+    pub add-behind : PairsAdded ages values set ages' values' (record { count = n + m; near = 0 }) (grownPairs by most (pairsFrom oldAges oldValues 0 m))
     add-behind =
         let few = b .room in
-        let put : PairsAdded ages values n ages' values' (n + m) (map grownAt (range 0 m))
+        let put : PairsAdded ages values set ages' values' (record { count = n + m; near = 0 }) (map grownAt (range 0 m))
         = record {
           agesLong = p .long;
           valuesLong = q .long;
-          room = record { most = omega (arith, p .long); valuesThere = omega (arith, p .long, q .long, room .valuesThere); ascends = λ _. all-ascend };
+          room = record { most = omega (arith, p .long); valuesThere = omega (arith, p .long, q .long, room .valuesThere); led = λ k l. absurd (omega arith) };
           put = λ s h. stand s h;
         } in
         pairs-as put (uncut (b .some) (b .uncut))
@@ -126,7 +150,6 @@ module _ (oldAges oldValues : List ℕ) (m by most : ℕ) (up : ascending (pairs
         stand : (s : List (List ℕ)) → PairsStand ages values n s → PairsStand ages' values' (n + m) (insertAll s (map grownAt (range 0 m)))
         stand s h =
             let few = b .room in
-            let whole : pairsFrom ages' values' 0 (n + m) ≡ s ++ map grownAt (range 0 m) = pairs-are ∙ ap (λ us. us ++ map grownAt (range 0 m)) (h .set (omega arith)) in
-            let e : pairsFrom ages' values' 0 (n + m) ≡ insertAll s (map grownAt (range 0 m)) = whole ∙ sym (insertAll-behind s (map grownAt (range 0 m)) (ap ascending (sym whole) ∙ all-ascend)) in
+            let e : pairsFrom ages' values' 0 (n + m) ≡ insertAll s (map grownAt (range 0 m)) = pairs-are ∙ sym put-behind ∙ ap (λ us. insertAll us (map grownAt (range 0 m))) (h .set (omega arith)) in
             let c : length (insertAll s (map grownAt (range 0 m))) ≡ n + m = ap length (sym e) ∙ pairs-length ages' values' 0 (n + m) in
             record { counted = omega (arith, p .long); set = λ _. e }

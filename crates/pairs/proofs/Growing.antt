@@ -1,18 +1,17 @@
 -- Pairs put in, one list after another, from nothing.
 use Prim.Native.Nat.{ℕ}
-use mathlib.Core.Path.{_≡_, refl, ap, subst, _∙_}
+use mathlib.Core.Path.{_≡_, refl, subst, _∙_}
 use mathlib.Core.List.{List, _++_}
 use native.Mathlib.Omega.{arith}
 use lib.ListN.{length}
-use Rattle.meaning.specs.Order.{ascending}
 use Rattle.meaning.specs.Evaluator.{insert, insertAll}
 use Rattle.rowset.proofs.Saturation.{in-turn}
+use Rattle.rowset.specs.declared.Gathered.{Gathered}
 use Rattle.kinds.specs.Kinds.{PairsThere}
 use Rattle.pairs.specs.Pairs.{PairRoom, PairsAdded}
-use Rattle.pairs.proofs.Runs.{pairs-none}
 
 -- one list of pairs put in after another
-pub pairs-then : {ages values : List ℕ} {n : ℕ} {ages' values' : List ℕ} {m : ℕ} {ages'' values'' : List ℕ} {k : ℕ} {ys : List (List ℕ)} → PairsAdded ages' values' m ages'' values'' k ys
+pub pairs-then : {ages values : List ℕ} {n : Gathered} {ages' values' : List ℕ} {m : Gathered} {ages'' values'' : List ℕ} {k : Gathered} {ys : List (List ℕ)} → PairsAdded ages' values' m ages'' values'' k ys
     → (xs : List (List ℕ)) → PairsAdded ages values n ages' values' m xs → PairsAdded ages values n ages'' values'' k (xs ++ ys)
 pairs-then {ys = ys} h xs g =
     record {
@@ -23,9 +22,9 @@ pairs-then {ys = ys} h xs g =
     }
 
 -- the pairs put in, written in another way
-pub pairs-as : {ages values : List ℕ} {n : ℕ} {ages' values' : List ℕ} {k : ℕ} {xs ys : List (List ℕ)} → PairsAdded ages values n ages' values' k xs → xs ≡ ys → PairsAdded ages values n ages' values' k ys
+pub pairs-as : {ages values : List ℕ} {n : Gathered} {ages' values' : List ℕ} {k : Gathered} {xs ys : List (List ℕ)} → PairsAdded ages values n ages' values' k xs → xs ≡ ys → PairsAdded ages values n ages' values' k ys
 pairs-as {ages} {values} {n} {ages'} {values'} {k} h e = subst (PairsAdded ages values n ages' values' k) e h
 
 -- no pairs yet
-pub room-from-none : {ages values : List ℕ} → PairsThere ages values (length ages) → PairRoom ages values 0
-room-from-none {ages} {values} h = record { most = omega arith; valuesThere = h .valuesThere; ascends = λ _. ap ascending (pairs-none ages values) }
+pub room-from-none : {ages values : List ℕ} → PairsThere ages values (length ages) → PairRoom ages values (record { count = 0; near = 0 })
+room-from-none h = record { most = omega arith; valuesThere = h .valuesThere; led = λ k l. absurd (omega arith) }

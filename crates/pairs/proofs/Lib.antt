@@ -1,6 +1,5 @@
 -- Facts about pairs in words.
 pub mod Order
-pub mod Places
 pub mod Runs
 pub mod Adding
 pub mod Growing

@@ -1,18 +1,18 @@
 -- Pairs of an age and a row in two parallel runs of words, as a set that may be too large for the words; ages that don't fall, and pairs grown older.
 use Prim.Native.Nat.{ℕ, _+_, _-_, _*_, _≤_, _<_, min}
 use mathlib.Core.Path.{_≡_}
-use mathlib.Core.Bool.{true}
 use mathlib.Core.List.{List, _∷_, map}
 use lib.ListN.{length, getD, drop}
-use Rattle.meaning.specs.Order.{ascending}
 use Rattle.meaning.specs.Evaluator.{insertAll}
-use Rattle.kinds.specs.Kinds.{pairsFrom}
+use Rattle.rowset.specs.Sets.{Led}
+use Rattle.rowset.specs.declared.Gathered.{Gathered}
+use Rattle.kinds.specs.Kinds.{pairAt, pairsFrom}
 
--- n pairs that ascend strictly; or n is one more than the words have room for, and says only that the pairs are too many
-pub record PairRoom (ages values : List ℕ) (n : ℕ) : Type 0 where
-  pub most : n ≤ length ages + 1
+-- a set of pairs at the front of the words; or its count is one more than these have room for, and says only that the pairs are too many. The next pair is looked for near one that those before it lead up to
+pub record PairRoom (ages values : List ℕ) (set : Gathered) : Type 0 where
+  pub most : set .count ≤ length ages + 1
   pub valuesThere : length ages * 4 ≤ length values
-  pub ascends : n ≤ length ages → ascending (pairsFrom ages values 0 n) ≡ true
+  pub led : Led (pairAt ages values) (set .near)
 
 -- the first n pairs are this set, or n says that it is too large for the words
 pub record PairsStand (ages values : List ℕ) (n : ℕ) (pairs : List (List ℕ)) : Type 0 where
@@ -20,11 +20,11 @@ pub record PairsStand (ages values : List ℕ) (n : ℕ) (pairs : List (List ℕ
   pub set : n ≤ length ages → pairsFrom ages values 0 n ≡ pairs
 
 -- the set that stood in the old words stands in the new ones with pairs put in
-pub record PairsAdded (ages values : List ℕ) (n : ℕ) (ages' values' : List ℕ) (n' : ℕ) (pairs : List (List ℕ)) : Type 0 where
+pub record PairsAdded (ages values : List ℕ) (set : Gathered) (ages' values' : List ℕ) (set' : Gathered) (pairs : List (List ℕ)) : Type 0 where
   pub agesLong : length ages' ≡ length ages
   pub valuesLong : length values' ≡ length values
-  pub room : PairRoom ages' values' n'
-  pub put : (set : List (List ℕ)) → PairsStand ages values n set → PairsStand ages' values' n' (insertAll set pairs)
+  pub room : PairRoom ages' values' set'
+  pub put : (whole : List (List ℕ)) → PairsStand ages values (set .count) whole → PairsStand ages' values' (set' .count) (insertAll whole pairs)
 
 -- none of the first n ages is below one before it
 abbrev pub Rising : List ℕ → ℕ → Type 0
@@ -40,9 +40,10 @@ pub record Below (ages : List ℕ) (n by bound m : ℕ) : Type 0 where
 abbrev pub grownPairs : ℕ → ℕ → List (List ℕ) → List (List ℕ)
 grownPairs by most pairs = map (λ p. min (getD p 0 0 + by) most ∷ drop 1 p) pairs
 
--- the first m of the old pairs, grown older, have room behind n pairs and stand after them, and none is more than `most` old
-pub record Behind (oldAges : List ℕ) (m by most : ℕ) (ages : List ℕ) (n : ℕ) : Type 0 where
+-- the first m of the old pairs, grown older, have room behind the pairs of a set and stand after the last of them, which those before it lead up to, and none is more than `most` old
+pub record Behind (oldAges : List ℕ) (m by most : ℕ) (ages : List ℕ) (set : Gathered) : Type 0 where
   pub some : 0 < m
-  pub room : n + m ≤ length ages
+  pub room : set .count + m ≤ length ages
   pub uncut : getD oldAges (m - 1) 0 + by ≤ most
-  pub after : 0 < n → getD ages (n - 1) 0 < getD oldAges 0 0 + by
+  pub last : 0 < set .count → set .near ≡ set .count - 1
+  pub after : 0 < set .count → getD ages (set .count - 1) 0 < getD oldAges 0 0 + by

@@ -1,14 +1,17 @@
 // Pairs of an age and a row as a strictly ascending set: the ages are in one lent slice, the rows, of four words each, in another.
+use meaning::Sought;
+use rowset::Compared;
+use rowset::Gathered;
 use rowset::Row;
 ghost use Prim.Native.Nat.{ℕ, _+_, _-_, _*_, _≤_, _<_, min};
 ghost use mathlib.Core.Path.{_≡_};
-ghost use mathlib.Core.Bool.{true, not, cond, _&&_};
+ghost use mathlib.Core.Bool.{true, cond};
 ghost use mathlib.Core.List.{[], _∷_, _++_, map};
 ghost use lib.ListN.{length, getD};
-ghost use lib.Dec.{ltb, eqb};
 ghost use Rattle.meaning.specs.Order.{before, ascending};
-ghost use Rattle.rowset.specs.Rows.{wordsOf, rowsFrom, placeOf};
-ghost use Rattle.rowset.specs.Sets.{Run};
+ghost use Rattle.meaning.specs.LookUp.{onward, lookUp};
+ghost use Rattle.rowset.specs.Rows.{wordsOf, rowsFrom, compared};
+ghost use Rattle.rowset.specs.Sets.{Run, AllBefore, Led};
 ghost use Rattle.kinds.specs.Kinds.{pairAt, pairsFrom, PairsThere};
 ghost use Rattle.entries.specs.Appended.{WordsPut};
 ghost use Rattle.pairs.specs.Pairs.{PairRoom, PairsAdded, Rising, Below, grownPairs, Behind};
@@ -21,45 +24,78 @@ fn joint(a: u32, v: u32) -> u64
 }
 
 // The order of pairs: the age first, then the row. The age and the row's first word are compared at once, so that pairs that ascend nearly always take the first way.
-pub fn pair_before(a: u32, x: Row, b: u32, y: Row) -> bool
-    ensures { λ t. ⌜ t ≡ before (a ∷ wordsOf x) (b ∷ wordsOf y) ⌝ }
+fn compare(a: u32, x: Row, b: u32, y: Row) -> Compared
+    ensures { λ t. ⌜ t ≡ compared (a ∷ wordsOf x) (b ∷ wordsOf y) ⌝ }
 {
     let p = joint(a, x.v0);
     let q = joint(b, y.v0);
     if p < q {
-        return true;
+        return Compared::Before;
     }
-    if p == q {
-        return rowset::is_before(x, y);
+    if q < p {
+        return Compared::After;
     }
-    false
+    rowset::compare(x, y)
 }
 
-// The number of the n pairs that stand before the pair, looked for from the back.
-fn place(ages: &[u32], values: &[u32], n: usize, age: u32, r: Row) -> usize
-    requires { ⌜ PairsThere (now ages) (now values) n ⌝ }
-    requires { ⌜ ascending (pairsFrom (now ages) (now values) 0 n) ≡ true ⌝ }
-    ensures { λ p. ⌜ p ≡ placeOf (age ∷ wordsOf r) (pairsFrom (now (ages .entry)) (now (values .entry)) 0 n) ⌝ }
+// The first pair stands before the second.
+pub fn pair_before(a: u32, x: Row, b: u32, y: Row) -> bool
+    ensures { λ t. ⌜ t ≡ before (a ∷ wordsOf x) (b ∷ wordsOf y) ⌝ }
 {
-    let mut p = n;
-    while 0 < p {
-        if pair_before(ages[p - 1], rowset::row_at(values, p - 1), age, r) {
-            return p;
+    let told = compare(a, x, b, y);
+    match told {
+        Compared::Before => true,
+        Compared::Same => false,
+        Compared::After => false,
+    }
+}
+
+// Looks for the pair in pairs from..n, from the front, one after another: it stops at the first that isn't before it, which is equal or larger.
+fn seek(ages: &[u32], values: &[u32], from: usize, n: usize, age: u32, r: Row) -> Sought
+    requires { ⌜ PairsThere (now ages) (now values) n × (from ≤ n) ⌝ }
+    ensures { λ s. ⌜ s ≡ onward from (lookUp (age ∷ wordsOf r) (pairsFrom (now (ages .entry)) (now (values .entry)) from (n - from))) ⌝ }
+{
+    let mut i = from;
+    while i < n {
+        let told = compare(ages[i], rowset::row_at(values, i), age, r);
+        match told {
+            Compared::Before => {
+                i += 1;
+            }
+            Compared::Same => {
+                return Sought::There(i);
+            }
+            Compared::After => {
+                return Sought::Absent(i);
+            }
         }
-        p -= 1;
     }
-    p
+    Sought::Absent(i)
 }
 
-// Pair p is one of the first n, and doesn't stand after the pair.
-fn stands(ages: &[u32], values: &[u32], n: usize, p: usize, age: u32, r: Row) -> bool
-    requires { ⌜ PairsThere (now ages) (now values) n ⌝ }
-    ensures { λ t. ⌜ t ≡ (ltb p n && not (before (age ∷ wordsOf r) (pairAt (now (ages .entry)) (now (values .entry)) p))) ⌝ }
+// Where a search for a pair among the first n may begin, if those before pair p all stand before it: as for rows.
+fn start_at(ages: &[u32], values: &[u32], n: usize, p: usize, age: u32, r: Row) -> usize
+    requires { ⌜ PairsThere (now ages) (now values) n × Led (pairAt (now ages) (now values)) p ⌝ }
+    ensures { λ s. ⌜ (s ≤ n) × AllBefore (pairAt (now (ages .entry)) (now (values .entry))) s (age ∷ wordsOf r) ⌝ }
 {
-    if p < n {
-        return !pair_before(age, r, ages[p], rowset::row_at(values, p));
+    if n <= p {
+        return 0;
     }
-    false
+    let told = compare(ages[p], rowset::row_at(values, p), age, r);
+    match told {
+        Compared::Before => p + 1,
+        Compared::Same => p,
+        Compared::After => 0,
+    }
+}
+
+// Looks for the pair among the first n. The answer is that from the front, whatever stands behind pair p.
+fn seek_near(ages: &[u32], values: &[u32], n: usize, p: usize, age: u32, r: Row) -> Sought
+    requires { ⌜ PairsThere (now ages) (now values) n × Led (pairAt (now ages) (now values)) p ⌝ }
+    ensures { λ s. ⌜ s ≡ lookUp (age ∷ wordsOf r) (pairsFrom (now (ages .entry)) (now (values .entry)) 0 n) ⌝ }
+{
+    let start = start_at(ages, values, n, p, age, r);
+    seek(ages, values, start, n, age, r)
 }
 
 // Puts a pair at place p, with the pairs from there to place n moved up by one.
@@ -83,61 +119,50 @@ fn put_in(ages: &mut [u32], values: &mut [u32], n: usize, p: usize, age: u32, r:
     rowset::put_row(values, n, held);
 }
 
-// Puts a pair into n pairs that ascend strictly, unless it is there or they are too many already; the number of pairs then. Where there is no room for it, it is counted alone.
-fn add_pair(ages: &mut [u32], values: &mut [u32], n: usize, age: u32, r: Row) -> usize
-    requires { ⌜ PairRoom (now ages) (now values) n ⌝ }
-    ensures { λ k. ⌜ PairsAdded (now (ages .entry)) (now (values .entry)) n (now (ages .exit)) (now (values .exit)) k ((age ∷ wordsOf r) ∷ []) ⌝ }
+// Puts a pair into a set, unless it is there or the pairs are too many already. Where there is no room for it, it is counted alone.
+pub fn add(ages: &mut [u32], values: &mut [u32], set: Gathered, age: u32, r: Row) -> Gathered
+    requires { ⌜ PairRoom (now ages) (now values) set ⌝ }
+    ensures { λ g. ⌜ PairsAdded (now (ages .entry)) (now (values .entry)) set (now (ages .exit)) (now (values .exit)) g ((age ∷ wordsOf r) ∷ []) ⌝ }
 {
+    let n = set.count;
     if ages.len() < n {
-        return n;
+        return set;
     }
-    let p = place(ages, values, n, age, r);
-    if stands(ages, values, n, p, age, r) {
-        return n;
+    let sought = seek_near(ages, values, n, set.near, age, r);
+    match sought {
+        Sought::There(p) => Gathered { count: n, near: p },
+        Sought::Absent(p) => {
+            if n == ages.len() {
+                return Gathered {
+                    count: n + 1,
+                    near: 0,
+                };
+            }
+            put_in(ages, values, n, p, age, r);
+            Gathered {
+                count: n + 1,
+                near: p,
+            }
+        }
     }
-    if n == ages.len() {
-        return n + 1;
-    }
-    put_in(ages, values, n, p, age, r);
-    n + 1
-}
-
-// There is room for the pair behind n pairs, and it stands after the last of them, if there is one.
-fn is_last(ages: &[u32], values: &[u32], n: usize, age: u32, r: Row) -> bool
-    requires { ⌜ PairRoom (now ages) (now values) n ⌝ }
-    ensures { λ t. ⌜ t ≡ (ltb n (length (now (ages .entry))) && eqb n (placeOf (age ∷ wordsOf r) (pairsFrom (now (ages .entry)) (now (values .entry)) 0 n))) ⌝ }
-{
-    if ages.len() <= n {
-        return false;
-    }
-    if n == 0 {
-        return true;
-    }
-    pair_before(ages[n - 1], rowset::row_at(values, n - 1), age, r)
-}
-
-// Puts a pair into n pairs as `add_pair` does, where it mostly belongs last.
-pub fn add_next(ages: &mut [u32], values: &mut [u32], n: usize, age: u32, r: Row) -> usize
-    requires { ⌜ PairRoom (now ages) (now values) n ⌝ }
-    ensures { λ k. ⌜ PairsAdded (now (ages .entry)) (now (values .entry)) n (now (ages .exit)) (now (values .exit)) k ((age ∷ wordsOf r) ∷ []) ⌝ }
-{
-    if is_last(ages, values, n, age, r) {
-        ages[n] = age;
-        rowset::put_row(values, n, r);
-        return n + 1;
-    }
-    add_pair(ages, values, n, age, r)
 }
 
 // Puts a pair in where the test passed.
-pub fn add_if(ok: bool, ages: &mut [u32], values: &mut [u32], n: usize, age: u32, r: Row) -> usize
-    requires { ⌜ PairRoom (now ages) (now values) n ⌝ }
-    ensures { λ k. ⌜ PairsAdded (now (ages .entry)) (now (values .entry)) n (now (ages .exit)) (now (values .exit)) k (cond ok ((age ∷ wordsOf r) ∷ []) []) ⌝ }
+pub fn add_if(
+    ok: bool,
+    ages: &mut [u32],
+    values: &mut [u32],
+    set: Gathered,
+    age: u32,
+    r: Row,
+) -> Gathered
+    requires { ⌜ PairRoom (now ages) (now values) set ⌝ }
+    ensures { λ g. ⌜ PairsAdded (now (ages .entry)) (now (values .entry)) set (now (ages .exit)) (now (values .exit)) g (cond ok ((age ∷ wordsOf r) ∷ []) []) ⌝ }
 {
     if ok {
-        return add_next(ages, values, n, age, r);
+        return add(ages, values, set, age, r);
     }
-    n
+    set
 }
 
 // Puts in a pair at the age for each of the rows from..to. It is a loop of its own, since nothing is looked up in it.
@@ -148,20 +173,20 @@ pub fn add_young(
     age: u32,
     ages: &mut [u32],
     values: &mut [u32],
-    n: usize,
-) -> usize
+    set: Gathered,
+) -> Gathered
     requires { ⌜ Run (now rows) from to ⌝ }
-    requires { ⌜ PairRoom (now ages) (now values) n ⌝ }
-    ensures { λ k. ⌜ PairsAdded (now (ages .entry)) (now (values .entry)) n (now (ages .exit)) (now (values .exit)) k (map (λ u. age ∷ u) (rowsFrom (now (rows .entry)) from (to - from))) ⌝ }
+    requires { ⌜ PairRoom (now ages) (now values) set ⌝ }
+    ensures { λ g. ⌜ PairsAdded (now (ages .entry)) (now (values .entry)) set (now (ages .exit)) (now (values .exit)) g (map (λ u. age ∷ u) (rowsFrom (now (rows .entry)) from (to - from))) ⌝ }
 {
-    let mut k = n;
+    let mut g = set;
     let mut x = from;
     while x < to {
         let r = rowset::row_at(rows, x);
-        k = add_pair(ages, values, k, age, r);
+        g = add(ages, values, g, age, r);
         x += 1;
     }
-    k
+    g
 }
 
 // How many of the first n ages, grown by so much, are below a bound. The ages don't fall, so these are at the front.
@@ -202,28 +227,29 @@ fn add_each_grown(
     most: u32,
     ages: &mut [u32],
     values: &mut [u32],
-    n: usize,
-) -> usize
+    set: Gathered,
+) -> Gathered
     requires { ⌜ PairsThere (now «old_ages») (now «old_values») m ⌝ }
-    requires { ⌜ PairRoom (now ages) (now values) n ⌝ }
-    ensures { λ k. ⌜ PairsAdded (now (ages .entry)) (now (values .entry)) n (now (ages .exit)) (now (values .exit)) k (grownPairs by most (pairsFrom (now («old_ages» .entry)) (now («old_values» .entry)) 0 m)) ⌝ }
+    requires { ⌜ PairRoom (now ages) (now values) set ⌝ }
+    ensures { λ g. ⌜ PairsAdded (now (ages .entry)) (now (values .entry)) set (now (ages .exit)) (now (values .exit)) g (grownPairs by most (pairsFrom (now («old_ages» .entry)) (now («old_values» .entry)) 0 m)) ⌝ }
 {
-    let mut k = n;
+    let mut g = set;
     let mut x = 0;
     while x < m {
         let r = rowset::row_at(old_values, x);
         let age = at_most(most, old_ages[x] as u64 + by as u64);
-        k = add_next(ages, values, k, age, r);
+        g = add(ages, values, g, age, r);
         x += 1;
     }
-    k
+    g
 }
 
-// The first m pairs of others, grown older, have room behind n pairs and stand after the last of them, and the oldest is at most `most` old.
-fn fits_behind(old_ages: &[u32], m: usize, by: u32, most: u32, ages: &[u32], n: usize) -> bool
-    requires { ⌜ (m ≤ length (now «old_ages»)) × (n ≤ length (now ages) + 1) ⌝ }
-    ensures { λ t. ⌜ (t ≡ true → Behind (now («old_ages» .entry)) m by most (now (ages .entry)) n) ⌝ }
+// The first m pairs of others, grown older, have room behind the pairs of a set and stand after the last of them, which those before it lead up to, and the oldest is at most `most` old.
+fn fits_behind(old_ages: &[u32], m: usize, by: u32, most: u32, ages: &[u32], set: Gathered) -> bool
+    requires { ⌜ (m ≤ length (now «old_ages»)) × (set .count ≤ length (now ages) + 1) ⌝ }
+    ensures { λ t. ⌜ (t ≡ true → Behind (now («old_ages» .entry)) m by most (now (ages .entry)) set) ⌝ }
 {
+    let n = set.count;
     if m == 0 {
         return false;
     }
@@ -235,6 +261,9 @@ fn fits_behind(old_ages: &[u32], m: usize, by: u32, most: u32, ages: &[u32], n: 
     }
     if n == 0 {
         return true;
+    }
+    if set.near != n - 1 {
+        return false;
     }
     (ages[n - 1] as u64) < old_ages[0] as u64 + by as u64
 }
@@ -261,16 +290,20 @@ pub fn add_grown(
     most: u32,
     ages: &mut [u32],
     values: &mut [u32],
-    n: usize,
-) -> usize
+    set: Gathered,
+) -> Gathered
     requires { ⌜ PairsThere (now «old_ages») (now «old_values») m × (ascending (pairsFrom (now «old_ages») (now «old_values») 0 m) ≡ true) ⌝ }
-    requires { ⌜ PairRoom (now ages) (now values) n ⌝ }
-    ensures { λ k. ⌜ PairsAdded (now (ages .entry)) (now (values .entry)) n (now (ages .exit)) (now (values .exit)) k (grownPairs by most (pairsFrom (now («old_ages» .entry)) (now («old_values» .entry)) 0 m)) ⌝ }
+    requires { ⌜ PairRoom (now ages) (now values) set ⌝ }
+    ensures { λ g. ⌜ PairsAdded (now (ages .entry)) (now (values .entry)) set (now (ages .exit)) (now (values .exit)) g (grownPairs by most (pairsFrom (now («old_ages» .entry)) (now («old_values» .entry)) 0 m)) ⌝ }
 {
-    if fits_behind(old_ages, m, by, most, ages, n) {
+    if fits_behind(old_ages, m, by, most, ages, set) {
+        let n = set.count;
         put_grown(old_ages, m, by, ages, n);
         entries::copy_words(old_values, m * 4, values, n * 4);
-        return n + m;
+        return Gathered {
+            count: n + m,
+            near: 0,
+        };
     }
-    add_each_grown(old_ages, old_values, m, by, most, ages, values, n)
+    add_each_grown(old_ages, old_values, m, by, most, ages, values, set)
 }

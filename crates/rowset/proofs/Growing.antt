@@ -1,25 +1,24 @@
 -- Loops that put rows into a set: what was put in and what is still to come make up the whole, from the first turn to the last.
--- Then what the set holds in the end.
-use Prim.Native.Nat.{ℕ, _+_, _-_, _≤_, _<_}
+-- Then what the set holds in the end, whatever the order in which rows were put in.
+use Prim.Native.Nat.{ℕ, _+_, _-_, _*_, _≤_, _<_}
 use mathlib.Core.Path.{_≡_, refl, sym, ap, subst, _∙_}
-use mathlib.Core.Bool.{Bool, true, false, cond, _&&_}
-use mathlib.Core.List.{List, [], _∷_, _++_, map, append-nil, append-assoc}
+use mathlib.Core.Bool.{Bool, true, false, cond}
+use mathlib.Core.Logic.{_⊎_, inl, inr, _↔_}
+use mathlib.Core.List.{List, [], _∷_, _++_, map, append-nil, append-assoc, List·Memᴰ}
 use native.Mathlib.Omega.{arith}
 use lib.ListN.{length}
-use lib.Dec.{ltb, leb}
-use borrow.Author.Tests.{ltb-true, leb-true, leb-false}
-use Rattle.meaning.specs.Lists.{range, select, sameRow}
-use Rattle.meaning.specs.Order.{ascending}
-use Rattle.meaning.specs.Evaluator.{insert, setOf, lookUp}
-use Rattle.meaning.proofs.Points.{Tested, passed, failed, tested, first, second}
-use Rattle.meaning.proofs.LookUp.{look-member}
-use Rattle.rowset.specs.declared.Row.{Row}
-use Rattle.rowset.specs.Rows.{wordsOf, rowAt, rowsFrom, mostHeld, addCapped, addAllCapped}
-use Rattle.rowset.specs.Sets.{SetRoom, Added}
-use Rattle.rowset.proofs.Saturation.{in-turn, whole, crowded}
-use Rattle.rowset.proofs.Ascending.{addAll-ascends}
-use Rattle.rowset.proofs.Places.{insert-found}
-use Rattle.rowset.proofs.Runs.{any-listed, run-first, run-end, rows-none, rows-length, rows-sized}
+use lib.Dec.{leb}
+use borrow.Author.Tests.{leb-true, leb-false}
+use Rattle.meaning.specs.Lists.{range, select}
+use Rattle.meaning.specs.Order.{ascending, OfLength}
+use Rattle.meaning.specs.Evaluator.{insertAll, setOf}
+use Rattle.meaning.proofs.Points.{Tested, passed, failed, tested}
+use Rattle.meaning.proofs.Rows.{ascending-same, insertAll-at, insertAll-keeps, insertAll-puts, insertAll-ascends}
+use Rattle.rowset.specs.declared.Gathered.{Gathered}
+use Rattle.rowset.specs.Rows.{rowsFrom, mostHeld, addCapped, addAllCapped}
+use Rattle.rowset.specs.Sets.{SetRoom, Added, SetMade, fromFront, GatherRoom, Gathers}
+use Rattle.rowset.proofs.Saturation.{in-turn, full-stays, insertAll-longer, exact-from, full-from}
+use Rattle.rowset.proofs.Runs.{run-first, run-end, rows-none, rows-length, rows-of-length}
 
 -- a loop at item i of those up to to: some rows are put in, and with those that the items still to come give they are all.
 -- Put says of rows that they are put in, and gives what rows a list of items gives
@@ -81,61 +80,104 @@ module _ {A : Type 0} {at : ℕ → A} {gives : List A → List (List ℕ)} {to 
 pub added-as : {old : List ℕ} {n : ℕ} {new : List ℕ} {k : ℕ} {rows rows' : List (List ℕ)} → Added old n new k rows → rows ≡ rows' → Added old n new k rows'
 added-as {old} {n} h e = record { most = h .most; long = h .long; set = h .set ∙ ap (addAllCapped (rowsFrom old 0 n)) e }
 
--- a row that looking up finds need not be put in
-module _ (set : List (List ℕ)) (r : List ℕ) where
-  found-stays : lookUp r set ≡ true → set ≡ addCapped set r
-  found-stays e = go (ltb (length set) mostHeld)
+-- a set with rows put in has room still
+pub room-after : {old : List ℕ} {n : ℕ} {new : List ℕ} {k : ℕ} {rows : List (List ℕ)} → SetRoom old n → Added old n new k rows → SetRoom new k
+room-after h g = record { most = g .most; there = omega (arith, h .there, g .long) }
+
+-- a loop that gathers rows in a set, which is now this one
+abbrev pub Gathering : {A : Type 0} → (ℕ → A) → (List A → List (List ℕ)) → ℕ → List ℕ → Gathered → List (List ℕ) → List ℕ → Gathered → ℕ → Type 0
+Gathering at gives to old set all new set' i = Turns at gives to all (Gathers old set new set') i
+
+pub gathered-none : {ws : List ℕ} {set : Gathered} → GatherRoom ws set → Gathers ws set ws set []
+gathered-none h = record { added = added-none (h .room); led = h .led }
+
+-- a set of n rows, in which the first is looked for from the front
+pub gather-from : {ws : List ℕ} {n : ℕ} → SetRoom ws n → GatherRoom ws (fromFront n)
+gather-from h = record { room = h; led = λ k l. absurd (omega arith) }
+
+pub gather-room : {old : List ℕ} {set : Gathered} {new : List ℕ} {set' : Gathered} {rows : List (List ℕ)} → mostHeld * 4 ≤ length old → Gathers old set new set' rows → GatherRoom new set'
+gather-room l g = record { room = record { most = g .added .most; there = omega (arith, g .added .long) }; led = g .led }
+
+module _ {A : Type 0} {at : ℕ → A} {gives : List A → List (List ℕ)} {to : ℕ} {old : List ℕ} {set : Gathered} where
+  pub gathers-from : {i : ℕ} → i ≤ to → GatherRoom old set → Gathering at gives to old set (gives (map at (range i (to - i)))) old set i
+  gathers-from l h = starts l (gathered-none h)
+
+  pub gathers-all : GatherRoom old set → Gathering at gives to old set (gives (map at (range 0 to))) old set 0
+  gathers-all h = starts-all (gathered-none h)
+
+  pub gathers-on : {all : List (List ℕ)} {new : List ℕ} {set' : Gathered} {i : ℕ} → Gathering at gives to old set all new set' i → (one : A → List (List ℕ)) → ((x : A) (xs : List A) → gives (x ∷ xs) ≡ one x ++ gives xs) → i < to
+      → {new' : List ℕ} {set'' : Gathered} {rows : List (List ℕ)} → Gathers new set' new' set'' rows → rows ≡ one (at i) → Gathering at gives to old set all new' set'' (i + 1)
+  gathers-on t one splits l h r = goes-on t one splits l (λ xs g. record { added = added-then (g .added) (h .added); led = h .led }) r
+
+-- rows put into a set: up to 32 rows it is the set of them all, and a count of 33 says that they are more
+module _ {old : List ℕ} {n : ℕ} {new : List ℕ} {k : ℕ} {set rows : List (List ℕ)} (s : SetMade old n set) (h : Added old n new k rows) where
+  counted : length (addAllCapped (rowsFrom old 0 n) rows) ≡ k
+  counted = ap length (sym (h .set)) ∙ rows-length new 0 k
+
+  -- a set that is too large stays so
+  pub stays-full : 32 < n → k ≡ n
+  stays-full l = sym counted ∙ ap length (full-stays (rowsFrom old 0 n) rows (omega (arith, rows-length old 0 n))) ∙ rows-length old 0 n
+
+  few-then : n ≤ 32 → length (insertAll set rows) ≤ 32 → rowsFrom new 0 k ≡ insertAll set rows
+  few-then l m = h .set ∙ ap (λ us. addAllCapped us rows) (s .few l) ∙ exact-from set rows (omega arith)
+
+  many-then : n ≤ 32 → 32 < length (insertAll set rows) → k ≡ 33
+  many-then l m =
+      let e : length set ≡ n = ap length (sym (s .few l)) ∙ rows-length old 0 n in
+      sym counted ∙ ap (λ us. length (addAllCapped us rows)) (s .few l) ∙ full-from set rows (omega arith) (omega arith)
+
+  pub made-more : SetMade new k (insertAll set rows)
+  made-more =
+      record {
+        most = h .most;
+        few = λ l. few (tested (leb n 32)) (tested (leb (length (insertAll set rows)) 32)) l;
+        many = λ l. many (tested (leb n 32)) (tested (leb (length (insertAll set rows)) 32)) l;
+      }
     where
-      go : (t : Bool) → set ≡ cond t (insert r set) set
-      go true = sym (insert-found r set e)
-      go false = refl
+      few : Tested (leb n 32) → Tested (leb (length (insertAll set rows)) 32) → k ≤ 32 → rowsFrom new 0 k ≡ insertAll set rows
+      few (passed d) (passed e) l = few-then (leb-true n 32 d) (leb-true (length (insertAll set rows)) 32 e)
+      few (passed d) (failed e) l = absurd (omega (arith, many-then (leb-true n 32 d) (leb-false (length (insertAll set rows)) 32 e)))
+      few (failed d) e l = absurd (omega (arith, leb-false n 32 d, stays-full (leb-false n 32 d)))
 
-pub add-found : (ws r : List ℕ) (n : ℕ) → n ≤ mostHeld → lookUp r (rowsFrom ws 0 (n - 0)) ≡ true → Added ws n ws n (r ∷ [])
-add-found ws r n m e =
-    let z : n - 0 ≡ n = omega arith in
-    record { most = m; long = refl; set = found-stays (rowsFrom ws 0 n) r (rw z at e) }
+      many : Tested (leb n 32) → Tested (leb (length (insertAll set rows)) 32) → 32 < k → 32 < length (insertAll set rows)
+      many d (failed e) l = leb-false (length (insertAll set rows)) 32 e
+      many (passed d) (passed e) l =
+          let m = leb-true (length (insertAll set rows)) 32 e in
+          absurd (omega (arith, rows-length new 0 k, ap length (few-then (leb-true n 32 d) m)))
+      many (failed d) (passed e) l = absurd (omega (arith, s .many (leb-false n 32 d), insertAll-longer set rows, leb-true (length (insertAll set rows)) 32 e))
 
--- a row that one of the first n is, in a set that ascends, is found there, and nothing is put in
-module _ (ws : List ℕ) (r : Row) (n p : ℕ) (up : ascending (rowsFrom ws 0 n) ≡ true) where
-  is-found : p < n → sameRow (wordsOf r) (rowAt ws p) ≡ true → lookUp (wordsOf r) (rowsFrom ws 0 (n - 0)) ≡ true
-  unfolding rowsFrom
-  is-found l e =
-      let z : 0 + p ≡ p = omega arith in
-      let f : n - 0 ≡ n = omega arith in
-      rw f (look-member (wordsOf r) (rowsFrom ws 0 n) (rows-sized ws 0 n) up ∙ any-listed (sameRow (wordsOf r)) (rowAt ws) 0 n p l (rw z e))
+pub none-made : (ws : List ℕ) → SetMade ws 0 []
+none-made ws = record { most = omega arith; few = λ l. rows-none ws; many = λ l. absurd (omega arith) }
 
-  pub add-at : n ≤ mostHeld → {t : Bool} → t ≡ (ltb p n && sameRow (wordsOf r) (rowAt ws p)) → t ≡ true → Added ws n ws n (wordsOf r ∷ [])
-  add-at m is there =
-      let both : (ltb p n && sameRow (wordsOf r) (rowAt ws p)) ≡ true = sym is ∙ there in
-      add-found ws (wordsOf r) n m (is-found (ltb-true p n (first (ltb p n) (sameRow (wordsOf r) (rowAt ws p)) both)) (second (ltb p n) (sameRow (wordsOf r) (rowAt ws p)) both))
+-- rows put into nothing
+pub set-made : {old new : List ℕ} {k : ℕ} {rows : List (List ℕ)} → Added old 0 new k rows → SetMade new k (setOf rows)
+set-made {old} h = made-more (none-made old) h
 
--- an ascending set still ascends with rows put in
-pub added-ascends : {old : List ℕ} {n : ℕ} {new : List ℕ} {k : ℕ} {rows : List (List ℕ)} → Added old n new k rows → ascending (rowsFrom old 0 n) ≡ true → ascending (rowsFrom new 0 k) ≡ true
-added-ascends {old} {n} {rows = rows} h up = ap ascending (h .set) ∙ addAll-ascends (rowsFrom old 0 n) rows up
+-- the order in which rows are put in makes no difference
+pub insertAll-same : (n : ℕ) (set xs ys : List (List ℕ)) → ascending set ≡ true → OfLength n set → OfLength n xs → ((u : List ℕ) → List·Memᴰ u xs ↔ List·Memᴰ u ys) → insertAll set xs ≡ insertAll set ys
+insertAll-same n set xs ys up long wide same =
+    ascending-same (insertAll set xs) (insertAll set ys) (insertAll-ascends set xs up) (insertAll-ascends set ys up)
+    (λ r. (λ m. one r (insertAll-at set xs m), λ m. other r (insertAll-at set ys m)))
+  where
+    one : (r : List ℕ) → List·Memᴰ r set ⊎ List·Memᴰ r xs → List·Memᴰ r (insertAll set ys)
+    one r (inl m) = insertAll-keeps ys m
+    one r (inr m) = insertAll-puts set long (λ u o. wide u (same u .1 o)) (same r .0 m)
 
--- rows put into an empty set: up to 32 it is the set of them, and a count of 33 says that they are more
-module _ {old new : List ℕ} {k : ℕ} {rows : List (List ℕ)} (h : Added old 0 new k rows) where
-  from-none : rowsFrom new 0 k ≡ addAllCapped [] rows
-  from-none = h .set ∙ ap (λ s. addAllCapped s rows) (rows-none old)
+    other : (r : List ℕ) → List·Memᴰ r set ⊎ List·Memᴰ r ys → List·Memᴰ r (insertAll set xs)
+    other r (inl m) = insertAll-keeps xs m
+    other r (inr m) = insertAll-puts set long wide (same r .1 m)
 
-  counted : length (addAllCapped [] rows) ≡ k
-  counted = ap length (sym from-none) ∙ rows-length new 0 k
-
-  pub set-whole : k ≤ 32 → rowsFrom new 0 k ≡ setOf rows
-  set-whole l = go (tested (leb (length (setOf rows)) 32))
-    where
-      go : Tested (leb (length (setOf rows)) 32) → rowsFrom new 0 k ≡ setOf rows
-      go (passed e) = from-none ∙ whole rows (leb-true (length (setOf rows)) 32 e)
-      go (failed e) = absurd (omega (arith, counted, crowded rows (leb-false (length (setOf rows)) 32 e)))
-
-  pub set-crowded : 32 < k → 32 < length (setOf rows)
-  set-crowded l = go (tested (leb (length (setOf rows)) 32))
-    where
-      go : Tested (leb (length (setOf rows)) 32) → 32 < length (setOf rows)
-      go (passed e) =
-          let m : length (setOf rows) ≤ 32 = leb-true (length (setOf rows)) 32 e in
-          absurd (omega (arith, counted, ap length (whole rows m)))
-      go (failed e) = leb-false (length (setOf rows)) 32 e
+pub made-same : {old : List ℕ} {n : ℕ} {new : List ℕ} {k : ℕ} {set order : List (List ℕ)} (rows : List (List ℕ)) → ascending set ≡ true → OfLength 4 order → ((u : List ℕ) → List·Memᴰ u order ↔ List·Memᴰ u rows) → SetMade old n set → Added old n new k order
+    → SetMade new k (insertAll set rows)
+made-same {old} {n} {new} {k} {set} {order} rows up wide same s h = go (tested (leb n 32))
+  where
+    go : Tested (leb n 32) → SetMade new k (insertAll set rows)
+    go (passed d) =
+        let long : OfLength 4 set = subst (OfLength 4) (s .few (leb-true n 32 d)) (rows-of-length old 0 n) in
+        subst (SetMade new k) (insertAll-same 4 set order rows up long wide same) (made-more s h)
+    go (failed d) =
+        let l = leb-false n 32 d in
+        record { most = h .most; few = λ m. absurd (omega (arith, stays-full s h l)); many = λ m. omega (arith, s .many l, insertAll-longer set rows) }
 
 -- what one item gives where some are chosen
 module _ {A : Type 0} (p : A → Bool) where

@@ -1,36 +1,18 @@
 -- Runs of what an accessor gives: taken from the front, in two parts, after an item was put in place of another, and one pass of an item through the rest.
--- Then runs of rows in words, a row's place in one, and looking it up there.
+-- Then runs of rows in words.
 use Prim.Native.Nat.{ℕ, zero, suc, _+_, _-_, _*_, _≤_, _<_}
 use mathlib.Core.Logic.{_≢_}
 use mathlib.Core.Path.{_≡_, refl, sym, ap, ap₂, _∙_}
-use mathlib.Core.Bool.{Bool, true, false, _||_}
-use mathlib.Core.List.{List, [], _∷_, _++_, map}
+use mathlib.Core.List.{List, [], _∷_, _++_, map, List·Memᴰ·head, List·Memᴰ·tail, List·Memᴰ·not-nil}
 use native.Mathlib.Nat.{zero-add, add-zero}
 use native.Mathlib.Numerals.{add-one}
 use native.Mathlib.Omega.{arith}
 use lib.ListN.{length, getD, set, take, drop, length-set}
 use lib.Seq.{getD-set-same, getD-set-other, take-at, drop-at, append-snoc}
-use Rattle.meaning.specs.Lists.{any, range, sameRow}
-use Rattle.meaning.specs.Order.{before}
-use Rattle.meaning.specs.Evaluator.{lookUp}
-use Rattle.meaning.proofs.LookUp.{sized}
-use Rattle.meaning.proofs.Order.{same-not-after}
+use Rattle.meaning.specs.Lists.{range}
+use Rattle.meaning.specs.Order.{OfLength}
 use Rattle.rowset.specs.declared.Row.{Row}
-use Rattle.rowset.specs.Rows.{wordsOf, rowAt, setRow, rowsFrom, placeOf}
-
--- a test that item k of a run passes
-or-true : (b : Bool) → (b || true) ≡ true
-or-true true = refl
-or-true false = refl
-
-pub any-listed : {A : Type 0} (p : A → Bool) (at : ℕ → A) (a n k : ℕ) → k < n → p (at (a + k)) ≡ true → any p (map at (range a n)) ≡ true
-any-listed p at a zero k l e = absurd (omega arith)
-any-listed p at a (suc n) zero l e =
-    let z : a + 0 ≡ a = omega arith in
-    rw (rw z at e)
-any-listed p at a (suc n) (suc k) l e =
-    let z : suc a + k ≡ a + suc k = omega arith in
-    rw (any-listed p at (suc a) n k (omega arith) (rw z e)) (or-true (p (at a)))
+use Rattle.rowset.specs.Rows.{wordsOf, rowAt, setRow, rowsFrom}
 
 -- a run of what an accessor gives
 module _ {A : Type 0} (at : ℕ → A) where
@@ -63,7 +45,7 @@ module _ {A : Type 0} (at : ℕ → A) where
       rw f at (run-at d (suc a) n k (omega arith))
 
   -- the first n items, at p
-  run-split : (n p : ℕ) → p ≤ n → map at (range 0 n) ≡ map at (range 0 p) ++ map at (range p (n - p))
+  pub run-split : (n p : ℕ) → p ≤ n → map at (range 0 n) ≡ map at (range 0 p) ++ map at (range p (n - p))
   run-split n p l =
       let e : n ≡ p + (n - p) = omega arith in
       let f : 0 + p ≡ p = omega arith in
@@ -122,8 +104,18 @@ module _ {A : Type 0} {at₀ : ℕ → A} {n p : ℕ} {x : A} {at : ℕ → A} {
       let g : map at (range 0 n) ++ held ∷ map at (range n (n - n)) ≡ map at₀ (range 0 p) ++ x ∷ map at₀ (range p (n - p)) = rw f at (t .whole) in
       put-last r ∙ ap (λ us. map at (range 0 n) ++ held ∷ us) (sym (run-end at n n (omega arith))) ∙ g
 
+-- a run of lists of one length
+pub run-of-length : (at : ℕ → List ℕ) (m : ℕ) → ((k : ℕ) → length (at k) ≡ m) → (a n : ℕ) → OfLength m (map at (range a n))
+run-of-length at m long a zero r h = absurd (List·Memᴰ·not-nil h)
+run-of-length at m long a (suc n) r (List·Memᴰ·head e) = ap length e ∙ long a
+run-of-length at m long a (suc n) r (List·Memᴰ·tail h) = run-of-length at m long (suc a) n r h
+
 -- rows in words
 module _ (ws : List ℕ) where
+  pub rows-of-length : (a n : ℕ) → OfLength 4 (rowsFrom ws a n)
+  unfolding rowsFrom
+  rows-of-length a n = run-of-length (rowAt ws) 4 (λ k. refl) a n
+
   rows-first : (to i : ℕ) → i < to → rowsFrom ws i (to - i) ≡ rowAt ws i ∷ rowsFrom ws (i + 1) (to - (i + 1))
   unfolding rowsFrom
   rows-first to i l = run-first (rowAt ws) to i l
@@ -139,11 +131,6 @@ module _ (ws : List ℕ) where
   pub rows-length : (a n : ℕ) → length (rowsFrom ws a n) ≡ n
   unfolding rowsFrom
   rows-length a n = run-length (rowAt ws) a n
-
-  pub rows-sized : (a n : ℕ) → sized 4 (rowsFrom ws a n) ≡ true
-  unfolding rowsFrom
-  rows-sized a zero = refl
-  rows-sized a (suc n) = rows-sized (suc a) n
 
   pub rows-append : (a m n : ℕ) → rowsFrom ws a (m + n) ≡ rowsFrom ws a m ++ rowsFrom ws (a + m) n
   unfolding rowsFrom
@@ -202,28 +189,3 @@ module _ (ws : List ℕ) (k : ℕ) (r : Row) where
 
   pub row-replaced : k * 4 + 4 ≤ length ws → {ws' : List ℕ} → ws' ≡ setRow ws k r → Replaced (rowAt ws) (rowAt ws') k (wordsOf r)
   row-replaced l e = rw e (record { here = put-same l; others = put-other })
-
--- a row's place in a run, from row i on
-module _ (ws r : List ℕ) (to i : ℕ) where
-  pub place-more : i < to → before (rowAt ws i) r ≡ true → placeOf r (rowsFrom ws i (to - i)) ≡ suc (placeOf r (rowsFrom ws (i + 1) (to - (i + 1))))
-  place-more l e = rw (rows-first ws to i l, e)
-
-  pub place-here : i < to → before (rowAt ws i) r ≡ false → placeOf r (rowsFrom ws i (to - i)) ≡ 0
-  place-here l e = rw (rows-first ws to i l, e)
-
-  pub place-end : to ≤ i → placeOf r (rowsFrom ws i (to - i)) ≡ 0
-  place-end l = rw (rows-end ws to i l)
-
--- looking a row up in a run, from row i on
-module _ (ws r : List ℕ) (to i : ℕ) where
-  pub look-here : i < to → sameRow r (rowAt ws i) ≡ true → lookUp r (rowsFrom ws i (to - i)) ≡ true
-  look-here l e = rw (rows-first ws to i l, same-not-after r (rowAt ws i) e, e)
-
-  pub look-stops : i < to → sameRow r (rowAt ws i) ≡ false → before (rowAt ws i) r ≡ false → lookUp r (rowsFrom ws i (to - i)) ≡ false
-  look-stops l e f = rw (rows-first ws to i l, f, e)
-
-  pub look-more : i < to → before (rowAt ws i) r ≡ true → lookUp r (rowsFrom ws i (to - i)) ≡ lookUp r (rowsFrom ws (i + 1) (to - (i + 1)))
-  look-more l e = rw (rows-first ws to i l, e)
-
-  pub look-end : to ≤ i → lookUp r (rowsFrom ws i (to - i)) ≡ false
-  look-end l = rw (rows-end ws to i l)

@@ -8,7 +8,7 @@ use lib.ListN.{length}
 use lib.Dec.{ltb}
 use borrow.Author.Tests.{ltb-true, ltb-false, lt-ltb, le-ltb}
 use Rattle.meaning.specs.Order.{before}
-use Rattle.meaning.specs.Evaluator.{insert, insertAll, setOf}
+use Rattle.meaning.specs.Evaluator.{insert, insertAll}
 use Rattle.meaning.proofs.Points.{Tested, passed, failed, tested}
 use Rattle.rowset.specs.Rows.{mostHeld, addCapped, addAllCapped}
 
@@ -54,14 +54,14 @@ insertAll-longer set (r ∷ rows) =
     let k = insertAll-longer (insert r set) rows in
     omega arith
 
-exact-from : (set rows : List (List ℕ)) → length (insertAll set rows) < mostHeld → addAllCapped set rows ≡ insertAll set rows
+pub exact-from : (set rows : List (List ℕ)) → length (insertAll set rows) < mostHeld → addAllCapped set rows ≡ insertAll set rows
 exact-from set [] l = refl
 exact-from set (r ∷ rows) l =
     let h = insert-longer r set in
     let k = insertAll-longer (insert r set) rows in
     ap (λ s. addAllCapped s rows) (with-room set r (omega arith)) ∙ exact-from (insert r set) rows l
 
-full-from : (set rows : List (List ℕ)) → length set ≤ mostHeld → mostHeld ≤ length (insertAll set rows) → length (addAllCapped set rows) ≡ mostHeld
+pub full-from : (set rows : List (List ℕ)) → length set ≤ mostHeld → mostHeld ≤ length (insertAll set rows) → length (addAllCapped set rows) ≡ mostHeld
 full-from set [] l m = omega arith
 full-from set (r ∷ rows) l m = go (tested (ltb (length set) mostHeld)) (full-from (insert r set) rows)
   where
@@ -76,10 +76,3 @@ full-from set (r ∷ rows) l m = go (tested (ltb (length set) mostHeld)) (full-f
         let q = ltb-false (length set) mostHeld p in
         let e : length set ≡ mostHeld = omega arith in
         ap length (full-stays set (r ∷ rows) q) ∙ e
-
--- the set is whole where it has at most 32 rows, and shows 33 where it has more
-pub whole : (rows : List (List ℕ)) → length (setOf rows) ≤ 32 → addAllCapped [] rows ≡ setOf rows
-whole rows l = exact-from [] rows (omega arith)
-
-pub crowded : (rows : List (List ℕ)) → 32 < length (setOf rows) → length (addAllCapped [] rows) ≡ 33
-crowded rows l = full-from [] rows (omega arith) (omega arith)

@@ -1,14 +1,16 @@
 -- Sets of valuations as they stand in words: rows of four words, put in up to a limit.
-use Prim.Native.Nat.{ℕ, suc, _+_, _*_}
-use mathlib.Core.Bool.{cond}
+use Prim.Native.Nat.{ℕ, _+_, _*_}
+use mathlib.Core.Bool.{Bool, cond}
 use mathlib.Core.List.{List, [], _∷_, map}
 use lib.ListN.{length, getD, set}
 use lib.Dec.{ltb}
 use Rattle.meaning.specs.Outcome.{mostRows}
-use Rattle.meaning.specs.Lists.{range}
+use Rattle.meaning.specs.Lists.{range, sameRow}
 use Rattle.meaning.specs.Order.{before}
 use Rattle.meaning.specs.Evaluator.{insert}
 use Rattle.rowset.specs.declared.Row.{Row}
+use Rattle.rowset.specs.declared.Compared.{Compared}
+use Rattle.rowset.specs.declared.Compared.the-variants.{Before, Same, After}
 
 abbrev pub wordsOf : Row → List ℕ
 wordsOf r = r .v0 ∷ r .v1 ∷ r .v2 ∷ r .v3 ∷ []
@@ -25,10 +27,12 @@ setRow ws k r = set (set (set (set ws (k * 4) (r .v0)) (k * 4 + 1) (r .v1)) (k *
 unfoldable pub rowsFrom : List ℕ → ℕ → ℕ → List (List ℕ)
 rowsFrom ws from count = map (rowAt ws) (range from count)
 
--- how many rows at the front stand before a row
-abbrev pub placeOf : List ℕ → List (List ℕ) → ℕ
-placeOf r [] = 0
-placeOf r (s ∷ rows) = cond (before s r) (suc (placeOf r rows)) 0
+-- how two rows stand to each other, where it is known whether the first is before the second and whether they are the same
+abbrev pub comparedBy : Bool → Bool → Compared
+comparedBy less same = cond less Before (cond same Same After)
+
+abbrev pub compared : List ℕ → List ℕ → Compared
+compared x y = comparedBy (before x y) (sameRow x y)
 
 -- rows at most that a set takes: one more than a node may have, so that too many shows
 abbrev pub mostHeld : ℕ

@@ -1,23 +1,34 @@
--- What functions over sets ask and ensure: a run of rows that is read, a row sought in it, room for a set, and rows put into it.
-use Prim.Native.Nat.{ℕ, _+_, _-_, _*_, _≤_}
+-- What functions over sets ask and ensure: a run of rows that is read, where a search in a set may begin, room for a set, and rows put into it.
+use Prim.Native.Nat.{ℕ, _-_, _*_, _≤_, _<_}
 use mathlib.Core.Path.{_≡_}
-use mathlib.Core.Bool.{true, false}
-use mathlib.Core.List.{List}
+use mathlib.Core.Bool.{true}
+use mathlib.Core.List.{List, map}
 use lib.ListN.{length}
-use Rattle.meaning.specs.Evaluator.{lookUp}
-use Rattle.rowset.specs.declared.Sought.{Sought}
-use Rattle.rowset.specs.declared.Sought.the-variants.{Here, Behind}
-use Rattle.rowset.specs.Rows.{rowsFrom, placeOf, mostHeld, addAllCapped}
+use Rattle.meaning.specs.Outcome.{mostRows}
+use Rattle.meaning.specs.Lists.{range}
+use Rattle.meaning.specs.Order.{before}
+use Rattle.meaning.specs.LookUp.{lookUp}
+use Rattle.rowset.specs.declared.Gathered.{Gathered}
+use Rattle.rowset.specs.Rows.{rowAt, rowsFrom, mostHeld, addAllCapped}
 
 -- rows from..to, without the last, stand in the words
 pub record Run (ws : List ℕ) (from to : ℕ) : Type 0 where
   pub ordered : from ≤ to
   pub there : to * 4 ≤ length ws
 
--- what looking for a row in rows from..to gives: the row's place, as Here where looking up finds the row and as Behind where it doesn't
-abbrev pub Seeks : List ℕ → ℕ → ℕ → List ℕ → Sought → Type 0
-Seeks ws from to r (Here p) = (lookUp r (rowsFrom ws from (to - from)) ≡ true) × (p ≡ from + placeOf r (rowsFrom ws from (to - from)))
-Seeks ws from to r (Behind p) = (lookUp r (rowsFrom ws from (to - from)) ≡ false) × (p ≡ from + placeOf r (rowsFrom ws from (to - from)))
+-- "answered alike whatever follows that larger one, in order or not" (#102), of what stands in words: in any two runs, of rows or of pairs, that agree up to and with item q, which is larger than x
+abbrev pub AnsweredAlike : Type 0
+AnsweredAlike =
+    (at at' : ℕ → List ℕ) (x : List ℕ) (from to to' q : ℕ) → from ≤ q → q < to → q < to' → ((k : ℕ) → from ≤ k → k ≤ q → at k ≡ at' k) → before x (at q) ≡ true
+    → lookUp x (map at (range from (to - from))) ≡ lookUp x (map at' (range from (to' - from)))
+
+-- each of the first n items stands before x
+abbrev pub AllBefore : (ℕ → List ℕ) → ℕ → List ℕ → Type 0
+AllBefore at n x = (k : ℕ) → k < n → before (at k) x ≡ true
+
+-- each item before item p stands before it in order: nothing is said of those behind it
+abbrev pub Led : (ℕ → List ℕ) → ℕ → Type 0
+Led at p = AllBefore at p (at p)
 
 -- a set of n rows at the front of the words, which have room for the most that a set holds
 pub record SetRoom (ws : List ℕ) (n : ℕ) : Type 0 where
@@ -29,3 +40,22 @@ pub record Added (old : List ℕ) (n : ℕ) (new : List ℕ) (n' : ℕ) (rows : 
   pub most : n' ≤ mostHeld
   pub long : length new ≡ length old
   pub set : rowsFrom new 0 n' ≡ addAllCapped (rowsFrom old 0 n) rows
+
+-- k rows at the front of the words are the set; where it has more than 32, only that shows
+pub record SetMade (out : List ℕ) (k : ℕ) (set : List (List ℕ)) : Type 0 where
+  pub most : k ≤ mostHeld
+  pub few : k ≤ mostRows → rowsFrom out 0 k ≡ set
+  pub many : mostRows < k → mostRows < length set
+
+-- a set of n rows in which the first row is looked for from the front
+abbrev pub fromFront : ℕ → Gathered
+fromFront n = record { count = n; near = 0 }
+
+-- room and rows put in, for a set that rows are gathered in: the next is looked for near a row that those before it lead up to
+pub record GatherRoom (ws : List ℕ) (set : Gathered) : Type 0 where
+  pub room : SetRoom ws (set .count)
+  pub led : Led (rowAt ws) (set .near)
+
+pub record Gathers (old : List ℕ) (set : Gathered) (new : List ℕ) (set' : Gathered) (rows : List (List ℕ)) : Type 0 where
+  pub added : Added old (set .count) new (set' .count) rows
+  pub led : Led (rowAt new) (set' .near)

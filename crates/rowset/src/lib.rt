@@ -1,16 +1,16 @@
 // Sets of valuations as rows of four words in lent slices.
 use meaning::MOST_ROWS;
+use meaning::Sought;
 ghost use mathlib.Core.Path.{_≡_};
-ghost use mathlib.Core.Bool.{true, _&&_, not, cond};
+ghost use mathlib.Core.Bool.{cond};
 ghost use mathlib.Core.List.{[], _∷_, _++_};
 ghost use Prim.Native.Nat.{_+_, _-_, _*_, _≤_, _<_};
 ghost use lib.ListN.{length};
-ghost use lib.Dec.{ltb};
-ghost use Rattle.meaning.specs.Lists.{sameRow};
-ghost use Rattle.meaning.specs.Order.{before, ascending};
-ghost use Rattle.meaning.specs.Evaluator.{lookUp};
-ghost use Rattle.rowset.specs.Rows.{wordsOf, rowAt, setRow, rowsFrom, placeOf};
-ghost use Rattle.rowset.specs.Sets.{Run, SetRoom, Seeks, Added};
+ghost use lib.Dec.{ltb, eqb};
+ghost use Rattle.meaning.specs.Order.{before};
+ghost use Rattle.meaning.specs.LookUp.{onward, lookUp, isThere};
+ghost use Rattle.rowset.specs.Rows.{wordsOf, rowAt, setRow, rowsFrom, comparedBy, compared};
+ghost use Rattle.rowset.specs.Sets.{Run, AllBefore, Led, GatherRoom, Gathers};
 
 // Rows at most that a set takes: one more than a node may have, so that too many shows.
 const MOST_HELD: usize = MOST_ROWS as usize + 1;
@@ -47,98 +47,111 @@ pub fn put_row(ws: &mut [u32], k: usize, r: Row)
     ws[k * 4 + 3] = r.v3;
 }
 
+// How a row stands to another in the order of rows.
+pub enum Compared {
+    Before,
+    Same,
+    After,
+}
+
+fn compare_words(a: u32, b: u32) -> Compared
+    ensures { λ t. ⌜ t ≡ comparedBy (ltb a b) (eqb a b) ⌝ }
+{
+    if a < b {
+        return Compared::Before;
+    }
+    if a == b {
+        return Compared::Same;
+    }
+    Compared::After
+}
+
 // The order of rows: by the first word in which they differ.
+pub fn compare(x: Row, y: Row) -> Compared
+    ensures { λ t. ⌜ t ≡ compared (wordsOf x) (wordsOf y) ⌝ }
+{
+    if x.v0 != y.v0 {
+        return compare_words(x.v0, y.v0);
+    }
+    if x.v1 != y.v1 {
+        return compare_words(x.v1, y.v1);
+    }
+    if x.v2 != y.v2 {
+        return compare_words(x.v2, y.v2);
+    }
+    compare_words(x.v3, y.v3)
+}
+
+// The first row stands before the second.
 pub fn is_before(x: Row, y: Row) -> bool
     ensures { λ t. ⌜ t ≡ before (wordsOf x) (wordsOf y) ⌝ }
 {
-    if x.v0 != y.v0 {
-        return x.v0 < y.v0;
+    let told = compare(x, y);
+    match told {
+        Compared::Before => true,
+        Compared::Same => false,
+        Compared::After => false,
     }
-    if x.v1 != y.v1 {
-        return x.v1 < y.v1;
-    }
-    if x.v2 != y.v2 {
-        return x.v2 < y.v2;
-    }
-    x.v3 < y.v3
 }
 
-fn same_row(x: Row, y: Row) -> bool
-    ensures { λ t. ⌜ t ≡ sameRow (wordsOf x) (wordsOf y) ⌝ }
-{
-    if x.v0 != y.v0 {
-        return false;
-    }
-    if x.v1 != y.v1 {
-        return false;
-    }
-    if x.v2 != y.v2 {
-        return false;
-    }
-    x.v3 == y.v3
-}
-
-// The number of the first row of the run that isn't before r, or the run's end.
-pub fn place(ws: &[u32], from: usize, to: usize, r: Row) -> usize
-    requires { ⌜ Run (now ws) from to ⌝ }
-    ensures { λ p. ⌜ p ≡ from + placeOf (wordsOf r) (rowsFrom (now (ws .entry)) from (to - from)) ⌝ }
-{
-    let mut i = from;
-    while i < to {
-        if !is_before(row_at(ws, i), r) {
-            return i;
-        }
-        i += 1;
-    }
-    i
-}
-
-// What looking for a row in a run gives: the number of the row where it is there; else the number of the first row that isn't before it, or the run's end.
-pub enum Sought {
-    Here(usize),
-    Behind(usize),
-}
-
-// Looks for the row in the run from its front: it stops at the first row that isn't before it.
+// Looks for the row in a run, from its front, one row after another: it stops at the first that isn't before it, which is equal or larger.
 fn seek(ws: &[u32], from: usize, to: usize, r: Row) -> Sought
     requires { ⌜ Run (now ws) from to ⌝ }
-    ensures { λ s. ⌜ Seeks (now (ws .entry)) from to (wordsOf r) s ⌝ }
+    ensures { λ s. ⌜ s ≡ onward from (lookUp (wordsOf r) (rowsFrom (now (ws .entry)) from (to - from))) ⌝ }
 {
     let mut i = from;
     while i < to {
-        let u = row_at(ws, i);
-        if same_row(r, u) {
-            return Sought::Here(i);
+        let told = compare(row_at(ws, i), r);
+        match told {
+            Compared::Before => {
+                i += 1;
+            }
+            Compared::Same => {
+                return Sought::There(i);
+            }
+            Compared::After => {
+                return Sought::Absent(i);
+            }
         }
-        if !is_before(u, r) {
-            return Sought::Behind(i);
-        }
-        i += 1;
     }
-    Sought::Behind(i)
+    Sought::Absent(i)
 }
 
 // The row is in the run.
 pub fn contains(ws: &[u32], from: usize, to: usize, r: Row) -> bool
     requires { ⌜ Run (now ws) from to ⌝ }
-    ensures { λ t. ⌜ t ≡ lookUp (wordsOf r) (rowsFrom (now (ws .entry)) from (to - from)) ⌝ }
+    ensures { λ t. ⌜ t ≡ isThere (lookUp (wordsOf r) (rowsFrom (now (ws .entry)) from (to - from))) ⌝ }
 {
     let sought = seek(ws, from, to, r);
     match sought {
-        Sought::Here(_) => true,
-        Sought::Behind(_) => false,
+        Sought::There(_) => true,
+        Sought::Absent(_) => false,
     }
 }
 
-// Row p is one of the first n, and doesn't stand after r.
-fn stands(ws: &[u32], n: usize, p: usize, r: Row) -> bool
-    requires { ⌜ n * 4 ≤ length (now ws) ⌝ }
-    ensures { λ t. ⌜ t ≡ (ltb p n && not (before (wordsOf r) (rowAt (now (ws .entry)) p))) ⌝ }
+// Where a search for r among the first n rows may begin, if those before row p all stand before it: behind row p where that is before r, at it where it is r, else at the front.
+fn start_at(ws: &[u32], n: usize, p: usize, r: Row) -> usize
+    requires { ⌜ (n * 4 ≤ length (now ws)) × Led (rowAt (now ws)) p ⌝ }
+    ensures { λ s. ⌜ (s ≤ n) × AllBefore (rowAt (now (ws .entry))) s (wordsOf r) ⌝ }
 {
-    if p < n {
-        return !is_before(r, row_at(ws, p));
+    if n <= p {
+        return 0;
     }
-    false
+    let told = compare(row_at(ws, p), r);
+    match told {
+        Compared::Before => p + 1,
+        Compared::Same => p,
+        Compared::After => 0,
+    }
+}
+
+// Looks for the row among the first n rows. The answer is that from the front, whatever stands behind row p.
+fn seek_near(ws: &[u32], n: usize, p: usize, r: Row) -> Sought
+    requires { ⌜ (n * 4 ≤ length (now ws)) × Led (rowAt (now ws)) p ⌝ }
+    ensures { λ s. ⌜ s ≡ lookUp (wordsOf r) (rowsFrom (now (ws .entry)) 0 n) ⌝ }
+{
+    let start = start_at(ws, n, p, r);
+    seek(ws, start, n, r)
 }
 
 // Puts r at row p, with the rows from there to row n moved up by one.
@@ -157,130 +170,56 @@ fn put_in(out: &mut [u32], n: usize, p: usize, r: Row)
     put_row(out, n, held);
 }
 
-// Puts a row into a set of n rows, unless it is there or the set is full; the number of rows then.
-pub fn add(out: &mut [u32], n: usize, r: Row) -> usize
-    requires { ⌜ SetRoom (now out) n ⌝ }
-    ensures { λ k. ⌜ Added (now (out .entry)) n (now (out .exit)) k (wordsOf r ∷ []) ⌝ }
-{
-    if n < MOST_HELD {
-        let p = place(out, 0, n, r);
-        if stands(out, n, p, r) {
-            return n;
-        }
-        put_in(out, n, p, r);
-        return n + 1;
-    }
-    n
-}
-
-// Puts a row into a set where the test passed.
-pub fn add_if(ok: bool, out: &mut [u32], n: usize, r: Row) -> usize
-    requires { ⌜ SetRoom (now out) n ⌝ }
-    ensures { λ k. ⌜ Added (now (out .entry)) n (now (out .exit)) k (cond ok (wordsOf r ∷ []) []) ⌝ }
-{
-    if ok {
-        return add(out, n, r);
-    }
-    n
-}
-
-// A set that rows are gathered in: how many it has, and where the next row is looked for first.
+// A set that rows are gathered in: how many it has, and a row near which the next is looked for: those before it stand before it in order too.
 pub struct Gathered {
     pub count: usize,
     pub near: usize,
 }
 
-// Row p is one of the first n, and is r.
-fn is_at(ws: &[u32], n: usize, p: usize, r: Row) -> bool
-    requires { ⌜ n * 4 ≤ length (now ws) ⌝ }
-    ensures { λ t. ⌜ t ≡ (ltb p n && sameRow (wordsOf r) (rowAt (now (ws .entry)) p)) ⌝ }
+// Puts a row into a set, unless it is there or the set is full.
+pub fn add(out: &mut [u32], set: Gathered, r: Row) -> Gathered
+    requires { ⌜ GatherRoom (now out) set ⌝ }
+    ensures { λ g. ⌜ Gathers (now (out .entry)) set (now (out .exit)) g (wordsOf r ∷ []) ⌝ }
 {
-    if p < n {
-        return same_row(r, row_at(ws, p));
+    let n = set.count;
+    if MOST_HELD <= n {
+        return set;
     }
-    false
-}
-
-// The row before row p of n, or the last where p is the first.
-fn before_in_turn(p: usize, n: usize) -> usize {
-    if 0 < p {
-        return p - 1;
-    }
-    if 0 < n {
-        return n - 1;
-    }
-    0
-}
-
-// Puts a row into an ascending set of n rows as `add` does, where it is mostly there already. One search tells that it is, or else its place.
-fn add_sought(out: &mut [u32], n: usize, r: Row) -> Gathered
-    requires { ⌜ SetRoom (now out) n × (ascending (rowsFrom (now out) 0 n) ≡ true) ⌝ }
-    ensures { λ g. ⌜ Added (now (out .entry)) n (now (out .exit)) (g .count) (wordsOf r ∷ []) ⌝ }
-{
-    let sought = seek(out, 0, n, r);
+    let sought = seek_near(out, n, set.near, r);
     match sought {
-        Sought::Here(p) => Gathered {
-            count: n,
-            near: before_in_turn(p, n),
-        },
-        Sought::Behind(p) => {
-            if n < MOST_HELD {
-                put_in(out, n, p, r);
-                return Gathered {
-                    count: n + 1,
-                    near: 0,
-                };
+        Sought::There(p) => Gathered { count: n, near: p },
+        Sought::Absent(p) => {
+            put_in(out, n, p, r);
+            Gathered {
+                count: n + 1,
+                near: p,
             }
-            Gathered { count: n, near: 0 }
         }
     }
 }
 
-// Puts a row into an ascending set of n rows as `add` does. It is looked for first at the row `near`: rows that come round in turn, youngest first, stand one before the other.
-fn add_near(out: &mut [u32], n: usize, near: usize, r: Row) -> Gathered
-    requires { ⌜ SetRoom (now out) n × (ascending (rowsFrom (now out) 0 n) ≡ true) ⌝ }
-    ensures { λ g. ⌜ Added (now (out .entry)) n (now (out .exit)) (g .count) (wordsOf r ∷ []) ⌝ }
-{
-    if is_at(out, n, near, r) {
-        return Gathered {
-            count: n,
-            near: before_in_turn(near, n),
-        };
-    }
-    add_sought(out, n, r)
-}
-
-// The same where the test passed.
-pub fn add_near_if(ok: bool, out: &mut [u32], n: usize, near: usize, r: Row) -> Gathered
-    requires { ⌜ SetRoom (now out) n × (ascending (rowsFrom (now out) 0 n) ≡ true) ⌝ }
-    ensures { λ g. ⌜ Added (now (out .entry)) n (now (out .exit)) (g .count) (cond ok (wordsOf r ∷ []) []) ⌝ }
+// Puts a row into a set where the test passed.
+pub fn add_if(ok: bool, out: &mut [u32], set: Gathered, r: Row) -> Gathered
+    requires { ⌜ GatherRoom (now out) set ⌝ }
+    ensures { λ g. ⌜ Gathers (now (out .entry)) set (now (out .exit)) g (cond ok (wordsOf r ∷ []) []) ⌝ }
 {
     if ok {
-        return add_near(out, n, near, r);
+        return add(out, set, r);
     }
-    Gathered { count: n, near }
+    set
 }
 
-// Puts the rows from..to into an ascending set of n rows, each looked for as `add_near` does; nothing is called for a row that stands near.
-pub fn add_rows(rows: &[u32], from: usize, to: usize, out: &mut [u32], n: usize) -> usize
+// Puts the rows from..to into a set.
+pub fn add_rows(rows: &[u32], from: usize, to: usize, out: &mut [u32], set: Gathered) -> Gathered
     requires { ⌜ Run (now rows) from to ⌝ }
-    requires { ⌜ SetRoom (now out) n × (ascending (rowsFrom (now out) 0 n) ≡ true) ⌝ }
-    ensures { λ k. ⌜ Added (now (out .entry)) n (now (out .exit)) k (rowsFrom (now (rows .entry)) from (to - from)) ⌝ }
+    requires { ⌜ GatherRoom (now out) set ⌝ }
+    ensures { λ g. ⌜ Gathers (now (out .entry)) set (now (out .exit)) g (rowsFrom (now (rows .entry)) from (to - from)) ⌝ }
 {
-    let mut k = n;
-    let mut near = 0;
+    let mut g = set;
     let mut i = from;
     while i < to {
-        let r = row_at(rows, i);
-        if is_at(out, k, near, r) {
-            near = before_in_turn(near, k);
-            i += 1;
-            continue;
-        }
-        let sought = add_sought(out, k, r);
-        k = sought.count;
-        near = sought.near;
+        g = add(out, g, row_at(rows, i));
         i += 1;
     }
-    k
+    g
 }

@@ -1,7 +1,7 @@
 -- What a node gives at a point over the words of its children's sets, kind by kind; that any Inputs that say what stands there gives the same; and what the count of rows says of it.
 use Prim.Native.Nat.{ℕ, _≤_, _<_, min}
 use native.Mathlib.Omega.{arith}
-use mathlib.Core.Path.{_≡_, refl, sym, ap, ap₂, fun-ext, _∙_}
+use mathlib.Core.Path.{_≡_, refl, sym, ap, ap₂, subst, fun-ext, _∙_}
 use mathlib.Core.Bool.{true, false, not, cond, _&&_}
 use mathlib.Core.List.{List, [], _++_, map, cons≢nil}
 use lib.Dec.{ltb, eqb}
@@ -11,7 +11,8 @@ use Rattle.meaning.specs.Log.{relationIn, elapsed, pointBefore, pointAfter}
 use Rattle.meaning.specs.Event.{rowCount, rowOf}
 use Rattle.meaning.specs.Formula.{atom, termsOf, inWindow, compares}
 use Rattle.meaning.specs.Definition2.{value}
-use Rattle.meaning.specs.Evaluator.{cutTo, valuationOf, setOf, atomRows, andRows, untilRows, lookUp}
+use Rattle.meaning.specs.Evaluator.{cutTo, valuationOf, setOf, atomRows, andRows, untilRows}
+use Rattle.meaning.specs.LookUp.{lookUp, isThere}
 use Rattle.meaning.specs.View.{viewOf, childrenIn, passes}
 use Rattle.meaning.specs.RuleFile.{childrenOf}
 use Rattle.meaning.specs.declared.Point.{Point}
@@ -28,23 +29,15 @@ use Rattle.meaning.proofs.Points.{Tested, passed, failed, tested}
 use Rattle.method.specs.Stored.{stampIn}
 use Rattle.method.specs.Settle.{Inputs, found, rowsSince, pairsSince, candidates, settle, leftOf, rightOf, hasPairs}
 use Rattle.method.proofs.Views.{Branches, none, single, double, viewed}
-use Rattle.rowset.specs.Sets.{SetRoom, Added}
-use Rattle.rowset.proofs.Growing.{added-as, set-whole, set-crowded}
+use Rattle.rowset.specs.Sets.{SetMade}
 use Rattle.kinds.specs.Kinds.{inMask, pairsFrom}
 use Rattle.room.specs.declared.Child.{Child}
 use Rattle.untils.specs.Until.{leftTest, Stand}
 use Rattle.untils.proofs.Spans.{stand-part}
 use Rattle.since.specs.Since.{heldIn, rowsIn, pairsIn, PairsPut}
 use Rattle.settling.specs.Children.{childSet}
-use Rattle.settling.specs.Inputs.{ChildInputs, ChildrenInputs, InputsStand, ChildThere, ChildrenThere, asked, rightIn, SetMade, PointSettled, PairsSettled}
+use Rattle.settling.specs.Inputs.{ChildInputs, ChildrenInputs, InputsStand, ChildThere, ChildrenThere, asked, rightIn, PointSettled, PairsSettled}
 use Rattle.settling.proofs.Agreeing.{Alike, cut-same, and-same, rows-same, pairs-same, until-same}
-
-pub added-none : {old : List ℕ} {n : ℕ} → SetRoom old n → Added old n old n []
-added-none h = record { most = h .most; long = refl; set = refl }
-
--- rows put into an empty set are the set of them, as far as it goes
-pub set-made : {old out : List ℕ} {k : ℕ} {rows : List (List ℕ)} → Added old 0 out k rows → SetMade out k (setOf rows)
-set-made h = record { most = h .most; few = set-whole h; many = set-crowded h }
 
 -- nothing put in
 none-put : {ages values : List ℕ} → PairsPut ages values ages values 0 []
@@ -59,8 +52,8 @@ module _ {v : Inputs} {rows at : List ℕ} {y : ℕ} {c : Child} (s : ChildInput
   seen-set : (j : Point) → c .low .0 ≤ j .0 → j .0 < c .count → childSet rows at c j ≡ v .rows y j
   seen-set j l o = sym (s .sets j l o)
 
-  seen-found : (j : Point) → c .low .0 ≤ j .0 → j .0 < c .count → (u : List ℕ) → lookUp (cutTo (inMask (c .mask)) (valuationOf u)) (childSet rows at c j) ≡ found v y u j
-  seen-found j l o u = ap₂ lookUp (cut-same (inMask (c .mask)) (v .free y) seen-free (valuationOf u)) (seen-set j l o)
+  seen-found : (j : Point) → c .low .0 ≤ j .0 → j .0 < c .count → (u : List ℕ) → isThere (lookUp (cutTo (inMask (c .mask)) (valuationOf u)) (childSet rows at c j)) ≡ found v y u j
+  seen-found j l o u = ap₂ (λ r set. isThere (lookUp r set)) (cut-same (inMask (c .mask)) (v .free y) seen-free (valuationOf u)) (seen-set j l o)
 
 module _ (b w rows at times : List ℕ) (base : Point) (oldAges oldValues : List ℕ) (left right : Child) (start i : Point) where
   abbrev sinceIn : Left → Child → Window → List (List ℕ)
@@ -73,7 +66,7 @@ module _ (b w rows at times : List ℕ) (base : Point) (oldAges oldValues : List
   abbrev pub given : Node → List (List ℕ)
   given (Atom r t) = atomRows (termsOf t) (relationIn r (map (rowOf b w) (range 0 (rowCount w))))
   given (And x y) = andRows (inMask (left .mask)) (inMask (right .mask)) (childSet rows at left i) (childSet rows at right i)
-  given (AndNot x y) = select (λ u. not (lookUp (cutTo (inMask (right .mask)) (valuationOf u)) (childSet rows at right i))) (childSet rows at left i)
+  given (AndNot x y) = select (λ u. not (isThere (lookUp (cutTo (inMask (right .mask)) (valuationOf u)) (childSet rows at right i)))) (childSet rows at left i)
   given (Keep x c s) = select (λ u. compares c (value (valuationOf u) (s .first)) (value (valuationOf u) (s .second))) (childSet rows at left i)
   given (Or x y) = childSet rows at left i ++ childSet rows at right i
   given (Exists x z) = map (λ u. cutTo (λ y. not (eqb y z)) (valuationOf u)) (childSet rows at left i)
@@ -156,11 +149,11 @@ module _ (b w rows at times : List ℕ) (base : Point) (oldAges oldValues : List
         let e : min (left .count) (left .count) ≡ left .count = omega arith in
         rw (s .stamps, s .children .counted) (rw e at (until-rows Always t (d .children) (d .children) (s .children) (s .children)))
 
-  -- the node's valuations, where what its kind gives was put into an empty set
-  pub point-settled : {node kind : Node} {old out : List ℕ} {k : ℕ} → node ≡ kind → asked b w rows at oldAges oldValues left right start i kind → Added old 0 out k (given kind)
+  -- the node's valuations, where the set of what its kind gives was made
+  pub point-settled : {node kind : Node} {out : List ℕ} {k : ℕ} → node ≡ kind → asked b w rows at oldAges oldValues left right start i kind → SetMade out k (setOf (given kind))
       → PointSettled b w rows at times base oldAges oldValues left right start i node out k
   unfolding settle
-  point-settled {kind = kind} e d h = rw e (record { gives = λ v s. set-made (added-as h (given-same v kind d s)) })
+  point-settled {kind = kind} {out = out} {k = k} e d h = rw e (record { gives = λ v s. subst (λ us. SetMade out k (setOf us)) (given-same v kind d s) h })
 
   -- the sets of left and right of a since, and what Inputs say of them
   module _ (node : Node) (past : viewOf node .times ≡ Past) where

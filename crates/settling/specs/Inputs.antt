@@ -5,7 +5,6 @@ use mathlib.Core.Bool.{true}
 use mathlib.Core.List.{List, [], _∷_, map}
 use lib.ListN.{length}
 use Rattle.meaning.specs.Lists.{range}
-use Rattle.meaning.specs.Outcome.{mostRows}
 use Rattle.meaning.specs.Log.{relationIn, point, pointBefore}
 use Rattle.meaning.specs.Order.{ascending}
 use Rattle.meaning.specs.Event.{rowCount, rowOf}
@@ -22,7 +21,7 @@ use Rattle.meaning.specs.declared.Times.the-variants.{Here, Before, After, Past
 use Rattle.method.specs.Stored.{stampIn}
 use Rattle.method.specs.Counts.{ConsultsBy}
 use Rattle.method.specs.Settle.{Inputs, settle, pairsAfter}
-use Rattle.rowset.specs.Rows.{rowsFrom, mostHeld}
+use Rattle.rowset.specs.Sets.{SetMade}
 use Rattle.kinds.specs.Kinds.{inMask, EventThere, PairsThere}
 use Rattle.room.specs.Room.{setAt}
 use Rattle.room.specs.declared.Child.{Child}
@@ -80,12 +79,6 @@ abbrev pub rightIn : Children → Child → Child → Child
 rightIn None left right = right
 rightIn (One x) left right = left
 rightIn (Two x y) left right = right
-
--- k rows at the front of the words are the set; where it has more than 32, only that shows
-pub record SetMade (out : List ℕ) (k : ℕ) (set : List (List ℕ)) : Type 0 where
-  pub most : k ≤ mostHeld
-  pub few : k ≤ mostRows → rowsFrom out 0 k ≡ set
-  pub many : mostRows < k → mostRows < length set
 
 -- the node's valuations at point i, for any Inputs that say what stands in the words
 pub record PointSettled (b w rows at times : List ℕ) (base : Point) (oldAges oldValues : List ℕ) (left right : Child) (start i : Point) (node : Node) (out : List ℕ) (k : ℕ) : Type 0 where

@@ -18,7 +18,8 @@ ghost use Rattle.meaning.specs.Lists.{select};
 ghost use Rattle.meaning.specs.Log.{point, elapsed, pointBefore, pointAfter};
 ghost use Rattle.meaning.specs.Formula.{inWindow, compares};
 ghost use Rattle.meaning.specs.Definition2.{value};
-ghost use Rattle.meaning.specs.Evaluator.{cutTo, valuationOf, andRows, untilRows, lookUp};
+ghost use Rattle.meaning.specs.Evaluator.{cutTo, valuationOf, andRows, untilRows};
+ghost use Rattle.meaning.specs.LookUp.{lookUp, isThere};
 ghost use Rattle.method.specs.Stored.{stampIn};
 ghost use Rattle.rowset.specs.Sets.{SetRoom, Added};
 ghost use Rattle.kinds.specs.Kinds.{inMask, PairsThere};
@@ -65,7 +66,7 @@ fn and_not_at(a: Child, b: Child, rows: &[u32], at: &[u32], i: Point, out: &mut 
     requires { ⌜ SetStands (now rows) (now at) a i ⌝ }
     requires { ⌜ SetStands (now rows) (now at) b i ⌝ }
     requires { ⌜ SetRoom (now out) 0 ⌝ }
-    ensures { λ k. ⌜ Added (now (out .entry)) 0 (now (out .exit)) k (select (λ u. not (lookUp (cutTo (inMask (b .mask)) (valuationOf u)) (childSet (now (rows .entry)) (now (at .entry)) b i))) (childSet (now (rows .entry)) (now (at .entry)) a i)) ⌝ }
+    ensures { λ k. ⌜ Added (now (out .entry)) 0 (now (out .exit)) k (select (λ u. not (isThere (lookUp (cutTo (inMask (b .mask)) (valuationOf u)) (childSet (now (rows .entry)) (now (at .entry)) b i)))) (childSet (now (rows .entry)) (now (at .entry)) a i)) ⌝ }
 {
     let p = untils::set_part(at, a.first, a.low, i);
     let q = untils::set_part(at, b.first, b.low, i);

@@ -17,8 +17,9 @@ use Rattle.meaning.specs.declared.Window.{Window}
 use Rattle.meaning.proofs.Points.{Tested, passed, failed, tested}
 use Rattle.method.proofs.Lists.{select-map, map-map, select-run}
 use Rattle.rowset.specs.Rows.{rowAt, rowsFrom}
-use Rattle.rowset.specs.Sets.{Added}
-use Rattle.rowset.proofs.Growing.{Turns, goes-on, Through, turned, map-select-one}
+use Rattle.rowset.specs.declared.Gathered.{Gathered}
+use Rattle.rowset.specs.Sets.{Gathers}
+use Rattle.rowset.proofs.Growing.{Turns, goes-on, Gathering, gathers-on, map-select-one}
 use Rattle.kinds.specs.Kinds.{inMask, pairAt, pairsFrom}
 use Rattle.meaning.specs.declared.Left.{Left}
 use Rattle.meaning.specs.declared.Left.the-variants.{Always}
@@ -53,15 +54,15 @@ module _ (by : ℕ) (passed : List ℕ → Bool) where
   boundPairs below most held = map (λ p. min (getD p 0 0 + by) most ∷ drop 1 p) (select (pairStays below) held)
 
   module _ (ages values : List ℕ) {old : ℕ} {all : List (List ℕ)} {x : ℕ} where
-    pub row-turned : (from below : ℕ) {out₀ : List ℕ} {n : ℕ} {out : List ℕ} {k : ℕ} → Through (pairAt ages values) (boundRows from below) old out₀ n all out k x → x < old
-        → {out' : List ℕ} {k' : ℕ} {t : Bool} {u : List ℕ} → Added out k out' k' (cond t (u ∷ []) []) → t ≡ ((leb from (getD ages x 0 + by) && ltb (getD ages x 0 + by) below) && passed u) → u ≡ rowAt values x
-        → Through (pairAt ages values) (boundRows from below) old out₀ n all out' k' (x + 1)
+    pub row-turned : (from below : ℕ) {out₀ : List ℕ} {n : Gathered} {out : List ℕ} {k : Gathered} → Gathering (pairAt ages values) (boundRows from below) old out₀ n all out k x → x < old
+        → {out' : List ℕ} {k' : Gathered} {t : Bool} {u : List ℕ} → Gathers out k out' k' (cond t (u ∷ []) []) → t ≡ ((leb from (getD ages x 0 + by) && ltb (getD ages x 0 + by) below) && passed u) → u ≡ rowAt values x
+        → Gathering (pairAt ages values) (boundRows from below) old out₀ n all out' k' (x + 1)
     row-turned from below t l {u = u} h e is =
-        turned t (λ p. cond (rowStays from below p) (drop 1 p ∷ []) []) (map-select-one (rowStays from below) (drop 1)) l h
+        gathers-on t (λ p. cond (rowStays from below p) (drop 1 p ∷ []) []) (map-select-one (rowStays from below) (drop 1)) l h
         (ap (λ b. cond b (u ∷ []) []) e ∙ ap (λ v. cond (rowStays from below (getD ages x 0 ∷ v)) (v ∷ []) []) is)
 
-    pub pair-turned : (below most : ℕ) {ages₀ values₀ : List ℕ} {n : ℕ} {ages' values' : List ℕ} {k : ℕ} → Turns (pairAt ages values) (boundPairs below most) old all (PairsAdded ages₀ values₀ n ages' values' k) x → x < old
-        → {ages'' values'' : List ℕ} {k' : ℕ} {t : Bool} {u : List ℕ} → PairsAdded ages' values' k ages'' values'' k' (cond t ((min (getD ages x 0 + by) most ∷ u) ∷ []) []) → t ≡ (ltb (getD ages x 0 + by) below && passed u) → u ≡ rowAt values x
+    pub pair-turned : (below most : ℕ) {ages₀ values₀ : List ℕ} {n : Gathered} {ages' values' : List ℕ} {k : Gathered} → Turns (pairAt ages values) (boundPairs below most) old all (PairsAdded ages₀ values₀ n ages' values' k) x → x < old
+        → {ages'' values'' : List ℕ} {k' : Gathered} {t : Bool} {u : List ℕ} → PairsAdded ages' values' k ages'' values'' k' (cond t ((min (getD ages x 0 + by) most ∷ u) ∷ []) []) → t ≡ (ltb (getD ages x 0 + by) below && passed u) → u ≡ rowAt values x
         → Turns (pairAt ages values) (boundPairs below most) old all (PairsAdded ages₀ values₀ n ages'' values'' k') (x + 1)
     pair-turned below most t l {u = u} h e is =
         let grown : List ℕ → List ℕ = λ p. min (getD p 0 0 + by) most ∷ drop 1 p in

@@ -3,3 +3,4 @@ pub mod Ages
 pub mod Held
 pub mod Fresh
 pub mod Whole
+pub mod FromBack

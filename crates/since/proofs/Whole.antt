@@ -13,6 +13,8 @@ use Rattle.meaning.specs.declared.Window.{Window}
 use Rattle.method.specs.Settle.{rowsSince, pairsSince}
 use Rattle.meaning.specs.declared.Left.{Left}
 use Rattle.untils.specs.Until.{leftTest, leads}
+use Rattle.rowset.specs.declared.Gathered.{Gathered}
+use Rattle.rowset.specs.Sets.{fromFront}
 use Rattle.pairs.specs.Pairs.{PairsStand, PairsAdded}
 use Rattle.pairs.proofs.Runs.{pairs-none}
 use Rattle.since.specs.Since.{PairsPut}
@@ -32,7 +34,7 @@ module _ (left : Left) (mask : ℕ) (sets right : Point → List (List ℕ)) (τ
         ap (λ us. freshPairs τ w (leftTest left mask sets) right start i ++ us)
         (ap₂ (λ b p. olderPairs w b p held) e (f ∙ ap (λ end. leads left mask sets start (point end)) (add-one (i .0))))
 
-pub put-all : {ages values ages' values' : List ℕ} {k : ℕ} {xs : List (List ℕ)} → PairsAdded ages values 0 ages' values' k xs → PairsPut ages values ages' values' k (setOf xs)
-put-all {ages} {values} {ages'} {values'} {k} {xs} g =
-    let s : PairsStand ages' values' k (setOf xs) = g .put [] (record { counted = omega arith; set = λ _. pairs-none ages values }) in
-    record { agesLong = g .agesLong; valuesLong = g .valuesLong; counted = omega (arith, s .counted, g .agesLong); set = λ l. s .set (omega (arith, g .agesLong)) }
+pub put-all : {ages values ages' values' : List ℕ} {g : Gathered} {xs : List (List ℕ)} → PairsAdded ages values (fromFront 0) ages' values' g xs → PairsPut ages values ages' values' (g .count) (setOf xs)
+put-all {ages} {values} {ages'} {values'} {g} {xs} h =
+    let s : PairsStand ages' values' (g .count) (setOf xs) = h .put [] (record { counted = omega arith; set = λ _. pairs-none ages values }) in
+    record { agesLong = h .agesLong; valuesLong = h .valuesLong; counted = omega (arith, s .counted, h .agesLong); set = λ l. s .set (omega (arith, h .agesLong)) }

@@ -3,8 +3,9 @@ use meaning::Left;
 use meaning::Point;
 use meaning::Window;
 use room::Child;
+use rowset::Gathered;
 use rowset::Row;
-ghost use Prim.Native.Nat.{_+_, _-_, _<_, min};
+ghost use Prim.Native.Nat.{_+_, _-_, _≤_, _<_, min};
 ghost use mathlib.Core.Path.{_≡_};
 ghost use mathlib.Core.Bool.{true, cond, _&&_};
 ghost use mathlib.Core.List.{[], _∷_, map};
@@ -17,13 +18,13 @@ ghost use Rattle.meaning.specs.Evaluator.{setOf};
 ghost use Rattle.meaning.specs.Kept.{belowEnd, countedAge};
 ghost use Rattle.method.specs.Stored.{stampIn};
 ghost use Rattle.rowset.specs.Rows.{wordsOf, rowsFrom};
-ghost use Rattle.rowset.specs.Sets.{Run, SetRoom, Added};
+ghost use Rattle.rowset.specs.Sets.{Run, SetRoom, Added, SetMade, fromFront};
 ghost use Rattle.kinds.specs.Kinds.{PairsThere};
 ghost use Rattle.room.specs.Room.{setAt};
 ghost use Rattle.untils.specs.Until.{leftTest, leads, Stand};
 ghost use Rattle.pairs.specs.Pairs.{PairRoom, PairsAdded};
 ghost use Rattle.since.specs.Parts.{freshRows, freshPairs, grownBy, olderRows, olderPairs, belowOf, mostOf};
-ghost use Rattle.since.specs.Since.{heldIn, rowsIn, pairsIn, PairsPut};
+ghost use Rattle.since.specs.Since.{heldIn, rowsIn, pairsIn, AgeRun, RowsPut, PairsPut};
 
 // A window's bounds: an age is in it from `from` on and below `below`, and counts as at most `most`.
 struct Bounds {
@@ -90,15 +91,15 @@ fn put_lasting(
     requires { ⌜ SetRoom (now out) n ⌝ }
     ensures { λ k. ⌜ Added (now (out .entry)) n (now (out .exit)) k (select (leads left (a .mask) (setAt (now (rows .entry)) (now (at .entry)) (a .first) (a .low)) after end) (rowsFrom (now (rows .entry)) from (to - from))) ⌝ }
 {
-    let mut k = n;
+    let mut set = Gathered { count: n, near: 0 };
     let mut x = from;
     while x < to {
         let u = rowset::row_at(rows, x);
         let ok = untils::leads(left, a.mask, u, rows, at, a.first, a.low, after, end);
-        k = rowset::add_if(ok, out, k, u);
+        set = rowset::add_if(ok, out, set, u);
         x += 1;
     }
-    k
+    set.count
 }
 
 // Puts in right's rows at point j for which left passes at every point after j and before end, where the test passed.
@@ -161,6 +162,45 @@ fn put_fresh(
     k
 }
 
+// Of the pairs from..to, the first of those at the end that have one age.
+fn age_start(ages: &[u32], from: usize, to: usize) -> usize
+    requires { ⌜ (from < to) × (to ≤ length (now ages)) ⌝ }
+    ensures { λ f. ⌜ AgeRun (now (ages .entry)) from to f ⌝ }
+{
+    let age = ages[to - 1];
+    let mut x = to - 1;
+    while from < x {
+        if ages[x - 1] != age {
+            return x;
+        }
+        x -= 1;
+    }
+    x
+}
+
+// Puts in the rows of pairs from..to, the oldest pairs first, those of one age in order: blocks that are read in turn then come in order, and so do those that are read at once, and each is looked for near the last.
+fn put_run(
+    old_ages: &[u32],
+    old_values: &[u32],
+    from: usize,
+    to: usize,
+    out: &mut [u32],
+    n: usize,
+) -> usize
+    requires { ⌜ Run (now «old_values») from to × (to ≤ length (now «old_ages»)) ⌝ }
+    requires { ⌜ SetRoom (now out) n ⌝ }
+    ensures { λ k. ⌜ RowsPut (now (out .entry)) n (now (out .exit)) k (rowsFrom (now («old_values» .entry)) from (to - from)) ⌝ }
+{
+    let mut set = Gathered { count: n, near: 0 };
+    let mut x = to;
+    while from < x {
+        let first = age_start(old_ages, from, x);
+        set = rowset::add_rows(old_values, first, x, out, set);
+        x = first;
+    }
+    set.count
+}
+
 // Puts in the rows of the held pairs whose ages are in the window, with what they have grown by: as ages don't fall, these pairs are a run.
 fn put_aged(
     w: Window,
@@ -171,13 +211,13 @@ fn put_aged(
     n: usize,
 ) -> usize
     requires { ⌜ PairsThere (now «old_ages») (now «old_values») (length (now «old_ages»)) × (ascending (heldIn (now «old_ages») (now «old_values»)) ≡ true) ⌝ }
-    requires { ⌜ SetRoom (now out) n × (ascending (rowsFrom (now out) 0 n) ≡ true) ⌝ }
-    ensures { λ k. ⌜ Added (now (out .entry)) n (now (out .exit)) k (olderRows w by (λ _. true) (heldIn (now («old_ages» .entry)) (now («old_values» .entry)))) ⌝ }
+    requires { ⌜ SetRoom (now out) n ⌝ }
+    ensures { λ k. ⌜ RowsPut (now (out .entry)) n (now (out .exit)) k (olderRows w by (λ _. true) (heldIn (now («old_ages» .entry)) (now («old_values» .entry)))) ⌝ }
 {
     let bounds = bounds_of(w);
     let to = pairs::count_below(old_ages, old_ages.len(), by, bounds.below);
     let from = pairs::count_below(old_ages, to, by, bounds.from);
-    rowset::add_rows(old_values, from, to, out, n)
+    put_run(old_ages, old_values, from, to, out, n)
 }
 
 // The age is in the window, and left passes for the row at every point from `from` on before end.
@@ -219,25 +259,22 @@ fn put_older(
     requires { ⌜ i .0 + 1 < 4294967296 ⌝ }
     requires { ⌜ Stand (now rows) (now at) (a .first) (a .low) start (i .0 + 1) ⌝ }
     requires { ⌜ PairsThere (now «old_ages») (now «old_values») (length (now «old_ages»)) ⌝ }
-    requires { ⌜ SetRoom (now out) n × (ascending (rowsFrom (now out) 0 n) ≡ true) ⌝ }
-    ensures { λ k. ⌜ Added (now (out .entry)) n (now (out .exit)) k (olderRows w by (leads left (a .mask) (setAt (now (rows .entry)) (now (at .entry)) (a .first) (a .low)) start (point (i .0 + 1))) (heldIn (now («old_ages» .entry)) (now («old_values» .entry)))) ⌝ }
+    requires { ⌜ SetRoom (now out) n ⌝ }
+    ensures { λ k. ⌜ RowsPut (now (out .entry)) n (now (out .exit)) k (olderRows w by (leads left (a .mask) (setAt (now (rows .entry)) (now (at .entry)) (a .first) (a .low)) start (point (i .0 + 1))) (heldIn (now («old_ages» .entry)) (now («old_values» .entry)))) ⌝ }
 {
     let bounds = bounds_of(w);
     let end = Point(i.0 + 1);
     let old = old_ages.len();
-    let mut k = n;
-    let mut near = 0;
+    let mut set = Gathered { count: n, near: 0 };
     let mut x = 0;
     while x < old {
         let r = rowset::row_at(old_values, x);
         let age = old_ages[x] as u64 + by as u64;
         let ok = stays(bounds, age, left, a, r, rows, at, start, end);
-        let gathered = rowset::add_near_if(ok, out, k, near, r);
-        k = gathered.count;
-        near = gathered.near;
+        set = rowset::add_if(ok, out, set, r);
         x += 1;
     }
-    k
+    set.count
 }
 
 // The rows at point i, put into an empty set. Left is a and right is b; where nothing is asked of left, right may be given for left. The first newly settled point is start; the pairs held before it are as many as the old ages.
@@ -261,7 +298,7 @@ pub fn rows_at(
     requires { ⌜ Stand (now rows) (now at) (b .first) (b .low) start (i .0 + 1) ⌝ }
     requires { ⌜ PairsThere (now «old_ages») (now «old_values») (length (now «old_ages»)) × (ascending (heldIn (now «old_ages») (now «old_values»)) ≡ true) ⌝ }
     requires { ⌜ SetRoom (now out) 0 ⌝ }
-    ensures { λ k. ⌜ Added (now (out .entry)) 0 (now (out .exit)) k (rowsIn left (now (rows .entry)) (now (at .entry)) (now (times .entry)) base w a b (heldIn (now («old_ages» .entry)) (now («old_values» .entry))) start i) ⌝ }
+    ensures { λ k. ⌜ SetMade (now (out .exit)) k (setOf (rowsIn left (now (rows .entry)) (now (at .entry)) (now (times .entry)) base w a b (heldIn (now («old_ages» .entry)) (now («old_values» .entry))) start i)) ⌝ }
 {
     let by = grown_by(times, base, start, i);
     let n = put_fresh(left, a, b, rows, at, times, base, w, start, i, out);
@@ -297,22 +334,22 @@ fn add_lasting(
     age: u32,
     ages: &mut [u32],
     values: &mut [u32],
-    n: usize,
-) -> usize
+    set: Gathered,
+) -> Gathered
     requires { ⌜ Stand (now rows) (now at) (a .first) (a .low) after (end .0) ⌝ }
     requires { ⌜ Run (now rows) from to ⌝ }
-    requires { ⌜ PairRoom (now ages) (now values) n ⌝ }
-    ensures { λ k. ⌜ PairsAdded (now (ages .entry)) (now (values .entry)) n (now (ages .exit)) (now (values .exit)) k (map (λ u. age ∷ u) (select (leads left (a .mask) (setAt (now (rows .entry)) (now (at .entry)) (a .first) (a .low)) after end) (rowsFrom (now (rows .entry)) from (to - from)))) ⌝ }
+    requires { ⌜ PairRoom (now ages) (now values) set ⌝ }
+    ensures { λ g. ⌜ PairsAdded (now (ages .entry)) (now (values .entry)) set (now (ages .exit)) (now (values .exit)) g (map (λ u. age ∷ u) (select (leads left (a .mask) (setAt (now (rows .entry)) (now (at .entry)) (a .first) (a .low)) after end) (rowsFrom (now (rows .entry)) from (to - from)))) ⌝ }
 {
-    let mut k = n;
+    let mut g = set;
     let mut x = from;
     while x < to {
         let r = rowset::row_at(rows, x);
         let ok = untils::leads(left, a.mask, r, rows, at, a.first, a.low, after, end);
-        k = pairs::add_if(ok, ages, values, k, age, r);
+        g = pairs::add_if(ok, ages, values, g, age, r);
         x += 1;
     }
-    k
+    g
 }
 
 // Puts in right's rows at point j, at the age, for which left passes at every point after j and before end.
@@ -327,19 +364,19 @@ fn add_point(
     age: u32,
     ages: &mut [u32],
     values: &mut [u32],
-    n: usize,
-) -> usize
+    set: Gathered,
+) -> Gathered
     requires { ⌜ Stand (now rows) (now at) (a .first) (a .low) (point (j .0 + 1)) (end .0) ⌝ }
     requires { ⌜ Stand (now rows) (now at) (b .first) (b .low) j (j .0 + 1) ⌝ }
-    requires { ⌜ PairRoom (now ages) (now values) n ⌝ }
-    ensures { λ k. ⌜ PairsAdded (now (ages .entry)) (now (values .entry)) n (now (ages .exit)) (now (values .exit)) k (map (λ u. age ∷ u) (select (leads left (a .mask) (setAt (now (rows .entry)) (now (at .entry)) (a .first) (a .low)) (point (j .0 + 1)) end) (setAt (now (rows .entry)) (now (at .entry)) (b .first) (b .low) j))) ⌝ }
+    requires { ⌜ PairRoom (now ages) (now values) set ⌝ }
+    ensures { λ g. ⌜ PairsAdded (now (ages .entry)) (now (values .entry)) set (now (ages .exit)) (now (values .exit)) g (map (λ u. age ∷ u) (select (leads left (a .mask) (setAt (now (rows .entry)) (now (at .entry)) (a .first) (a .low)) (point (j .0 + 1)) end) (setAt (now (rows .entry)) (now (at .entry)) (b .first) (b .low) j))) ⌝ }
 {
-    let set = untils::set_part(at, b.first, b.low, j);
-    let from = set.from;
-    let to = set.to;
+    let part = untils::set_part(at, b.first, b.low, j);
+    let from = part.from;
+    let to = part.to;
     let after = Point(j.0 + 1);
     match left {
-        Left::Always => pairs::add_young(rows, from, to, age, ages, values, n),
+        Left::Always => pairs::add_young(rows, from, to, age, ages, values, set),
         _ => add_lasting(
             left,
             a,
@@ -352,7 +389,7 @@ fn add_point(
             age,
             ages,
             values,
-            n,
+            set,
         ),
     }
 }
@@ -370,19 +407,19 @@ fn add_point_below(
     end: Point,
     ages: &mut [u32],
     values: &mut [u32],
-    n: usize,
-) -> usize
+    set: Gathered,
+) -> Gathered
     requires { ⌜ Stand (now rows) (now at) (a .first) (a .low) (point (j .0 + 1)) (end .0) ⌝ }
     requires { ⌜ Stand (now rows) (now at) (b .first) (b .low) j (j .0 + 1) ⌝ }
-    requires { ⌜ PairRoom (now ages) (now values) n ⌝ }
-    ensures { λ k. ⌜ PairsAdded (now (ages .entry)) (now (values .entry)) n (now (ages .exit)) (now (values .exit)) k (cond (belowEnd w age) (map (λ u. countedAge w age ∷ u) (select (leads left (a .mask) (setAt (now (rows .entry)) (now (at .entry)) (a .first) (a .low)) (point (j .0 + 1)) end) (setAt (now (rows .entry)) (now (at .entry)) (b .first) (b .low) j))) []) ⌝ }
+    requires { ⌜ PairRoom (now ages) (now values) set ⌝ }
+    ensures { λ g. ⌜ PairsAdded (now (ages .entry)) (now (values .entry)) set (now (ages .exit)) (now (values .exit)) g (cond (belowEnd w age) (map (λ u. countedAge w age ∷ u) (select (leads left (a .mask) (setAt (now (rows .entry)) (now (at .entry)) (a .first) (a .low)) (point (j .0 + 1)) end) (setAt (now (rows .entry)) (now (at .entry)) (b .first) (b .low) j))) []) ⌝ }
 {
     let bounds = bounds_of(w);
     if (age as u64) < bounds.below {
         let counted = pairs::at_most(bounds.most, age as u64);
-        return add_point(left, a, b, rows, at, j, end, counted, ages, values, n);
+        return add_point(left, a, b, rows, at, j, end, counted, ages, values, set);
     }
-    n
+    set
 }
 
 // The pairs at point i that right's rows from point start on give, put into none, the last point first.
@@ -399,25 +436,25 @@ fn add_fresh(
     i: Point,
     ages: &mut [u32],
     values: &mut [u32],
-) -> usize
+) -> Gathered
     requires { ⌜ i .0 + 1 < 4294967296 ⌝ }
     requires { ⌜ Stand (now rows) (now at) (a .first) (a .low) start (i .0 + 1) ⌝ }
     requires { ⌜ Stand (now rows) (now at) (b .first) (b .low) start (i .0 + 1) ⌝ }
-    requires { ⌜ PairRoom (now ages) (now values) 0 ⌝ }
-    ensures { λ k. ⌜ PairsAdded (now (ages .entry)) (now (values .entry)) 0 (now (ages .exit)) (now (values .exit)) k (freshPairs (stampIn base (now (times .entry))) w (leftTest left (a .mask) (setAt (now (rows .entry)) (now (at .entry)) (a .first) (a .low))) (setAt (now (rows .entry)) (now (at .entry)) (b .first) (b .low)) start i) ⌝ }
+    requires { ⌜ PairRoom (now ages) (now values) (fromFront 0) ⌝ }
+    ensures { λ g. ⌜ PairsAdded (now (ages .entry)) (now (values .entry)) (fromFront 0) (now (ages .exit)) (now (values .exit)) g (freshPairs (stampIn base (now (times .entry))) w (leftTest left (a .mask) (setAt (now (rows .entry)) (now (at .entry)) (a .first) (a .low))) (setAt (now (rows .entry)) (now (at .entry)) (b .first) (b .low)) start i) ⌝ }
 {
     let here = progress::time_in(times, base, i);
     let end = Point(i.0 + 1);
     let count = i.0 + 1 - start.0;
-    let mut k = 0;
+    let mut g = Gathered { count: 0, near: 0 };
     let mut x = 0;
     while x < count {
         let j = Point(i.0 - x);
         let age = untils::elapsed(progress::time_in(times, base, j), here);
-        k = add_point_below(w, age, left, a, b, rows, at, j, end, ages, values, k);
+        g = add_point_below(w, age, left, a, b, rows, at, j, end, ages, values, g);
         x += 1;
     }
-    k
+    g
 }
 
 // Puts a held pair in at the age that it has now, where it is before the window's end.
@@ -427,15 +464,15 @@ fn add_aged(
     r: Row,
     ages: &mut [u32],
     values: &mut [u32],
-    n: usize,
-) -> usize
-    requires { ⌜ PairRoom (now ages) (now values) n ⌝ }
-    ensures { λ k. ⌜ PairsAdded (now (ages .entry)) (now (values .entry)) n (now (ages .exit)) (now (values .exit)) k (cond (ltb age (bounds .below)) ((min age (bounds .most) ∷ wordsOf r) ∷ []) []) ⌝ }
+    set: Gathered,
+) -> Gathered
+    requires { ⌜ PairRoom (now ages) (now values) set ⌝ }
+    ensures { λ g. ⌜ PairsAdded (now (ages .entry)) (now (values .entry)) set (now (ages .exit)) (now (values .exit)) g (cond (ltb age (bounds .below)) ((min age (bounds .most) ∷ wordsOf r) ∷ []) []) ⌝ }
 {
     if age < bounds.below {
-        return pairs::add_next(ages, values, n, pairs::at_most(bounds.most, age), r);
+        return pairs::add(ages, values, set, pairs::at_most(bounds.most, age), r);
     }
-    n
+    set
 }
 
 // Puts the held pairs in, each grown older, where nothing is asked of left: as ages don't fall, those before the window's end are the first.
@@ -446,15 +483,15 @@ fn add_all_aged(
     old_values: &[u32],
     ages: &mut [u32],
     values: &mut [u32],
-    n: usize,
-) -> usize
+    set: Gathered,
+) -> Gathered
     requires { ⌜ PairsThere (now «old_ages») (now «old_values») (length (now «old_ages»)) × (ascending (heldIn (now «old_ages») (now «old_values»)) ≡ true) ⌝ }
-    requires { ⌜ PairRoom (now ages) (now values) n ⌝ }
-    ensures { λ k. ⌜ PairsAdded (now (ages .entry)) (now (values .entry)) n (now (ages .exit)) (now (values .exit)) k (olderPairs w by (λ _. true) (heldIn (now («old_ages» .entry)) (now («old_values» .entry)))) ⌝ }
+    requires { ⌜ PairRoom (now ages) (now values) set ⌝ }
+    ensures { λ g. ⌜ PairsAdded (now (ages .entry)) (now (values .entry)) set (now (ages .exit)) (now (values .exit)) g (olderPairs w by (λ _. true) (heldIn (now («old_ages» .entry)) (now («old_values» .entry)))) ⌝ }
 {
     let bounds = bounds_of(w);
     let m = pairs::count_below(old_ages, old_ages.len(), by, bounds.below);
-    pairs::add_grown(old_ages, old_values, m, by, bounds.most, ages, values, n)
+    pairs::add_grown(old_ages, old_values, m, by, bounds.most, ages, values, set)
 }
 
 // Puts a held pair in as `add_aged` does, where left passes too for its row at every point from `from` on before end.
@@ -470,16 +507,16 @@ fn add_older(
     end: Point,
     ages: &mut [u32],
     values: &mut [u32],
-    n: usize,
-) -> usize
+    set: Gathered,
+) -> Gathered
     requires { ⌜ Stand (now rows) (now at) (a .first) (a .low) from (end .0) ⌝ }
-    requires { ⌜ PairRoom (now ages) (now values) n ⌝ }
-    ensures { λ k. ⌜ PairsAdded (now (ages .entry)) (now (values .entry)) n (now (ages .exit)) (now (values .exit)) k (cond (ltb age (bounds .below) && leads left (a .mask) (setAt (now (rows .entry)) (now (at .entry)) (a .first) (a .low)) from end (wordsOf r)) ((min age (bounds .most) ∷ wordsOf r) ∷ []) []) ⌝ }
+    requires { ⌜ PairRoom (now ages) (now values) set ⌝ }
+    ensures { λ g. ⌜ PairsAdded (now (ages .entry)) (now (values .entry)) set (now (ages .exit)) (now (values .exit)) g (cond (ltb age (bounds .below) && leads left (a .mask) (setAt (now (rows .entry)) (now (at .entry)) (a .first) (a .low)) from end (wordsOf r)) ((min age (bounds .most) ∷ wordsOf r) ∷ []) []) ⌝ }
 {
     if untils::leads(left, a.mask, r, rows, at, a.first, a.low, from, end) {
-        return add_aged(bounds, age, r, ages, values, n);
+        return add_aged(bounds, age, r, ages, values, set);
     }
-    n
+    set
 }
 
 // Puts the held pairs in, each grown older, where left passes at every point from start up to i.
@@ -496,23 +533,23 @@ fn add_all_older(
     old_values: &[u32],
     ages: &mut [u32],
     values: &mut [u32],
-    n: usize,
-) -> usize
+    set: Gathered,
+) -> Gathered
     requires { ⌜ i .0 + 1 < 4294967296 ⌝ }
     requires { ⌜ Stand (now rows) (now at) (a .first) (a .low) start (i .0 + 1) ⌝ }
     requires { ⌜ PairsThere (now «old_ages») (now «old_values») (length (now «old_ages»)) ⌝ }
-    requires { ⌜ PairRoom (now ages) (now values) n ⌝ }
-    ensures { λ k. ⌜ PairsAdded (now (ages .entry)) (now (values .entry)) n (now (ages .exit)) (now (values .exit)) k (olderPairs w by (leads left (a .mask) (setAt (now (rows .entry)) (now (at .entry)) (a .first) (a .low)) start (point (i .0 + 1))) (heldIn (now («old_ages» .entry)) (now («old_values» .entry)))) ⌝ }
+    requires { ⌜ PairRoom (now ages) (now values) set ⌝ }
+    ensures { λ g. ⌜ PairsAdded (now (ages .entry)) (now (values .entry)) set (now (ages .exit)) (now (values .exit)) g (olderPairs w by (leads left (a .mask) (setAt (now (rows .entry)) (now (at .entry)) (a .first) (a .low)) start (point (i .0 + 1))) (heldIn (now («old_ages» .entry)) (now («old_values» .entry)))) ⌝ }
 {
     let bounds = bounds_of(w);
     let end = Point(i.0 + 1);
     let old = old_ages.len();
-    let mut k = n;
+    let mut g = set;
     let mut x = 0;
     while x < old {
         let r = rowset::row_at(old_values, x);
         let age = old_ages[x] as u64 + by as u64;
-        k = add_older(
+        g = add_older(
             bounds,
             age,
             left,
@@ -524,11 +561,11 @@ fn add_all_older(
             end,
             ages,
             values,
-            k,
+            g,
         );
         x += 1;
     }
-    k
+    g
 }
 
 // The pairs at point i, put to the front of ages and values, as many as the ages have room for; one more than that where there are more.
@@ -556,9 +593,9 @@ pub fn pairs_at(
     ensures { λ k. ⌜ PairsPut (now (ages .entry)) (now (values .entry)) (now (ages .exit)) (now (values .exit)) k (setOf (pairsIn left (now (rows .entry)) (now (at .entry)) (now (times .entry)) base w a b (heldIn (now («old_ages» .entry)) (now («old_values» .entry))) start i)) ⌝ }
 {
     let by = grown_by(times, base, start, i);
-    let n = add_fresh(left, a, b, rows, at, times, base, w, start, i, ages, values);
-    match left {
-        Left::Always => add_all_aged(w, by, old_ages, old_values, ages, values, n),
+    let set = add_fresh(left, a, b, rows, at, times, base, w, start, i, ages, values);
+    let all = match left {
+        Left::Always => add_all_aged(w, by, old_ages, old_values, ages, values, set),
         _ => add_all_older(
             left,
             a,
@@ -572,7 +609,8 @@ pub fn pairs_at(
             old_values,
             ages,
             values,
-            n,
+            set,
         ),
-    }
+    };
+    all.count
 }

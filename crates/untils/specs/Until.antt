@@ -6,7 +6,8 @@ use mathlib.Core.List.{List}
 use Rattle.meaning.specs.Lists.{all}
 use Rattle.meaning.specs.Log.{point, elapsed, pointsFrom}
 use Rattle.meaning.specs.Formula.{inWindow}
-use Rattle.meaning.specs.Evaluator.{cutTo, valuationOf, lookUp}
+use Rattle.meaning.specs.Evaluator.{cutTo, valuationOf}
+use Rattle.meaning.specs.LookUp.{lookUp, isThere}
 use Rattle.meaning.specs.declared.Point.{Point}
 use Rattle.meaning.specs.declared.Stamp.{Stamp}
 use Rattle.meaning.specs.declared.Window.{Window}
@@ -28,7 +29,7 @@ pub record DueRun (p : Point → Bool) (j : Point) (m : ℕ) (want : Bool) (r : 
 
 -- left passes at point k for a row that is cut down already
 abbrev pub passesAt : Left → (Point → List (List ℕ)) → List ℕ → Point → Bool
-passesAt l sets r k = passes l (lookUp r (sets k))
+passesAt l sets r k = passes l (isThere (lookUp r (sets k)))
 
 -- left's test of row u at a point, over left's sets; the mask has left's variables
 abbrev pub leftTest : Left → ℕ → (Point → List (List ℕ)) → List ℕ → Point → Bool

@@ -3,6 +3,7 @@ use meaning::Left;
 use meaning::Point;
 use meaning::Stamp;
 use meaning::Window;
+use rowset::Gathered;
 use rowset::Row;
 ghost use mathlib.Core.Path.{_≡_};
 ghost use mathlib.Core.Bool.{true, false, cond};
@@ -13,7 +14,8 @@ ghost use lib.Dec.{eqb};
 ghost use Rattle.meaning.specs.Lists.{all, select};
 ghost use Rattle.meaning.specs.Log.{elapsed, pointsFrom};
 ghost use Rattle.meaning.specs.Formula.{inWindow};
-ghost use Rattle.meaning.specs.Evaluator.{leading, untilRows, lookUp};
+ghost use Rattle.meaning.specs.Evaluator.{leading, untilRows};
+ghost use Rattle.meaning.specs.LookUp.{lookUp, isThere};
 ghost use Rattle.meaning.specs.View.{passes};
 ghost use Rattle.method.specs.Stored.{stampIn};
 ghost use Rattle.rowset.specs.Rows.{wordsOf, rowsFrom};
@@ -80,7 +82,7 @@ pub fn passes(left: Left, found: bool) -> bool
 // The row is in a node's set at point k.
 pub fn found_at(rows: &[u32], at: &[u32], first: usize, low: Point, k: Point, r: Row) -> bool
     requires { ⌜ Stand (now rows) (now at) first low k (k .0 + 1) ⌝ }
-    ensures { λ t. ⌜ t ≡ lookUp (wordsOf r) (setAt (now (rows .entry)) (now (at .entry)) first low k) ⌝ }
+    ensures { λ t. ⌜ t ≡ isThere (lookUp (wordsOf r) (setAt (now (rows .entry)) (now (at .entry)) first low k)) ⌝ }
 {
     let set = set_part(at, first, low, k);
     rowset::contains(rows, set.from, set.to, r)
@@ -153,15 +155,15 @@ pub fn put_leading(
     requires { ⌜ SetRoom (now out) n ⌝ }
     ensures { λ k. ⌜ Added (now (out .entry)) n (now (out .exit)) k (select (leads left mask (setAt (now (rows .entry)) (now (at .entry)) fa la) i j) (rowsFrom (now (rows .entry)) from (to - from))) ⌝ }
 {
-    let mut k = n;
+    let mut set = Gathered { count: n, near: 0 };
     let mut x = from;
     while x < to {
         let u = rowset::row_at(rows, x);
         let ok = leads(left, mask, u, rows, at, fa, la, i, j);
-        k = rowset::add_if(ok, out, k, u);
+        set = rowset::add_if(ok, out, set, u);
         x += 1;
     }
-    k
+    set.count
 }
 
 // Puts in what right's set at point j gives, where the test passed.

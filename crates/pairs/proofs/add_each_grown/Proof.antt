@@ -14,11 +14,11 @@ use Rattle.pairs.proofs.add_each_grown.Statement.{statement}
 use Rattle.pairs.proofs.add_each_grown.Tie as tie
 
 abbrev Inv-loop : tie.InvT-loop
-Inv-loop old-ages old-values m by most ages₀ values₀ n k₀ x₀ ages values k x =
-    Turns (pairAt old-ages old-values) (grownPairs by most) m (grownPairs by most (pairsFrom old-ages old-values 0 m)) (PairsAdded ages₀ values₀ n ages values k) x
+Inv-loop old-ages old-values m by most ages₀ values₀ g₀ x₀ ages values g x =
+    Turns (pairAt old-ages old-values) (grownPairs by most) m (grownPairs by most (pairsFrom old-ages old-values 0 m)) (PairsAdded ages₀ values₀ g₀ ages values g) x
 
 abbrev μ-loop : tie.MeasureT-loop
-μ-loop old-ages old-values m by most ages₀ values₀ n k₀ x₀ ages values k x = m - x
+μ-loop old-ages old-values m by most ages₀ values₀ g₀ x₀ ages values g x = m - x
 
 loop-holds : tie.Need-loop-holds Inv-loop μ-loop
 unfolding pairsFrom
@@ -27,7 +27,7 @@ loop-holds c = starts-all (add-none (c .before .before .before .before .pre .1))
 loop-again : tie.Need-loop-again Inv-loop μ-loop
 loop-again c =
     let a = c .before .before .before .before .before .before .before .before .before .before .before .before .before .before .before .before .args in
-    goes-on (c .before .before .before .before .before .before .before .before .before .before .before .loop .inv) (λ p. (min (getD p 0 0 + a .by) (a .most) ∷ drop 1 p) ∷ []) (λ p ps. refl) (c .before .before .before .before .before .before .before .before .before .before .loop-test .taken) (pairs-then (c .before .before .before .before .add-next .ensures))
+    goes-on (c .before .before .before .before .before .before .before .before .before .before .before .loop .inv) (λ p. (min (getD p 0 0 + a .by) (a .most) ∷ drop 1 p) ∷ []) (λ p ps. refl) (c .before .before .before .before .before .before .before .before .before .before .loop-test .taken) (pairs-then (c .before .before .before .before .add .ensures))
     (ap₂ (λ age u. (age ∷ u) ∷ []) (c .before .before .before .before .before .before .before .at-most .ensures) (c .before .before .before .before .before .before .before .before .before .row-at .ensures))
 
 returns : tie.Need-returns Inv-loop μ-loop

@@ -6,7 +6,7 @@ use Rattle.pairs.proofs.add_if.Statement.{statement}
 use Rattle.pairs.proofs.add_if.Tie as tie
 
 returns : tie.Need-returns
-returns c = rw (c .before .before .before .before .before .before .before .if1 .taken) (c .before .before .before .before .add-next .ensures)
+returns c = rw (c .before .before .before .before .before .before .before .if1 .taken) (c .before .before .before .before .add .ensures)
 
 returns-2 : tie.Need-returns-2
 returns-2 c = rw (c .if1 .left) (add-none (c .before .before .before .pre))

@@ -13,11 +13,11 @@ use Rattle.pairs.proofs.add_young.Statement.{statement}
 use Rattle.pairs.proofs.add_young.Tie as tie
 
 abbrev Inv-loop : tie.InvT-loop
-Inv-loop rows from to age ages₀ values₀ n k₀ x₀ ages values k x =
-    Turns (rowAt rows) (map (λ u. age ∷ u)) to (map (λ u. age ∷ u) (rowsFrom rows from (to - from))) (PairsAdded ages₀ values₀ n ages values k) x
+Inv-loop rows from to age ages₀ values₀ g₀ x₀ ages values g x =
+    Turns (rowAt rows) (map (λ u. age ∷ u)) to (map (λ u. age ∷ u) (rowsFrom rows from (to - from))) (PairsAdded ages₀ values₀ g₀ ages values g) x
 
 abbrev μ-loop : tie.MeasureT-loop
-μ-loop rows from to age ages₀ values₀ n k₀ x₀ ages values k x = to - x
+μ-loop rows from to age ages₀ values₀ g₀ x₀ ages values g x = to - x
 
 loop-holds : tie.Need-loop-holds Inv-loop μ-loop
 unfolding rowsFrom
@@ -26,7 +26,7 @@ loop-holds c = starts (c .before .before .before .pre .0 .ordered) (add-none (c 
 loop-again : tie.Need-loop-again Inv-loop μ-loop
 loop-again c =
     let age : ℕ = c .before .before .before .before .before .before .before .before .before .before .before .before .before .args .age in
-    goes-on (c .before .before .before .before .before .before .before .before .before .loop .inv) (λ u. (age ∷ u) ∷ []) (λ x xs. refl) (c .before .before .before .before .before .before .before .before .loop-test .taken) (pairs-then (c .before .before .before .before .add-pair .ensures)) (ap (λ u. (age ∷ u) ∷ []) (c .before .before .before .before .before .before .before .row-at .ensures))
+    goes-on (c .before .before .before .before .before .before .before .before .before .loop .inv) (λ u. (age ∷ u) ∷ []) (λ x xs. refl) (c .before .before .before .before .before .before .before .before .loop-test .taken) (pairs-then (c .before .before .before .before .add .ensures)) (ap (λ u. (age ∷ u) ∷ []) (c .before .before .before .before .before .before .before .row-at .ensures))
 
 returns : tie.Need-returns Inv-loop μ-loop
 returns c = ended (c .before .loop .inv) refl (c .loop-test .left)

@@ -19,16 +19,20 @@ returns-3 : tie.Need-returns-3
 returns-3 c e = absurd (false≢true e)
 
 returns-4 : tie.Need-returns-4
-returns-4 c e = record { some = omega arith; room = omega arith; uncut = omega (arith, c .before .if3 .left); after = λ l. absurd (omega (arith, c .if4 .taken)) }
+returns-4 c e = record { some = omega arith; room = omega arith; uncut = omega (arith, c .before .if3 .left); last = λ l. absurd (omega (arith, c .if4 .taken)); after = λ l. absurd (omega (arith, c .if4 .taken)) }
 
 returns-5 : tie.Need-returns-5
-returns-5 c e =
-    let a = c .before .before .before .before .before .before .before .args in
+returns-5 c e = absurd (false≢true e)
+
+returns-6 : tie.Need-returns-6
+returns-6 c e =
+    let a = c .before .before .before .before .before .before .before .before .before .args in
     record {
       some = omega arith;
       room = omega arith;
-      uncut = omega (arith, c .before .before .before .if3 .left);
-      after = λ l. ltb-true (getD (a .ages .now) (a .n - 1) 0) (getD (a .old-ages .now) 0 0 + a .by) e;
+      uncut = omega (arith, c .before .before .before .before .before .if3 .left);
+      last = λ l. c .before .before .if5 .left;
+      after = λ l. ltb-true (getD (a .ages .now) (a .set .count - 1) 0) (getD (a .old-ages .now) 0 0 + a .by) e;
     }
 
 pub fits-behind-spec : {M : Type 1} → statement M
@@ -46,10 +50,12 @@ fits-behind-spec =
     returns-3
     returns-4
     (λ c. search needs)
+    returns-5
     (λ c. search needs)
     (λ c. search needs)
-    (λ c. omega (arith, c .shared-slice-known2 .given (c .before .before .before .before .before .before .args .n - 1)))
+    (λ c. search needs)
+    (λ c. omega (arith, c .shared-slice-known2 .given (c .before .before .before .before .before .before .before .before .args .set .count - 1)))
     (λ c. search needs)
     (λ c. omega (arith, c .shared-slice-known3 .given 0))
     (λ c. omega (arith, c .shared-slice-known3 .given 0))
-    returns-5)
+    returns-6)

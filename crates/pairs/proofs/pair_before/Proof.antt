@@ -1,39 +1,26 @@
--- `pair_before` meets its contract: each way out has decided the test.
-use Prim.Native.Nat.{_+_, _*_}
-use native.Mathlib.Omega.{arith}
+-- `pair_before` meets its contract: the comparison tells.
 use mathlib.Core.Path.{sym, _∙_}
-use mathlib.Core.List.{_∷_, []}
+use mathlib.Core.List.{_∷_}
 use borrow.Author.Needs.{needs}
-use Rattle.pairs.proofs.Order.{joint-less, joint-same, joint-more}
+use Rattle.rowset.specs.Rows.{wordsOf}
+use Rattle.rowset.proofs.Searching.{by-before, by-same, by-after}
 use Rattle.pairs.proofs.pair_before.Statement.{statement}
 use Rattle.pairs.proofs.pair_before.Tie as tie
 
 returns : tie.Need-returns
 returns c =
-    let j = c .before in
-    let a = j .before .before .args in
-    let x = a .x in
-    let y = a .y in
-    sym (joint-less (a .a) (x .v0) (x .v1 ∷ x .v2 ∷ x .v3 ∷ []) (a .b) (y .v0) (y .v1 ∷ y .v2 ∷ y .v3 ∷ []) (omega arith) (omega arith) (omega (arith, c .if1 .taken, j .joint2 .ensures, j .before .joint .ensures)))
+    let a = c .before .before .before .args in
+    sym (by-before (a .a ∷ wordsOf (a .x)) (a .b ∷ wordsOf (a .y)) (sym (c .before .before .compare .ensures) ∙ c .enum-told .given .1))
 
 returns-2 : tie.Need-returns-2
 returns-2 c =
-    let j = c .before .before .before in
-    let a = j .before .before .args in
-    let x = a .x in
-    let y = a .y in
-    c .is-before .ensures
-    ∙ sym (joint-same (a .a) (x .v0) (x .v1 ∷ x .v2 ∷ x .v3 ∷ []) (a .b) (y .v0) (y .v1 ∷ y .v2 ∷ y .v3 ∷ []) (omega arith) (omega arith) (omega (arith, c .before .if2 .taken, j .joint2 .ensures, j .before .joint .ensures)))
+    let a = c .before .before .before .args in
+    sym (by-same (a .a ∷ wordsOf (a .x)) (a .b ∷ wordsOf (a .y)) (sym (c .before .before .compare .ensures) ∙ c .enum-told2 .given .1) .0)
 
 returns-3 : tie.Need-returns-3
 returns-3 c =
-    let j = c .before .before in
-    let a = j .before .before .args in
-    let x = a .x in
-    let y = a .y in
-    sym
-    (joint-more (a .a) (x .v0) (x .v1 ∷ x .v2 ∷ x .v3 ∷ []) (a .b) (y .v0) (y .v1 ∷ y .v2 ∷ y .v3 ∷ []) (omega arith) (omega arith)
-    (omega (arith, c .before .if1 .left, c .if2 .left, j .joint2 .ensures, j .before .joint .ensures)))
+    let a = c .before .before .before .args in
+    sym (by-after (a .a ∷ wordsOf (a .x)) (a .b ∷ wordsOf (a .y)) (sym (c .before .before .compare .ensures) ∙ c .enum-told3 .given .1) .0)
 
 pub pair-before-spec : {M : Type 1} → statement M
-pair-before-spec = tie.close (tie.spec (λ c κs. search needs) (λ c κs. search needs) returns (λ c κs. search needs) returns-2 returns-3)
+pair-before-spec = tie.close (tie.spec (λ c κs. search needs) (λ c. search needs) (λ c. search needs) (λ c. search needs) returns returns-2 returns-3)

@@ -3,7 +3,8 @@ use mathlib.Core.Path.{ap₂}
 use mathlib.Core.Bool.{not}
 use borrow.Author.Needs.{needs}
 use Rattle.meaning.specs.Lists.{select}
-use Rattle.meaning.specs.Evaluator.{cutTo, valuationOf, lookUp}
+use Rattle.meaning.specs.Evaluator.{cutTo, valuationOf}
+use Rattle.meaning.specs.LookUp.{lookUp, isThere}
 use Rattle.kinds.specs.Kinds.{inMask}
 use Rattle.rowset.proofs.Growing.{added-as}
 use Rattle.untils.proofs.Spans.{set-run, set-read}
@@ -24,7 +25,7 @@ returns c =
     let p = c .before .before .before .before .before .set-part .ensures in
     let q = c .before .before .before .before .set-part2 .ensures in
     added-as (c .before .before .and-not .ensures)
-    (ap₂ (λ lefts rights. select (λ u. not (lookUp (cutTo (inMask (a .b .mask)) (valuationOf u)) rights)) lefts) (set-read (s .pre .0) (p .0) (p .1)) (set-read (s .pre .1 .0) (q .0) (q .1)))
+    (ap₂ (λ lefts rights. select (λ u. not (isThere (lookUp (cutTo (inMask (a .b .mask)) (valuationOf u)) rights))) lefts) (set-read (s .pre .0) (p .0) (p .1)) (set-read (s .pre .1 .0) (q .0) (q .1)))
 
 pub and-not-at-spec : {M : Type 1} → statement M
 and-not-at-spec = tie.close (tie.spec (λ c κs. search needs) (λ c κs. search needs) and-not-requires (λ c. c .before .before .and-not .ensures .long) returns)

@@ -1,6 +1,6 @@
 -- `copy_if` meets its contract: the test decides.
 use borrow.Author.Needs.{needs}
-use Rattle.settling.proofs.Gives.{added-none}
+use Rattle.rowset.proofs.Growing.{added-none}
 use Rattle.settling.proofs.copy_if.Statement.{statement}
 use Rattle.settling.proofs.copy_if.Tie as tie
 

@@ -5,10 +5,9 @@ use mathlib.Core.List.{[]}
 use borrow.Author.Tests.{lt-ltb, le-ltb}
 use borrow.Author.Needs.{needs}
 use Rattle.meaning.specs.Log.{pointBefore}
-use Rattle.rowset.proofs.Growing.{added-as}
+use Rattle.rowset.proofs.Growing.{added-none, added-as}
 use Rattle.untils.proofs.Passing.{due-read}
 use Rattle.settling.specs.Children.{childSet}
-use Rattle.settling.proofs.Gives.{added-none}
 use Rattle.settling.proofs.previous_at.Statement.{statement}
 use Rattle.settling.proofs.previous_at.Tie as tie
 

@@ -5,10 +5,10 @@ use mathlib.Core.Path.{_≡_, refl, ap, subst}
 use mathlib.Core.List.{List}
 use borrow.Author.Needs.{needs}
 use Rattle.meaning.specs.Formula.{termsOf}
-use Rattle.meaning.specs.Evaluator.{atomRows}
+use Rattle.meaning.specs.Evaluator.{setOf, atomRows}
 use Rattle.meaning.specs.declared.Node.{Node}
-use Rattle.rowset.specs.Sets.{Added}
-use Rattle.rowset.proofs.Growing.{added-as}
+use Rattle.rowset.specs.Sets.{Added, SetMade}
+use Rattle.rowset.proofs.Growing.{added-as, set-made}
 use Rattle.kinds.proofs.Atoms.{atom-reads}
 use Rattle.settling.specs.Inputs.{asked, PointSettled}
 use Rattle.settling.proofs.Gives.{given, point-settled, both-stand}
@@ -22,13 +22,18 @@ told s e =
     let a = s .args in
     subst (asked (a .rule .now) (a .event .now) (a .rows .now) (a .at .now) (a .old-ages .now) (a .old-values .now) (a .left) (a .right) (a .start) (a .i)) e (s .pre .0)
 
--- what the kind gives, the node gives
+-- what the kind gives, the node gives: the set of it, which rows put into nothing are
+settled : (s : tie.Start) {kind : Node} {out : List ℕ} {k : ℕ} → s .args .node ≡ kind
+    → SetMade out k (setOf (given (s .args .rule .now) (s .args .event .now) (s .args .rows .now) (s .args .at .now) (s .args .times .now) (s .args .base) (s .args .old-ages .now) (s .args .old-values .now) (s .args .left) (s .args .right) (s .args .start) (s .args .i) kind))
+    → PointSettled (s .args .rule .now) (s .args .event .now) (s .args .rows .now) (s .args .at .now) (s .args .times .now) (s .args .base) (s .args .old-ages .now) (s .args .old-values .now) (s .args .left) (s .args .right) (s .args .start) (s .args .i) (s .args .node) out k
+settled s e h =
+    let a = s .args in
+    point-settled (a .rule .now) (a .event .now) (a .rows .now) (a .at .now) (a .times .now) (a .base) (a .old-ages .now) (a .old-values .now) (a .left) (a .right) (a .start) (a .i) e (told s e) h
+
 gives : (s : tie.Start) {kind : Node} {out : List ℕ} {k : ℕ} → s .args .node ≡ kind
     → Added (s .args .out .now) 0 out k (given (s .args .rule .now) (s .args .event .now) (s .args .rows .now) (s .args .at .now) (s .args .times .now) (s .args .base) (s .args .old-ages .now) (s .args .old-values .now) (s .args .left) (s .args .right) (s .args .start) (s .args .i) kind)
     → PointSettled (s .args .rule .now) (s .args .event .now) (s .args .rows .now) (s .args .at .now) (s .args .times .now) (s .args .base) (s .args .old-ages .now) (s .args .old-values .now) (s .args .left) (s .args .right) (s .args .start) (s .args .i) (s .args .node) out k
-gives s e h =
-    let a = s .args in
-    point-settled (a .rule .now) (a .event .now) (a .rows .now) (a .at .now) (a .times .now) (a .base) (a .old-ages .now) (a .old-values .now) (a .left) (a .right) (a .start) (a .i) e (told s e) h
+gives s e h = settled s e (set-made h)
 
 atom-requires : tie.Need-atom-requires
 atom-requires c κs =
@@ -145,10 +150,10 @@ returns-8 : tie.Need-returns-8
 returns-8 c = gives (c .before .before .before .before .before .before .before .before .before .before .before .before .before .before .before) (c .before .before .before .before .before .node5 .given .1) (c .before .before .next-at .ensures)
 
 returns-9 : tie.Need-returns-9
-returns-9 c = gives (c .before .before .before .before .before .before .before .before .before .before .before .before .before .before .before) (c .before .before .before .before .before .node6 .given .1) (c .before .before .rows-at .ensures)
+returns-9 c = settled (c .before .before .before .before .before .before .before .before .before .before .before .before .before .before .before) (c .before .before .before .before .before .node6 .given .1) (c .before .before .rows-at .ensures)
 
 returns-10 : tie.Need-returns-10
-returns-10 c = gives (c .before .before .before .before .before .before .before .before .before .before .before .before .before .before .before) (c .before .before .before .before .before .node7 .given .1) (c .before .before .rows-at2 .ensures)
+returns-10 c = settled (c .before .before .before .before .before .before .before .before .before .before .before .before .before .before .before) (c .before .before .before .before .before .node7 .given .1) (c .before .before .rows-at2 .ensures)
 
 returns-11 : tie.Need-returns-11
 returns-11 c = gives (c .before .before .before .before .before .before .before .before .before .before .before .before .before .before .before) (c .before .before .before .before .before .node8 .given .1) (c .before .before .until-at .ensures)
@@ -157,7 +162,7 @@ returns-12 : tie.Need-returns-12
 returns-12 c = gives (c .before .before .before .before .before .before .before .before .before .before .before .before .before .before .before) (c .before .before .before .before .before .node9 .given .1) (c .before .before .until-at2 .ensures)
 
 returns-13 : tie.Need-returns-13
-returns-13 c = gives (c .before .before .before .before .before .before .before .before .before .before .before .before .before .before .before) (c .before .before .before .before .before .node10 .given .1) (c .before .before .rows-at3 .ensures)
+returns-13 c = settled (c .before .before .before .before .before .before .before .before .before .before .before .before .before .before .before) (c .before .before .before .before .before .node10 .given .1) (c .before .before .rows-at3 .ensures)
 
 returns-14 : tie.Need-returns-14
 returns-14 c = gives (c .before .before .before .before .before .before .before .before .before .before .before .before .before .before .before) (c .before .before .before .before .before .node11 .given .1) (c .before .before .eventually .ensures)
@@ -211,15 +216,15 @@ settle-point-spec =
     returns-7
     (λ c. c .before .before .next-at .ensures .long)
     returns-8
-    (λ c. c .before .before .rows-at .ensures .long)
+    (λ c. c .before .before .rows-at .kept .1 .1 .1 .1 .1 .1 .1 .1 .1 .1 .1 .1 .0)
     returns-9
-    (λ c. c .before .before .rows-at2 .ensures .long)
+    (λ c. c .before .before .rows-at2 .kept .1 .1 .1 .1 .1 .1 .1 .1 .1 .1 .1 .1 .0)
     returns-10
     (λ c. c .before .before .until-at .ensures .long)
     returns-11
     (λ c. c .before .before .until-at2 .ensures .long)
     returns-12
-    (λ c. c .before .before .rows-at3 .ensures .long)
+    (λ c. c .before .before .rows-at3 .kept .1 .1 .1 .1 .1 .1 .1 .1 .1 .1 .1 .1 .0)
     returns-13
     (λ c. c .before .before .eventually .ensures .long)
     returns-14)

@@ -13,7 +13,7 @@ use Rattle.since.proofs.add_aged.Tie as tie
 returns : tie.Need-returns
 returns c =
     let a = c .before .before .before .before .before .before .before .before .before .before .before .before .args in
-    rw (lt-ltb _ _ (c .before .before .before .before .before .before .before .before .if1 .taken)) (pairs-as (c .before .before .before .before .add-next .ensures) (ap (λ y. (y ∷ wordsOf (a .r)) ∷ []) (c .before .before .before .before .before .at-most .ensures)))
+    rw (lt-ltb _ _ (c .before .before .before .before .before .before .before .before .if1 .taken)) (pairs-as (c .before .before .before .before .add .ensures) (ap (λ y. (y ∷ wordsOf (a .r)) ∷ []) (c .before .before .before .before .before .at-most .ensures)))
 
 returns-2 : tie.Need-returns-2
 returns-2 c = rw (le-ltb _ _ (c .if1 .left)) (add-none (c .before .before .before .before .pre))

@@ -18,12 +18,12 @@ use Rattle.since.proofs.add_all_older.Statement.{statement}
 use Rattle.since.proofs.add_all_older.Tie as tie
 
 abbrev Inv-loop : tie.InvT-loop
-Inv-loop left a rows at start by old-ages old-values ages₀ values₀ n bounds end old k₀ x₀ ages values k x =
+Inv-loop left a rows at start by old-ages old-values ages₀ values₀ bounds end old g₀ x₀ ages values g x =
     Turns (pairAt old-ages old-values) (boundPairs by (leads left (a .mask) (setAt rows at (a .first) (a .low)) start end) (bounds .below) (bounds .most)) old
-    (boundPairs by (leads left (a .mask) (setAt rows at (a .first) (a .low)) start end) (bounds .below) (bounds .most) (pairsFrom old-ages old-values 0 old)) (PairsAdded ages₀ values₀ n ages values k) x
+    (boundPairs by (leads left (a .mask) (setAt rows at (a .first) (a .low)) start end) (bounds .below) (bounds .most) (pairsFrom old-ages old-values 0 old)) (PairsAdded ages₀ values₀ g₀ ages values g) x
 
 abbrev μ-loop : tie.MeasureT-loop
-μ-loop left a rows at start by old-ages old-values ages₀ values₀ n bounds end old k₀ x₀ ages values k x = old - x
+μ-loop left a rows at start by old-ages old-values ages₀ values₀ bounds end old g₀ x₀ ages values g x = old - x
 
 loop-holds : tie.Need-loop-holds Inv-loop μ-loop
 unfolding pairsFrom

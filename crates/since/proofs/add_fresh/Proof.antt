@@ -23,12 +23,12 @@ use Rattle.since.proofs.add_fresh.Statement.{statement}
 use Rattle.since.proofs.add_fresh.Tie as tie
 
 abbrev Inv-loop : tie.InvT-loop
-Inv-loop left a b rows at times base w i ages₀ values₀ here end count k₀ x₀ ages values k x =
+Inv-loop left a b rows at times base w i ages₀ values₀ here end count g₀ x₀ ages values g x =
     Turns (λ y. point (i .0 - y)) (pairsOver left (a .mask) (setAt rows at (a .first) (a .low)) (setAt rows at (b .first) (b .low)) (stampIn base times) w here end) count
-    (pairsOver left (a .mask) (setAt rows at (a .first) (a .low)) (setAt rows at (b .first) (b .low)) (stampIn base times) w here end (map (λ y. point (i .0 - y)) (range 0 count))) (PairsAdded ages₀ values₀ 0 ages values k) x
+    (pairsOver left (a .mask) (setAt rows at (a .first) (a .low)) (setAt rows at (b .first) (b .low)) (stampIn base times) w here end (map (λ y. point (i .0 - y)) (range 0 count))) (PairsAdded ages₀ values₀ g₀ ages values g) x
 
 abbrev μ-loop : tie.MeasureT-loop
-μ-loop left a b rows at times base w i ages₀ values₀ here end count k₀ x₀ ages values k x = count - x
+μ-loop left a b rows at times base w i ages₀ values₀ here end count g₀ x₀ ages values g x = count - x
 
 loop-holds : tie.Need-loop-holds Inv-loop μ-loop
 loop-holds c = starts-all (add-none (c .before .before .before .before .before .before .before .before .before .pre .1 .1 .1))

@@ -18,12 +18,12 @@ use Rattle.since.proofs.add_lasting.Statement.{statement}
 use Rattle.since.proofs.add_lasting.Tie as tie
 
 abbrev Inv-loop : tie.InvT-loop
-Inv-loop left a rows at from to after end age ages₀ values₀ n k₀ x₀ ages values k x =
+Inv-loop left a rows at from to after end age ages₀ values₀ g₀ x₀ ages values g x =
     Turns (rowAt rows) (λ us. map (λ u. age ∷ u) (select (leads left (a .mask) (setAt rows at (a .first) (a .low)) after end) us)) to
-    (map (λ u. age ∷ u) (select (leads left (a .mask) (setAt rows at (a .first) (a .low)) after end) (rowsFrom rows from (to - from)))) (PairsAdded ages₀ values₀ n ages values k) x
+    (map (λ u. age ∷ u) (select (leads left (a .mask) (setAt rows at (a .first) (a .low)) after end) (rowsFrom rows from (to - from)))) (PairsAdded ages₀ values₀ g₀ ages values g) x
 
 abbrev μ-loop : tie.MeasureT-loop
-μ-loop left a rows at from to after end age ages₀ values₀ n k₀ x₀ ages values k x = to - x
+μ-loop left a rows at from to after end age ages₀ values₀ g₀ x₀ ages values g x = to - x
 
 loop-holds : tie.Need-loop-holds Inv-loop μ-loop
 unfolding rowsFrom

@@ -21,7 +21,7 @@ returns : tie.Need-returns
 returns c =
     let a = c .before .before .before .before .before .before .before .before .before .before .before .before .before .before .before .args in
     let b = c .before .before .before .before .before .before .before .before .before .before .bounds-of .ensures in
-    let few : a .age < 8589934592 = omega arith in
+    let few : a .age < 8589934592 = omega (arith, c .before .before .before .before .before .before .before .before .before .before .before .before .before .before .before .good) in
     let e : belowEnd (a .w) (a .age) ≡ true = sym (below-end (a .w) (a .age) few) ∙ ap (ltb (a .age)) (sym (b .1)) ∙ lt-ltb _ _ (c .before .before .before .before .before .before .before .before .if1 .taken) in
     rw e
     (pairs-as (c .before .before .before .before .add-point .ensures)

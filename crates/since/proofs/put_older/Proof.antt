@@ -1,4 +1,4 @@
--- `put_older` meets its contract: the row of each held pair that stays is put in; the set ascends all the while.
+-- `put_older` meets its contract: the row of each held pair that stays is put in.
 use Prim.Native.Nat.{_+_, _-_}
 use native.Mathlib.Omega.{arith}
 use mathlib.Core.Path.{refl}
@@ -6,7 +6,7 @@ use lib.ListN.{length}
 use borrow.Author.Needs.{needs}
 use Rattle.meaning.specs.Log.{point}
 use Rattle.meaning.specs.Order.{before}
-use Rattle.rowset.proofs.Growing.{ended, Through, begun-all, added-as, added-ascends}
+use Rattle.rowset.proofs.Growing.{Gathering, gathers-all, gather-from, gather-room, ended, added-as, made-more}
 use Rattle.kinds.specs.Kinds.{pairAt, pairsFrom}
 use Rattle.room.specs.Room.{setAt}
 use Rattle.untils.specs.Until.{leads}
@@ -15,16 +15,16 @@ use Rattle.since.proofs.put_older.Statement.{statement}
 use Rattle.since.proofs.put_older.Tie as tie
 
 abbrev Inv-loop : tie.InvT-loop
-Inv-loop left a rows at start by old-ages old-values out₀ n bounds end old k₀ near₀ x₀ out k near x =
-    Through (pairAt old-ages old-values) (boundRows by (leads left (a .mask) (setAt rows at (a .first) (a .low)) start end) (bounds .from) (bounds .below)) old out₀ n
-    (boundRows by (leads left (a .mask) (setAt rows at (a .first) (a .low)) start end) (bounds .from) (bounds .below) (pairsFrom old-ages old-values 0 old)) out k x
+Inv-loop left a rows at start by old-ages old-values out₀ n bounds end old set₀ x₀ out set x =
+    Gathering (pairAt old-ages old-values) (boundRows by (leads left (a .mask) (setAt rows at (a .first) (a .low)) start end) (bounds .from) (bounds .below)) old out₀ set₀
+    (boundRows by (leads left (a .mask) (setAt rows at (a .first) (a .low)) start end) (bounds .from) (bounds .below) (pairsFrom old-ages old-values 0 old)) out set x
 
 abbrev μ-loop : tie.MeasureT-loop
-μ-loop left a rows at start by old-ages old-values out₀ n bounds end old k₀ near₀ x₀ out k near x = old - x
+μ-loop left a rows at start by old-ages old-values out₀ n bounds end old set₀ x₀ out set x = old - x
 
 loop-holds : tie.Need-loop-holds Inv-loop μ-loop
 unfolding pairsFrom
-loop-holds c = begun-all (c .before .before .before .before .before .before .before .pre .1 .1 .1 .0)
+loop-holds c = gathers-all (gather-from (c .before .before .before .before .before .before .before .pre .1 .1 .1))
 
 cast-age : tie.Need-cast-age Inv-loop μ-loop
 cast-age c = omega (arith, c .shared-slice-known5 .given (c .before .before .before .loop .x))
@@ -35,22 +35,21 @@ add-age c = omega (arith, c .shared-slice-known5 .given (c .before .before .befo
 stays-requires : tie.Need-stays-requires Inv-loop μ-loop
 stays-requires c κs = c .before .before .before .before .before .before .before .before .before .before .before .pre .1 .0
 
-add-near-if-requires : tie.Need-add-near-if-requires Inv-loop μ-loop
-add-near-if-requires c κs =
-    let l = c .before .before .before .before .before .loop in
-    (record { most = l .inv .put .most; there = omega (arith, l .inv .put .long, c .before .before .before .before .before .before .before .before .before .before .before .before .before .pre .1 .1 .1 .0 .there) }, added-ascends (l .inv .put) (c .before .before .before .before .before .before .before .before .before .before .before .before .before .pre .1 .1 .1 .1))
+add-if-requires : tie.Need-add-if-requires Inv-loop μ-loop
+add-if-requires c κs = gather-room (c .before .before .before .before .before .before .before .before .before .before .before .before .before .pre .1 .1 .1 .there) (c .before .before .before .before .before .loop .inv .put)
 
 loop-again : tie.Need-loop-again Inv-loop μ-loop
 loop-again c =
     let a = c .before .before .before .before .before .before .before .before .before .before .before .before .before .before .before .before .args in
-    row-turned (a .by) (leads (a .left) (a .a .mask) (setAt (a .rows .now) (a .at .now) (a .a .first) (a .a .low)) (a .start) (point (a .i .0 + 1))) (a .old-ages .now) (a .old-values .now) (c .before .before .before .before .before .before .before .before .before .before .bounds-of .result .from) (c .before .before .before .before .before .before .before .before .before .before .bounds-of .result .below) (c .before .before .before .before .before .before .before .before .loop .inv) (c .before .before .before .before .before .before .before .loop-test .taken) (c .before .before .add-near-if .ensures) (c .before .before .before .before .stays .ensures) (c .before .before .before .before .before .before .row-at .ensures)
+    row-turned (a .by) (leads (a .left) (a .a .mask) (setAt (a .rows .now) (a .at .now) (a .a .first) (a .a .low)) (a .start) (point (a .i .0 + 1))) (a .old-ages .now) (a .old-values .now) (c .before .before .before .before .before .before .before .before .before .before .bounds-of .result .from) (c .before .before .before .before .before .before .before .before .before .before .bounds-of .result .below) (c .before .before .before .before .before .before .before .before .loop .inv) (c .before .before .before .before .before .before .before .loop-test .taken) (c .before .before .add-if .ensures) (c .before .before .before .before .stays .ensures) (c .before .before .before .before .before .before .row-at .ensures)
 
 returns : tie.Need-returns Inv-loop μ-loop
 returns c =
     let a = c .before .before .before .before .before .before .before .before .before .args in
     let b = c .before .before .before .bounds-of .ensures in
-    added-as (ended (c .before .loop .inv) refl (c .loop-test .left))
-    (rows-bound (a .by) (leads (a .left) (a .a .mask) (setAt (a .rows .now) (a .at .now) (a .a .first) (a .a .low)) (a .start) (point (a .i .0 + 1))) (a .w) (a .old-ages .now) (a .old-values .now) (omega arith) (λ k. omega (arith, c .before .before .before .before .before .before .shared-slice-known3 .given k)) (b .0) (b .1) 0 (length (a .old-ages .now)))
+    let h = added-as (ended (c .before .loop .inv) refl (c .loop-test .left) .added)
+    (rows-bound (a .by) (leads (a .left) (a .a .mask) (setAt (a .rows .now) (a .at .now) (a .a .first) (a .a .low)) (a .start) (point (a .i .0 + 1))) (a .w) (a .old-ages .now) (a .old-values .now) (omega arith) (λ k. omega (arith, c .before .before .before .before .before .before .shared-slice-known3 .given k)) (b .0) (b .1) 0 (length (a .old-ages .now))) in
+    record { long = h .long; put = λ s up m. made-more m h }
 
 pub put-older-spec : {M : Type 1} → statement M
 put-older-spec =
@@ -67,9 +66,9 @@ put-older-spec =
     cast-age
     add-age
     stays-requires
-    add-near-if-requires
+    add-if-requires
     (λ c. omega (arith, c .before .before .before .before .before .before .before .before .before .before .before .before .before .before .before .before .pre .1 .1 .0 .valuesThere, c .before .before .before .before .before .before .before .before .before .before .before .before .before .before .before .before .fits, c .before .before .before .before .before .before .before .before .before .before .before .before .before .before .before .before .good, c .before .before .before .before .before .before .before .loop-test .taken))
     (λ c. omega arith)
     loop-again
-    (λ c. c .before .loop .inv .put .long)
+    (λ c. c .before .loop .inv .put .added .long)
     returns)

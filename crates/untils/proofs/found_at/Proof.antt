@@ -1,7 +1,7 @@
 -- `found_at` meets its contract: the part that is looked through is the set.
 use mathlib.Core.Path.{ap, _∙_}
 use borrow.Author.Needs.{needs}
-use Rattle.meaning.specs.Evaluator.{lookUp}
+use Rattle.meaning.specs.LookUp.{lookUp, isThere}
 use Rattle.rowset.specs.Rows.{wordsOf}
 use Rattle.untils.proofs.Spans.{set-run, set-read}
 use Rattle.untils.proofs.found_at.Statement.{statement}
@@ -14,7 +14,7 @@ returns : tie.Need-returns
 returns c =
     let s = c .before .before .before .before in
     let p = c .before .set-part .ensures in
-    c .contains .ensures ∙ ap (lookUp (wordsOf (s .args .r))) (set-read (s .pre) (p .0) (p .1))
+    c .contains .ensures ∙ ap (λ rows. isThere (lookUp (wordsOf (s .args .r)) rows)) (set-read (s .pre) (p .0) (p .1))
 
 pub found-at-spec : {M : Type 1} → statement M
 found-at-spec = tie.close (tie.spec (λ c κs. search needs) contains-requires returns)
