@@ -1,5 +1,5 @@
-// Instructions of an event, clearing included, over the first 3,000 events of six rules, and of a notice of rule L after each of
-// 3,000 events: those that callgrind counts within `yokemango_take` and within `yokemango_notice`. It needs valgrind.
+// Instructions of an event, clearing included, over the first 3,000 events of six rules and of two with long zone lists, and of a notice
+// of rule L after each of 3,000 events: those that callgrind counts within `yokemango_take` and within `yokemango_notice`. It needs valgrind.
 //
 //   rt staticlib yokemango
 //   rustc -O --edition 2021 -L target/staticlib -o target/instructions tests/instructions.rs
@@ -31,13 +31,15 @@ use Counted::{Events, Notices};
 
 const LEAK: &[u8] = include_bytes!("../examples/leak.rule");
 
-const CASES: [Case; 8] = [
+const CASES: [Case; 10] = [
     Case { name: "rule L", file: LEAK, event: leak, counted: Events },
     Case { name: "half-hour, 91 kept", file: include_bytes!("../examples/half-hour.rule"), event: reading, counted: Events },
     Case { name: "since [5, 60)", file: include_bytes!("../examples/running.rule"), event: running, counted: Events },
     Case { name: "until [0, 30), 30 open", file: include_bytes!("../examples/burst.rule"), event: burst, counted: Events },
     Case { name: "a join", file: include_bytes!("../examples/dry-zone.rule"), event: dry_zone, counted: Events },
     Case { name: "32 nodes", file: include_bytes!("../examples/orchard.rule"), event: orchard, counted: Events },
+    Case { name: "half-hour, 31 blocks in no order", file: include_bytes!("../examples/half-hour.rule"), event: blocks, counted: Events },
+    Case { name: "32 rows in each set", file: include_bytes!("../examples/unread.rule"), event: full_sets, counted: Events },
     Case { name: "rule L, a notice that settles nothing", file: LEAK, event: every_ten, counted: Notices { after: 0, points: 0 } },
     Case { name: "rule L, a notice that settles one point", file: LEAK, event: every_ten, counted: Notices { after: 1, points: 1 } },
 ];
@@ -52,6 +54,25 @@ fn every_ten(g: &mut Random, k: u32) -> Vec<u32> {
 fn reading(_: &mut Random, k: u32) -> Vec<u32> {
     let rows: [(u32, &[u32]); 2] = [(1, &[k % 8]), (0, &[k / 4 % 9])];
     words(20 * k, if k % 4 == 0 { &rows } else { &rows[..1] })
+}
+
+// Every 200 seconds 31 blocks are read, in no order, and a valve of one of 32 blocks opens.
+fn blocks(g: &mut Random, k: u32) -> Vec<u32> {
+    let mut blocks: Vec<u32> = (0..31).collect();
+    for i in (1..31).rev() {
+        blocks.swap(i, g.below(i as u32 + 1) as usize);
+    }
+    let mut rows: Vec<(u32, &[u32])> = blocks.iter().map(|b| (1, std::slice::from_ref(b))).collect();
+    let opened = [g.below(32)];
+    rows.push((0, &opened));
+    words(200 * k, &rows)
+}
+
+// Every 60 seconds all of 32 blocks are read, the lowest first.
+fn full_sets(_: &mut Random, k: u32) -> Vec<u32> {
+    let blocks: Vec<u32> = (0..32).collect();
+    let rows: Vec<(u32, &[u32])> = blocks.iter().map(|b| (0, std::slice::from_ref(b))).collect();
+    words(60 * k, &rows)
 }
 
 // Takes the events of a case, and its notices.
