@@ -3,7 +3,7 @@
 
     definitions.py [CASES [SEED]]    default: 60 cases, seed 1
 
-The checker itself computes each case, from the rule's bytes, the events' words and the notices' times to answers, reported points with
+Four times as many lists of rows, in order and not, are looked through too (#102). The checker itself computes each case, from the rule's bytes, the events' words and the notices' times to answers, reported points with
 their rows, the open and kept figures and the latest known time; a case that differs is refused. Rules of up to seven nodes, one in five
 damaged in a byte; lists of up to six events and notices, some of them to be refused; report buffers of 3 to 40 words.
 """
@@ -33,6 +33,9 @@ use Rattle.meaning.specs.RuleFile.{Accepted, wordAt, sizesFit, headAt, bodyAt, 
 use Rattle.meaning.specs.Kept.{lastPairs, consulted, parentOf, pointEntries, ageEntries, entriesOf, entries, kept, openPoints}
 use Rattle.meaning.specs.Event.{isEvent, rowFits, pointOf}
 use Rattle.meaning.specs.Report.{Reported, reportWords, rowWords}
+use Rattle.meaning.specs.LookUp.{lookUp}
+use Rattle.meaning.specs.declared.Sought.{Sought}
+use Rattle.meaning.specs.declared.Sought.the-variants.{There, Absent}
 use Rattle.meaning.specs.Keeper.{Fed, event, notice, Taking, newlySettled, reported, report, admitted, weighed, crowdedAt, grown, answerOn, answer, step}
 
 abbrev lineOf : Reported → List ℕ
@@ -48,6 +51,10 @@ taking room f = record { fed = f; buffer = replicate room 0 }
 abbrev listing : ℕ → List ℕ → List Taken → List Fed → List ℕ
 listing room b es [] = 3 ∷ openPoints b (logOf es) ∷ kept b (logOf es) ∷ latest (logOf es) .0 ∷ []
 listing room b es (f ∷ fs) = said (answer b es (taking room f)) (reported (logOf es) (logOf (grown b es f)) (pattern b)) ++ listing room b (step b es (taking room f)) fs
+
+abbrev looked : Sought → List ℕ
+looked (There p) = 1 ∷ p ∷ []
+looked (Absent p) = 0 ∷ p ∷ []
 
 abbrev whole : ℕ → Outcome Accepted → List ℕ → List Fed → List ℕ
 whole room (refused n p) b fs = 2 ∷ n ∷ p ∷ []
@@ -153,6 +160,20 @@ def case(rng):
     return file, takings, rng.choice((3, 12, 40, 40, 40))
 
 
+def look_case(rng):
+    """A row and rows of its width: in order, or with two of them swapped, or in no order."""
+    width, high = rng.randint(1, 5), rng.choice((1, 2, 4294967295))
+    rows = sorted({tuple(rng.randint(0, high) for _ in range(width)) for _ in range(rng.randint(0, 6))})
+    how = rng.randrange(3)
+    if how == 1 and len(rows) > 1:
+        i, j = rng.sample(range(len(rows)), 2)
+        rows[i], rows[j] = rows[j], rows[i]
+    if how == 2:
+        rows += rng.choices(rows, k=2) if rows else []
+        rng.shuffle(rows)
+    return rng.choice(rows) if rows and rng.random() < 0.6 else tuple(rng.randint(0, high) for _ in range(width)), rows
+
+
 def expected(file, takings, room, met):
     rule = plain.check(file)
     if isinstance(rule, tuple):
@@ -182,6 +203,12 @@ def main():
         want = expected(file, takings, room, met)
         text += f"\ncase-{k} : whole {room} (checking {numbers(file)}) {numbers(file)} ({' ∷ '.join([fed(t) for t in takings] + ['[]'])}) ≡ {numbers(want)}\n"
         text += f"unfolding {' '.join(OPENED)}\ncase-{k} = refl\n"
+    for k in range(4 * count):
+        row, rows = look_case(rng)
+        there, place = plain.look(row, rows)
+        met["looked for", ("there" if there else "not there") + ("" if rows == sorted(rows) else ", not in order")] += 1
+        met["looked for", "there, behind a larger one alone"] += not there and row in rows
+        text += f"\nlook-{k} : looked (lookUp {numbers(row)} ({' ∷ '.join([numbers(r) for r in rows] + ['[]'])})) ≡ {numbers((int(there), place))}\nlook-{k} = refl\n"
     with tempfile.TemporaryDirectory() as folder:
         top = pathlib.Path(folder)
         shutil.copytree(TOP / "crates" / "meaning", top / "crates" / "meaning", ignore=shutil.ignore_patterns("must-fail"))
@@ -192,10 +219,10 @@ def main():
         (top / "crates" / "compared" / "specs" / "Lib.antt").write_text("pub mod Cases\n")
         (top / "crates" / "compared" / "specs" / "Cases.antt").write_text(text)
         run = subprocess.run(["rt", "dev", "compared"], cwd=top, stdout=subprocess.PIPE, stderr=subprocess.STDOUT, text=True)
-    wrong = sorted(set(re.findall(r"error: `(case-\d+)`", run.stdout)), key=lambda c: int(c[5:]))
+    wrong = sorted(set(re.findall(r"error: `((?:case|look)-\d+)`", run.stdout)), key=lambda c: (c[:5], int(c[5:])))
     for key in sorted(met, key=str):
         print(f"{key[0]} {key[1]}: {met[key]}", end="; ")
-    print(f"\n{count} rules with logs computed by the definitions, {len(wrong)} differ", *wrong)
+    print(f"\n{count} rules with logs and {4 * count} lists looked through, computed by the definitions, {len(wrong)} differ", *wrong)
     if run.returncode != 0:
         print("\n".join(line[:300] for line in run.stdout.split("\n") if "error" in line)[:4000])
         sys.exit(1)

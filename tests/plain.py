@@ -1,6 +1,6 @@
 #!/usr/bin/env python3
-"""A plain evaluator of 01 and of the clock notices of request 101, written from their text alone: it holds the whole log and works every
-answer out from the definitions.
+"""A plain evaluator of 01, of the clock notices of request 101 and of the looking up of request 102, written from their text alone: it
+holds the whole log and works every answer out from the definitions.
 
     plain.py < INPUT     the listing of a rule and its events
     plain.py FILE.in ..  compares the listing of each FILE.in with FILE.out
@@ -196,6 +196,13 @@ class Log:
 
     def open(self):
         return sum(not self.settled(len(self.rule.nodes) - 1, i) for i in range(self.size))
+
+
+def look(row, rows):
+    """Request 102: whether a row is there, and its place; or the place of the first larger one, or the end."""
+    larger = [k for k, other in enumerate(rows) if row < other][:1] or [len(rows)]
+    equal = [k for k, other in enumerate(rows[:larger[0]]) if other == row]
+    return (True, equal[0]) if equal else (False, larger[0])
 
 
 def take(rule, old, words, room=4326):
