@@ -19,10 +19,10 @@
 extern "C" {
 #endif
 
-#define YOKEMANGO_VERSION "1.1.0-pre"
+#define YOKEMANGO_VERSION "1.1.1-pre"
 #define YOKEMANGO_VERSION_MAJOR 1
 #define YOKEMANGO_VERSION_MINOR 1
-#define YOKEMANGO_VERSION_PATCH 0
+#define YOKEMANGO_VERSION_PATCH 1
 
 /* ---- limits */
 
@@ -208,8 +208,8 @@ static inline struct yokemango_checked yokemango_start_in(struct yokemango_state
 
    Stack of a call in bytes, by the nodes of the rule, measured:
      nodes                                        2 or 4        8       16       32
-     a usual event                                 9,488   10,056   11,784   12,360
-     an event that settles 32 points at once      61,760  155,512  156,088  156,664
+     a usual event                                 9,552   10,120   11,848   12,424
+     an event that settles 32 points at once      61,824  155,576  156,152  156,728
    A notice takes 16 bytes less, yokemango_start takes 13,552 and yokemango_figures 1,384. */
 static inline struct yokemango_taken yokemango_take_in(struct yokemango_state *state, const uint32_t *event, size_t event_len, uint32_t *report, size_t report_len)
 {
