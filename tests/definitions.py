@@ -207,7 +207,7 @@ def main():
         row, rows = look_case(rng)
         there, place = plain.look(row, rows)
         met["looked for", ("there" if there else "not there") + ("" if rows == sorted(rows) else ", not in order")] += 1
-        met["looked for", "there, behind a larger one alone"] += not there and row in rows
+        met["looked for", "not there, but behind a larger one"] += not there and row in rows
         text += f"\nlook-{k} : looked (lookUp {numbers(row)} ({' ∷ '.join([numbers(r) for r in rows] + ['[]'])})) ≡ {numbers((int(there), place))}\nlook-{k} = refl\n"
     with tempfile.TemporaryDirectory() as folder:
         top = pathlib.Path(folder)

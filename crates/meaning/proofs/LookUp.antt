@@ -15,14 +15,15 @@ use Rattle.meaning.proofs.Points.{Tested, passed, failed, tested, first
 use Rattle.meaning.proofs.Rows.{before-transitive, ascending-tail, same-row}
 use Rattle.meaning.proofs.Order.{asymmetric, total, before-other, after-other, same-not-after}
 
+-- an answer's place; and the two answers differ
 abbrev placeOf : Sought → ℕ
 placeOf (There p) = p
 placeOf (Absent p) = p
 
-pub there-not-absent : {p q : ℕ} {A : Type 0} → There p ≡ Absent q → A
+there-not-absent : {p q : ℕ} {A : Type 0} → There p ≡ Absent q → A
 there-not-absent e = absurd (true≢false (ap isThere e))
 
-pub absent-not-there : {p q : ℕ} {A : Type 0} → Absent p ≡ There q → A
+absent-not-there : {p q : ℕ} {A : Type 0} → Absent p ≡ There q → A
 absent-not-there e = absurd (false≢true (ap isThere e))
 
 -- a search at one row: it goes on past one that is before, and stops at an equal or a larger one
@@ -69,11 +70,11 @@ passes-more r s rows p e f h zero l = (e, f)
 passes-more r s rows p e f h (suc k) l = h k (omega arith)
 
 -- how a search ends: at an equal row, or at a larger one or the end
-pub data Ends (r : List ℕ) (rows : List (List ℕ)) : Sought → Type 0 where
+data Ends (r : List ℕ) (rows : List (List ℕ)) : Sought → Type 0 where
   at-equal : (p : ℕ) → p < length rows → getD rows p [] ≡ r → Passes r rows p → Ends r rows (There p)
   at-larger : (p : ℕ) → p ≤ length rows → (p < length rows → before r (getD rows p []) ≡ true) → Passes r rows p → Ends r rows (Absent p)
 
-pub ends : (r : List ℕ) (rows : List (List ℕ)) → Ends r rows (lookUp r rows)
+ends : (r : List ℕ) (rows : List (List ℕ)) → Ends r rows (lookUp r rows)
 ends r [] = at-larger 0 (omega arith) (λ l. absurd (omega arith)) (λ k l. absurd (omega arith))
 ends r (s ∷ rows) = go (tested (before r s)) (tested (sameRow r s)) (ends r rows)
   where

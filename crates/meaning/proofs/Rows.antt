@@ -300,3 +300,20 @@ setOf-mem rows long r = (λ m. elim (insertAll-at [] rows m) [ inl k ↦ absurd 
 
 pub setOf-ascends : (rows : List (List ℕ)) → ascending (setOf rows) ≡ true
 setOf-ascends rows = insertAll-ascends [] rows refl
+
+-- the order in which rows are put in makes no difference
+pub insertAll-same : (n : ℕ) (set xs ys : List (List ℕ)) → ascending set ≡ true → OfLength n set → OfLength n xs → ((u : List ℕ) → List·Memᴰ u xs ↔ List·Memᴰ u ys) → insertAll set xs ≡ insertAll set ys
+insertAll-same n set xs ys up long wide same =
+    ascending-same (insertAll set xs) (insertAll set ys) (insertAll-ascends set xs up) (insertAll-ascends set ys up)
+    (λ r. (λ m. one r (insertAll-at set xs m), λ m. other r (insertAll-at set ys m)))
+  where
+    one : (r : List ℕ) → List·Memᴰ r set ⊎ List·Memᴰ r xs → List·Memᴰ r (insertAll set ys)
+    one r (inl m) = insertAll-keeps ys m
+    one r (inr m) = insertAll-puts set long (λ u o. wide u (same u .1 o)) (same r .0 m)
+
+    other : (r : List ℕ) → List·Memᴰ r set ⊎ List·Memᴰ r ys → List·Memᴰ r (insertAll set xs)
+    other r (inl m) = insertAll-keeps xs m
+    other r (inr m) = insertAll-puts set long wide (same r .1 m)
+
+pub setOf-same : {n : ℕ} (xs ys : List (List ℕ)) → OfLength n xs → ((r : List ℕ) → List·Memᴰ r xs ↔ List·Memᴰ r ys) → setOf xs ≡ setOf ys
+setOf-same {n} xs ys long same = insertAll-same n [] xs ys refl (λ s k. absurd (List·Memᴰ·not-nil k)) long same

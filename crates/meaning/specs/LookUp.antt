@@ -15,7 +15,7 @@ abbrev pub onward : ℕ → Sought → Sought
 onward k (There p) = There (k + p)
 onward k (Absent p) = Absent (k + p)
 
--- "from the front, one after another: the place of the first equal one unless a larger one comes before it, else 'isn't there'"
+-- "from the front, one after another: the place of the first equal one unless a larger one comes before it, else 'isn't there'"; then with the place where the search has stopped, at the first larger one or behind all
 abbrev pub lookUp : List ℕ → List (List ℕ) → Sought
 lookUp r [] = Absent 0
 lookUp r (s ∷ rows) = cond (before r s) (Absent 0) (cond (sameRow r s) (There 0) (onward 1 (lookUp r rows)))

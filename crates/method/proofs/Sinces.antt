@@ -2,7 +2,7 @@
 use Prim.Native.Nat.{ℕ, suc, _+_, _-_, _≤_, _<_, min}
 use mathlib.Core.Path.{_≡_, refl, sym, _∙_, ap, ap₂, fun-ext}
 use mathlib.Core.Bool.{Bool, true, false, cond, _&&_, _||_, and-eq-true-iff}
-use mathlib.Core.Logic.{_↔_, _⊎_, inl, inr, Iff·trans, Iff·symm, Iff·rfl}
+use mathlib.Core.Logic.{_↔_, _⊎_, inl, inr, Iff·trans, Iff·rfl}
 use mathlib.Core.List.{List, [], _∷_, _++_, map, List·Memᴰ, List·Memᴰ·not-nil, List·Memᴰ·append-cases, Memᴰ·append-left, Memᴰ·append-right, Memᴰ·cast, Memᴰ·map, Memᴰ·of-map}
 use lib.ListN.{length, getD, drop}
 use lib.Dec.{ltb, leb, eqb}
@@ -18,7 +18,7 @@ use Rattle.meaning.specs.declared.Point.{Point}
 use Rattle.meaning.specs.declared.Stamp.{Stamp}
 use Rattle.meaning.specs.declared.Window.{Window}
 use Rattle.meaning.proofs.Points.{both, second, all-same, select-same, Tested, passed, failed, tested}
-use Rattle.meaning.proofs.Rows.{both-ways, select-at, select-of, gather-at, gather-of, points-at, points-of, all-points, setOf-mem, setOf-ascends, ascending-same}
+use Rattle.meaning.proofs.Rows.{both-ways, select-at, select-of, gather-at, gather-of, points-at, points-of, all-points, setOf-mem, setOf-same}
 use Rattle.meaning.proofs.Agreement.{lasting-mem}
 use Rattle.method.specs.Settle.{backFrom, ageNow, outlasts, rowsSince, pairsSince}
 use Rattle.method.proofs.Lists.{map-same, gather-chosen, back-at, back-of}
@@ -61,12 +61,6 @@ module _ (w : Window) where
       go : (t : Bool) → (t || ltb b (w .end)) ≡ true → (t || ltb a (w .end)) ≡ true
       go true e = refl
       go false e = lt-ltb a (w .end) (omega (arith, ltb-true b (w .end) e))
-
--- lists with the same rows, all of one length, are the same set
-sets-same : {n : ℕ} (xs ys : List (List ℕ)) → OfLength n xs → ((r : List ℕ) → List·Memᴰ r xs ↔ List·Memᴰ r ys) → setOf xs ≡ setOf ys
-sets-same xs ys long same =
-    ascending-same (setOf xs) (setOf ys) (setOf-ascends xs) (setOf-ascends ys)
-    (λ r. Iff·trans (setOf-mem xs long r) (Iff·trans (same r) (Iff·symm (setOf-mem ys (λ s m. long s (same s .1 m)) r))))
 
 module _ (τ : Point → Stamp) (w : Window) (left : List ℕ → Point → Bool) (right : Point → List (List ℕ)) where
   abbrev age : Point → Point → ℕ
@@ -203,7 +197,7 @@ module _ (τ : Point → Stamp) (w : Window) (left : List ℕ → Point → Bool
 
       straight-right : setOf (straight test made held start i) ≡ setOf (madeFrom test made i points)
       straight-right =
-          sym (sets-same (madeFrom test made i points) (straight test made held start i) (made-length long reading i points) (λ r. (
+          sym (setOf-same (madeFrom test made i points) (straight test made held start i) (made-length long reading i points) (λ r. (
             λ m. let x = made-mem test made i points r .0 m in placed x (tested (ltb (x .0 .0) (start .0))),
             λ m. made-mem test made i points r .1 (found (List·Memᴰ·append-cases (madeFrom test made i fresh) m)),
           )))

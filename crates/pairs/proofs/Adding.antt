@@ -7,12 +7,13 @@ use lib.ListN.{length, length-append}
 use Rattle.meaning.specs.Evaluator.{insert}
 use Rattle.meaning.specs.LookUp.{lookUp}
 use Rattle.meaning.specs.declared.Sought.the-variants.{There, Absent}
+use Rattle.meaning.proofs.LookUp.{insert-there}
 use Rattle.rowset.specs.Rows.{wordsOf}
 use Rattle.rowset.specs.Sets.{Led}
 use Rattle.rowset.specs.declared.Row.{Row}
 use Rattle.rowset.specs.declared.Gathered.{Gathered}
 use Rattle.rowset.proofs.Saturation.{insert-longer}
-use Rattle.rowset.proofs.Searching.{there-led, there-stays, absent-within, absent-goes, put-led}
+use Rattle.rowset.proofs.Searching.{there-led, absent-within, absent-goes, put-led}
 use Rattle.kinds.specs.Kinds.{pairAt, pairsFrom}
 use Rattle.pairs.specs.Pairs.{PairRoom, PairsStand, PairsAdded}
 use Rattle.pairs.proofs.Runs.{pairs-length}
@@ -33,10 +34,6 @@ add-beyond x room l =
 module _ (ages values : List ℕ) (set : Gathered) (age : ℕ) (r : Row) (p : ℕ) (room : PairRoom ages values set) where
   -- the pair is there, and the set stays
   module _ (e : lookUp (age ∷ wordsOf r) (pairsFrom ages values 0 (set .count)) ≡ There p) where
-    stays : insert (age ∷ wordsOf r) (pairsFrom ages values 0 (set .count)) ≡ pairsFrom ages values 0 (set .count)
-    unfolding pairsFrom
-    stays = there-stays (pairAt ages values) (age ∷ wordsOf r) (λ k. refl) (set .count) p e
-
     led-there : Led (pairAt ages values) p
     unfolding pairsFrom
     led-there = there-led (pairAt ages values) (age ∷ wordsOf r) (λ k. refl) (set .count) p e
@@ -47,7 +44,7 @@ module _ (ages values : List ℕ) (set : Gathered) (age : ℕ) (r : Row) (p : �
           agesLong = refl;
           valuesLong = refl;
           room = record { most = room .most; valuesThere = room .valuesThere; led = led-there };
-          put = λ s h. subst (PairsStand ages values (set .count)) (sym (h .set f) ∙ sym stays ∙ ap (insert (age ∷ wordsOf r)) (h .set f)) h;
+          put = λ s h. subst (PairsStand ages values (set .count)) (sym (h .set f) ∙ sym (insert-there (age ∷ wordsOf r) (pairsFrom ages values 0 (set .count)) p e) ∙ ap (insert (age ∷ wordsOf r)) (h .set f)) h;
         }
 
   module _ (e : lookUp (age ∷ wordsOf r) (pairsFrom ages values 0 (set .count)) ≡ Absent p) where

@@ -3,7 +3,7 @@
 use Prim.Native.Nat.{ℕ, _+_, _-_, _*_, _≤_, _<_}
 use mathlib.Core.Path.{_≡_, refl, sym, ap, subst, _∙_}
 use mathlib.Core.Bool.{Bool, true, false, cond}
-use mathlib.Core.Logic.{_⊎_, inl, inr, _↔_}
+use mathlib.Core.Logic.{_↔_}
 use mathlib.Core.List.{List, [], _∷_, _++_, map, append-nil, append-assoc, List·Memᴰ}
 use native.Mathlib.Omega.{arith}
 use lib.ListN.{length}
@@ -13,7 +13,7 @@ use Rattle.meaning.specs.Lists.{range, select}
 use Rattle.meaning.specs.Order.{ascending, OfLength}
 use Rattle.meaning.specs.Evaluator.{insertAll, setOf}
 use Rattle.meaning.proofs.Points.{Tested, passed, failed, tested}
-use Rattle.meaning.proofs.Rows.{ascending-same, insertAll-at, insertAll-keeps, insertAll-puts, insertAll-ascends}
+use Rattle.meaning.proofs.Rows.{insertAll-same}
 use Rattle.rowset.specs.declared.Gathered.{Gathered}
 use Rattle.rowset.specs.Rows.{rowsFrom, mostHeld, addCapped, addAllCapped}
 use Rattle.rowset.specs.Sets.{SetRoom, Added, SetMade, fromFront, GatherRoom, Gathers}
@@ -115,7 +115,7 @@ module _ {old : List ℕ} {n : ℕ} {new : List ℕ} {k : ℕ} {set rows : List 
   counted = ap length (sym (h .set)) ∙ rows-length new 0 k
 
   -- a set that is too large stays so
-  pub stays-full : 32 < n → k ≡ n
+  stays-full : 32 < n → k ≡ n
   stays-full l = sym counted ∙ ap length (full-stays (rowsFrom old 0 n) rows (omega (arith, rows-length old 0 n))) ∙ rows-length old 0 n
 
   few-then : n ≤ 32 → length (insertAll set rows) ≤ 32 → rowsFrom new 0 k ≡ insertAll set rows
@@ -146,27 +146,14 @@ module _ {old : List ℕ} {n : ℕ} {new : List ℕ} {k : ℕ} {set rows : List 
           absurd (omega (arith, rows-length new 0 k, ap length (few-then (leb-true n 32 d) m)))
       many (failed d) (passed e) l = absurd (omega (arith, s .many (leb-false n 32 d), insertAll-longer set rows, leb-true (length (insertAll set rows)) 32 e))
 
-pub none-made : (ws : List ℕ) → SetMade ws 0 []
+none-made : (ws : List ℕ) → SetMade ws 0 []
 none-made ws = record { most = omega arith; few = λ l. rows-none ws; many = λ l. absurd (omega arith) }
 
 -- rows put into nothing
 pub set-made : {old new : List ℕ} {k : ℕ} {rows : List (List ℕ)} → Added old 0 new k rows → SetMade new k (setOf rows)
 set-made {old} h = made-more (none-made old) h
 
--- the order in which rows are put in makes no difference
-pub insertAll-same : (n : ℕ) (set xs ys : List (List ℕ)) → ascending set ≡ true → OfLength n set → OfLength n xs → ((u : List ℕ) → List·Memᴰ u xs ↔ List·Memᴰ u ys) → insertAll set xs ≡ insertAll set ys
-insertAll-same n set xs ys up long wide same =
-    ascending-same (insertAll set xs) (insertAll set ys) (insertAll-ascends set xs up) (insertAll-ascends set ys up)
-    (λ r. (λ m. one r (insertAll-at set xs m), λ m. other r (insertAll-at set ys m)))
-  where
-    one : (r : List ℕ) → List·Memᴰ r set ⊎ List·Memᴰ r xs → List·Memᴰ r (insertAll set ys)
-    one r (inl m) = insertAll-keeps ys m
-    one r (inr m) = insertAll-puts set long (λ u o. wide u (same u .1 o)) (same r .0 m)
-
-    other : (r : List ℕ) → List·Memᴰ r set ⊎ List·Memᴰ r ys → List·Memᴰ r (insertAll set xs)
-    other r (inl m) = insertAll-keeps xs m
-    other r (inr m) = insertAll-puts set long wide (same r .1 m)
-
+-- rows put in in another order
 pub made-same : {old : List ℕ} {n : ℕ} {new : List ℕ} {k : ℕ} {set order : List (List ℕ)} (rows : List (List ℕ)) → ascending set ≡ true → OfLength 4 order → ((u : List ℕ) → List·Memᴰ u order ↔ List·Memᴰ u rows) → SetMade old n set → Added old n new k order
     → SetMade new k (insertAll set rows)
 made-same {old} {n} {new} {k} {set} {order} rows up wide same s h = go (tested (leb n 32))

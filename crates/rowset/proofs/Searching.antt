@@ -16,7 +16,7 @@ use Rattle.meaning.specs.declared.Sought.the-variants.{There, Absent}
 use Rattle.meaning.proofs.Points.{Tested, passed, failed, tested}
 use Rattle.meaning.proofs.Rows.{before-transitive, same-row}
 use Rattle.meaning.proofs.Order.{asymmetric, total, after-other}
-use Rattle.meaning.proofs.LookUp.{look-on, look-there, look-absent, onward-twice, looks-up, insert-there, insert-absent}
+use Rattle.meaning.proofs.LookUp.{look-on, look-there, look-absent, onward-twice, looks-up, insert-absent}
 use Rattle.rowset.specs.declared.Compared.{Compared}
 use Rattle.rowset.specs.declared.Compared.the-variants.{Before, Same, After}
 use Rattle.rowset.specs.Rows.{comparedBy, compared}
@@ -147,7 +147,7 @@ module _ (at : ℕ → List ℕ) (x : List ℕ) (long : (k : ℕ) → length (at
         go (failed b) f = absurd (true≢false (sym (total x (at k) (sym (long k)) (f .0) b) ∙ f .1))
 
     module _ (e : lookUp x (map at (range 0 n)) ≡ There p) where
-      pub there-within : p < n
+      there-within : p < n
       there-within = omega (arith, looks-up .there x (map at (range 0 n)) p e .0, run-length at 0 n)
 
       pub there-led : Led at p
@@ -155,9 +155,6 @@ module _ (at : ℕ → List ℕ) (x : List ℕ) (long : (k : ℕ) → length (at
           let z : 0 + p ≡ p = omega arith in
           let q : at p ≡ x = sym (ap at z) ∙ sym (run-at at [] 0 n p there-within) ∙ looks-up .there x (map at (range 0 n)) p e .1 in
           ap (before (at k)) q ∙ all-passed (omega (arith, there-within)) (looks-up .there x (map at (range 0 n)) p e .2) k l
-
-      pub there-stays : insert x (map at (range 0 n)) ≡ map at (range 0 n)
-      there-stays = insert-there x (map at (range 0 n)) p e
 
     module _ (e : lookUp x (map at (range 0 n)) ≡ Absent p) where
       pub absent-within : p ≤ n
