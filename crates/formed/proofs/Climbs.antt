@@ -1,4 +1,4 @@
--- Entries tested in loops: that they ascend, which bits their rows have, and that no more have one number than a point may have rows; and what these say of a node's rows and pairs.
+-- Entries tested in loops: that they ascend, their joined numbers, which bits their rows have, and that no more have one number than a point may have rows; and what these say of a node's rows and pairs.
 use Prim.Native.Nat.{ℕ, zero, suc, _+_, _-_, _*_, _/_, _%_, _≤_, _<_}
 use native.Mathlib.Nat.{eq-or-lt-of-le}
 use native.Mathlib.Omega.{arith}
@@ -12,13 +12,14 @@ use lib.Dec.{leb, eqb}
 use borrow.Author.Tests.{le-leb, lt-leb, leb-true, eqb-true, eqb-false}
 use Rattle.meaning.specs.Outcome.{mostRows}
 use Rattle.meaning.specs.Order.{before}
+use Rattle.meaning.specs.Formula.{lowestOf}
 use Rattle.meaning.specs.declared.Point.{Point}
 use Rattle.meaning.specs.declared.Window.{Window}
 use Rattle.meaning.proofs.Points.{first, second, both, Tested, passed, failed, tested}
 use Rattle.rowset.specs.Rows.{wordsOf, rowAt}
 use Rattle.rowset.specs.declared.Row.{Row}
-use Rattle.kinds.specs.Kinds.{pairAt, pairsFrom}
-use Rattle.formed.specs.Tests.{Tells, rowCut, ageFits, pairCut, agedFit, mostOf, rowUnder, joinedBits, Rising, FewAlike, SetsFit}
+use Rattle.kinds.specs.Kinds.{inMask, pairAt, pairsFrom}
+use Rattle.formed.specs.Tests.{Tells, rowCut, ageFits, pairCut, agedFit, mostOf, rowUnder, joinedBits, jointAt, Rising, FewAlike, SetsFit}
 use Rattle.formed.proofs.Ascents.{rising-passes, passes-rising, pairs-fit}
 use Rattle.formed.proofs.Masks.{row-under}
 use Rattle.formed.proofs.Ordered.{rises}
@@ -40,27 +41,40 @@ said-not false e h = h
 -- ---- entries that ascend
 
 -- what an accessor gives from one number up to another: each stands before the next
-pub record Ascends (at : ℕ → List ℕ) (from to : ℕ) : Type 0 where
-  pub up : (i : ℕ) → from ≤ i → i + 1 < to → before (at i) (at (i + 1)) ≡ true
+pub record Ascends (lowest : ℕ) (at : ℕ → List ℕ) (from to : ℕ) : Type 0 where
+  pub up : (i : ℕ) → from ≤ i → i + 1 < to → before lowest (at i) (at (i + 1)) ≡ true
 
-module _ (at : ℕ → List ℕ) (from : ℕ) where
-  pub ascends-one : (to : ℕ) → to ≤ from + 1 → Ascends at from to
+module _ (lowest : ℕ) (at : ℕ → List ℕ) (from : ℕ) where
+  pub ascends-one : (to : ℕ) → to ≤ from + 1 → Ascends lowest at from to
   ascends-one to l = record { up = λ i u m. absurd (omega arith) }
 
-  pub ascends-more : (i : ℕ) → from < i → Ascends at from i → before (at (i - 1)) (at i) ≡ true → Ascends at from (i + 1)
+  pub ascends-more : (i : ℕ) → from < i → Ascends lowest at from i → before lowest (at (i - 1)) (at i) ≡ true → Ascends lowest at from (i + 1)
   ascends-more i l h t = record { up = λ j u m. next j u (eq-or-lt-of-le (let w : j + 1 ≤ i = omega arith in w)) }
     where
-      next : (j : ℕ) → from ≤ j → (j + 1 ≡ i) ⊎ (j + 1 < i) → before (at j) (at (j + 1)) ≡ true
+      next : (j : ℕ) → from ≤ j → (j + 1 ≡ i) ⊎ (j + 1 < i) → before lowest (at j) (at (j + 1)) ≡ true
       next j u (inl e) =
           let d : j ≡ i - 1 = omega arith in
-          ap₂ (λ a b. before (at a) (at b)) d e ∙ t
+          ap₂ (λ a b. before lowest (at a) (at b)) d e ∙ t
       next j u (inr m) = h .up j u m
 
-  pub ascends-fails : (i to : ℕ) → from < i → i < to → before (at (i - 1)) (at i) ≡ false → Ascends at from to → ⊥
+  pub ascends-fails : (i to : ℕ) → from < i → i < to → before lowest (at (i - 1)) (at i) ≡ false → Ascends lowest at from to → ⊥
   ascends-fails i to l m t h =
       let z : i - 1 + 1 ≡ i = omega arith in
-      let up : before (at (i - 1)) (at i) ≡ true = rw z at (h .up (i - 1) (omega arith) (omega arith)) in
+      let up : before lowest (at (i - 1)) (at i) ≡ true = rw z at (h .up (i - 1) (omega arith) (omega arith)) in
       true≢false (sym up ∙ t)
+
+-- ---- joined numbers
+
+module _ (ns vs : List ℕ) (k : ℕ) where
+  -- entry k's, from its row
+  pub joint-at : (row : Row) {n : ℕ} → wordsOf row ≡ rowAt vs k → n ≡ getD ns k 0 * 4294967296 + row .v0 → n ≡ jointAt ns vs k
+  joint-at row e h = h ∙ ap (λ u. getD ns k 0 * 4294967296 + getD u 0 0) e
+
+  -- it is that of the last entry before the next
+  pub joint-last : {n : ℕ} → n ≡ jointAt ns vs k → n ≡ jointAt ns vs (k + 1 - 1)
+  joint-last h =
+      let z : k ≡ k + 1 - 1 = omega arith in
+      h ∙ ap (jointAt ns vs) z
 
 -- ---- the bits of words
 
@@ -172,7 +186,7 @@ module _ (vs : List ℕ) (words : (i : ℕ) → getD vs i 0 < 4294967296) (from 
         at i u l = words-under m (record { v0 = getD vs (i * 4) 0; v1 = getD vs (i * 4 + 1) 0; v2 = getD vs (i * 4 + 2) 0; v3 = getD vs (i * 4 + 3) 0 }) (row-under mask vs words i ∙ c i u l)
 
   -- so entries that ascend are a node's where the test of all their bits says so
-  pub rising-tells : (ns : List ℕ) (mask to : ℕ) (r : Row) → Ascends (pairAt ns vs) from to → BitsOf vs from to r → (t : Bool) → t ≡ rowUnder (mostOf mask) (wordsOf r) → Tells t (Rising (pairAt ns vs) (λ p. rowCut mask (drop 1 p)) from to)
+  pub rising-tells : (ns : List ℕ) (mask to : ℕ) (r : Row) → Ascends (suc (lowestOf (inMask mask))) (pairAt ns vs) from to → BitsOf vs from to r → (t : Bool) → t ≡ rowUnder (mostOf mask) (wordsOf r) → Tells t (Rising (suc (lowestOf (inMask mask))) (pairAt ns vs) (λ p. rowCut mask (drop 1 p)) from to)
   rising-tells ns mask to r a h true e = record { each = bits-cut mask to r h (sym e); up = a .up }
   rising-tells ns mask to r a h false e = λ g. true≢false (sym (cut-bits mask to r h (g .each)) ∙ sym e)
 
@@ -221,7 +235,7 @@ sets-empty ns vs mask from to low end e =
 
 module _ (ns vs : List ℕ) (mask from to : ℕ) where
   -- the first and the last number say where all are
-  pub sets-are : (low end : Point) → from < to → low .0 ≤ getD ns from 0 → getD ns (to - 1) 0 < end .0 → Rising (pairAt ns vs) (λ p. rowCut mask (drop 1 p)) from to → FewAlike ns from to → SetsFit ns vs from to low end mask
+  pub sets-are : (low end : Point) → from < to → low .0 ≤ getD ns from 0 → getD ns (to - 1) 0 < end .0 → Rising (suc (lowestOf (inMask mask))) (pairAt ns vs) (λ p. rowCut mask (drop 1 p)) from to → FewAlike ns from to → SetsFit ns vs from to low end mask
   sets-are low end l a z h few =
       record {
         rise = h;
@@ -230,8 +244,8 @@ module _ (ns vs : List ℕ) (mask from to : ℕ) where
       }
 
   module _ (w : Window) (old : ℕ) (oldest : (age : ℕ) → leb age old ≡ ageFits w age) (some : from < to) where
-    aged-rise : agedFit mask w (pairsFrom ns vs from (to - from)) ≡ true → Rising (pairAt ns vs) (pairCut mask w) from to
-    aged-rise t = passes-rising (pairAt ns vs) (pairCut mask w) to from (pairs-fit ns vs mask w from to ∙ t)
+    aged-rise : agedFit mask w (pairsFrom ns vs from (to - from)) ≡ true → Rising (suc (lowestOf (inMask mask))) (pairAt ns vs) (pairCut mask w) from to
+    aged-rise t = passes-rising (suc (lowestOf (inMask mask))) (pairAt ns vs) (pairCut mask w) to from (pairs-fit ns vs mask w from to ∙ t)
 
     not-aged : (agedFit mask w (pairsFrom ns vs from (to - from)) ≡ true → ⊥) → false ≡ agedFit mask w (pairsFrom ns vs from (to - from))
     not-aged d = go (agedFit mask w (pairsFrom ns vs from (to - from))) d
@@ -248,11 +262,11 @@ module _ (ns vs : List ℕ) (mask from to : ℕ) where
         let last : ageFits w (getD ns (to - 1) 0) ≡ true = first (ageFits w (getD ns (to - 1) 0)) (rowCut mask (rowAt vs (to - 1))) (aged-rise t .each (to - 1) (omega arith) (omega arith)) in
         true≢false (sym last ∙ sym (oldest (getD ns (to - 1) 0)) ∙ lt-leb (getD ns (to - 1) 0) old l))
 
-    pub aged-tells : getD ns (to - 1) 0 ≤ old → (t : Bool) → Tells t (Rising (pairAt ns vs) (λ p. rowCut mask (drop 1 p)) from to) → t ≡ agedFit mask w (pairsFrom ns vs from (to - from))
+    pub aged-tells : getD ns (to - 1) 0 ≤ old → (t : Bool) → Tells t (Rising (suc (lowestOf (inMask mask))) (pairAt ns vs) (λ p. rowCut mask (drop 1 p)) from to) → t ≡ agedFit mask w (pairsFrom ns vs from (to - from))
     aged-tells l true h =
         sym
         (sym (pairs-fit ns vs mask w from to)
-        ∙ rising-passes (pairAt ns vs) (pairCut mask w) to from
+        ∙ rising-passes (suc (lowestOf (inMask mask))) (pairAt ns vs) (pairCut mask w) to from
         (record {
           each = λ i u m.
               both (sym (oldest (getD ns i 0)) ∙ le-leb (getD ns i 0) old (omega (arith, rises ns vs (λ p. rowCut mask (drop 1 p)) from to h i (to - 1) u (omega arith) (omega arith)))) (h .each i u m);

@@ -10,9 +10,11 @@ use borrow.Author.Tests.{le-leb, lt-leb, eq-eqb, ne-eqb}
 use Rattle.meaning.specs.Lists.{all, sameRow}
 use Rattle.meaning.specs.Outcome.{mostRows}
 use Rattle.meaning.specs.Order.{ascending}
-use Rattle.meaning.specs.RuleFile.{maskOf}
+use Rattle.meaning.specs.Formula.{free, lowestOf}
+use Rattle.meaning.specs.RuleFile.{maskOf, formulaAt}
 use Rattle.meaning.specs.declared.Window.{Window}
 use Rattle.meaning.proofs.Rows.{words-same}
+use Rattle.meaning.proofs.OrderLaws.{lowest-same}
 use Rattle.method.specs.WellFormed.{rowOfNode, setFits, pairFits}
 use Rattle.rulefree.proofs.Free.{bits}
 use Rattle.rowset.specs.Rows.{rowAt}
@@ -47,8 +49,12 @@ module _ {b : List ℕ} {x mask : ℕ} (m : MaskOf b x mask) where
   row-same : (u : List ℕ) → rowCut mask u ≡ rowOfNode b x u
   row-same u = ap (sameRow u) (words-same (λ v l. ap (λ t. cond t (getD u v 0) 0) (m .each v l)))
 
-  pub rows-same : (rows : List (List ℕ)) → rowsFit mask rows ≡ setFits b x rows
-  rows-same rows = ap (λ p. leb (length rows) mostRows && ascending rows && all p rows) (fun-ext row-same)
+  -- the lowest free variable of the node
+  lowest-is : lowestOf (inMask mask) ≡ lowestOf (free (formulaAt b x))
+  lowest-is = lowest-same (inMask mask) (free (formulaAt b x)) (m .each)
 
-  pub aged-same : (w : Window) (pairs : List (List ℕ)) → agedFit mask w pairs ≡ (ascending pairs && all (pairFits b x w) pairs)
-  aged-same w pairs = ap (λ p. ascending pairs && all p pairs) (fun-ext (λ p. ap (λ t. ageFits w (getD p 0 0) && t) (row-same (drop 1 p))))
+  pub rows-same : (rows : List (List ℕ)) → rowsFit mask rows ≡ setFits b x rows
+  rows-same rows = ap₂ (λ k p. leb (length rows) mostRows && ascending k rows && all p rows) lowest-is (fun-ext row-same)
+
+  pub aged-same : (w : Window) (pairs : List (List ℕ)) → agedFit mask w pairs ≡ (ascending (suc (lowestOf (free (formulaAt b x)))) pairs && all (pairFits b x w) pairs)
+  aged-same w pairs = ap₂ (λ k p. ascending (suc k) pairs && all p pairs) lowest-is (fun-ext (λ p. ap (λ t. ageFits w (getD p 0 0) && t) (row-same (drop 1 p))))

@@ -12,12 +12,13 @@ use borrow.Author.Tests.{lt-ltb, ltb-true, ltb-false, leb-true, leb-false, eqb-t
 use Rattle.meaning.specs.Log.{point}
 use Rattle.meaning.specs.Outcome.{mostRows}
 use Rattle.meaning.specs.Order.{before}
+use Rattle.meaning.specs.Formula.{lowestOf}
 use Rattle.meaning.specs.Kept.{Entry}
 use Rattle.meaning.specs.declared.Point.{Point}
 use Rattle.meaning.proofs.Points.{Tested, passed, failed, tested, first, second, both}
 use Rattle.rowset.specs.Rows.{rowAt, rowsFrom}
 use Rattle.rowset.proofs.Runs.{run-first}
-use Rattle.kinds.specs.Kinds.{pairAt}
+use Rattle.kinds.specs.Kinds.{inMask, pairAt}
 use Rattle.entries.specs.Entries.{entryAt, entriesFrom, begins, streak, isWord, runOf, hasOwner, isEntry}
 use Rattle.entries.proofs.Streaks.{streak-within, streak-all}
 use Rattle.entries.proofs.Walking.{isOf, entryRun}
@@ -62,40 +63,40 @@ own-run os cursor count owner l e = streaked (isWord os owner) cursor count l e
 
 -- ---- pairs of a number and a row, in their order
 
-module _ (a b : ℕ) (u v : List ℕ) where
-  pub before-le : before (a ∷ u) (b ∷ v) ≡ true → a ≤ b
+module _ (lowest a b : ℕ) (u v : List ℕ) where
+  pub before-le : before (suc lowest) (a ∷ u) (b ∷ v) ≡ true → a ≤ b
   before-le h = go (tested (ltb a b))
     where
       go : Tested (ltb a b) → a ≤ b
       go (passed t) = let l : a < b = ltb-true a b t in omega arith
-      go (failed t) = let k : (eqb a b && before u v) ≡ true = rw t at h in let e : a ≡ b = eqb-true a b (first (eqb a b) (before u v) k) in omega arith
+      go (failed t) = let k : (eqb a b && before lowest u v) ≡ true = rw t at h in let e : a ≡ b = eqb-true a b (first (eqb a b) (before lowest u v) k) in omega arith
 
-  before-lt : a < b → before (a ∷ u) (b ∷ v) ≡ true
+  before-lt : a < b → before (suc lowest) (a ∷ u) (b ∷ v) ≡ true
   before-lt l = rw (lt-ltb a b l)
 
-  before-same : a ≡ b → before u v ≡ true → before (a ∷ u) (b ∷ v) ≡ true
+  before-same : a ≡ b → before lowest u v ≡ true → before (suc lowest) (a ∷ u) (b ∷ v) ≡ true
   before-same e h = go (tested (ltb a b))
     where
-      go : Tested (ltb a b) → before (a ∷ u) (b ∷ v) ≡ true
+      go : Tested (ltb a b) → before (suc lowest) (a ∷ u) (b ∷ v) ≡ true
       go (passed t) = rw t
       go (failed t) = rw (t, eq-eqb a b e) h
 
-  before-rows : a ≡ b → before (a ∷ u) (b ∷ v) ≡ true → before u v ≡ true
+  before-rows : a ≡ b → before (suc lowest) (a ∷ u) (b ∷ v) ≡ true → before lowest u v ≡ true
   before-rows e h = go (tested (ltb a b))
     where
-      go : Tested (ltb a b) → before u v ≡ true
+      go : Tested (ltb a b) → before lowest u v ≡ true
       go (passed t) = let l : a < b = ltb-true a b t in absurd (omega arith)
-      go (failed t) = let k : (eqb a b && before u v) ≡ true = rw t at h in second (eqb a b) (before u v) k
+      go (failed t) = let k : (eqb a b && before lowest u v) ≡ true = rw t at h in second (eqb a b) (before lowest u v) k
 
 -- numbers that ascend, over any distance
-pub rises : (ns vs : List ℕ) (p : List ℕ → Bool) (from to : ℕ) → Rising (pairAt ns vs) p from to → (i j : ℕ) → from ≤ i → i ≤ j → j < to → getD ns i 0 ≤ getD ns j 0
-rises ns vs p from to h i j u l o = let z : i + (j - i) ≡ j = omega arith in rw z at (go (j - i) (omega arith))
+pub rises : {lowest : ℕ} (ns vs : List ℕ) (p : List ℕ → Bool) (from to : ℕ) → Rising (suc lowest) (pairAt ns vs) p from to → (i j : ℕ) → from ≤ i → i ≤ j → j < to → getD ns i 0 ≤ getD ns j 0
+rises {lowest} ns vs p from to h i j u l o = let z : i + (j - i) ≡ j = omega arith in rw z at (go (j - i) (omega arith))
   where
     go : (d : ℕ) → i + d < to → getD ns i 0 ≤ getD ns (i + d) 0
     go zero m = let z : i + 0 ≡ i = omega arith in rw z (omega arith)
     go (suc d) m =
         let z : i + suc d ≡ i + d + 1 = omega arith in
-        let s : getD ns (i + d) 0 ≤ getD ns (i + d + 1) 0 = before-le (getD ns (i + d) 0) (getD ns (i + d + 1) 0) (rowAt vs (i + d)) (rowAt vs (i + d + 1)) (h .up (i + d) (omega arith) (omega arith)) in
+        let s : getD ns (i + d) 0 ≤ getD ns (i + d + 1) 0 = before-le lowest (getD ns (i + d) 0) (getD ns (i + d + 1) 0) (rowAt vs (i + d)) (rowAt vs (i + d + 1)) (h .up (i + d) (omega arith) (omega arith)) in
         rw z (omega (arith, go d (omega arith)))
 
 -- ---- a node's runs, point by point
@@ -142,7 +143,7 @@ module _ (os ns vs : List ℕ) (count cursor x to : ℕ) (low : Point) (mask : �
         (go (tested (leb (r - a) mostRows)))
         (record {
           each = λ i v m. h .rise .each i (omega arith) (omega arith);
-          up = λ i v m. before-rows (getD ns i 0) (getD ns (i + 1) 0) (rowAt vs i) (rowAt vs (i + 1)) (o .numbered i v (omega arith) ∙ sym (o .numbered (i + 1) (omega arith) m)) (h .rise .up i (omega arith) (omega arith));
+          up = λ i v m. before-rows (lowestOf (inMask mask)) (getD ns i 0) (getD ns (i + 1) 0) (rowAt vs i) (rowAt vs (i + 1)) (o .numbered i v (omega arith) ∙ sym (o .numbered (i + 1) (omega arith) m)) (h .rise .up i (omega arith) (omega arith));
         })
       where
         go : Tested (leb (r - a) mostRows) → r - a ≤ mostRows
@@ -208,7 +209,7 @@ module _ (os ns vs : List ℕ) (count cursor x to : ℕ) (low : Point) (mask : �
       rest : restAt os ns vs count a ≡ setsRest x low k whole
       owned : (i : ℕ) → cursor ≤ i → i < a → isWord os (x * 2) i ≡ true
       inside : (i : ℕ) → cursor ≤ i → i < a → (low .0 ≤ getD ns i 0) × (getD ns i 0 < low .0 + k)
-      rise : Rising (pairAt ns vs) (λ p. rowCut mask (drop 1 p)) cursor a
+      rise : Rising (suc (lowestOf (inMask mask))) (pairAt ns vs) (λ p. rowCut mask (drop 1 p)) cursor a
       few : (i : ℕ) → cursor ≤ i → i + mostRows < a → getD ns i 0 ≡ getD ns (i + mostRows) 0 → ⊥
 
     module _ (k a : ℕ) (l : k < n) (t : Been k a) where
@@ -218,7 +219,7 @@ module _ (os ns vs : List ℕ) (count cursor x to : ℕ) (low : Point) (mask : �
       o : OneRun a (low .0 + k) r
       o = one-run a (low .0 + k) (t .within)
 
-      rows : (r - a ≤ mostRows) × Rising (rowAt vs) (rowCut mask) a r
+      rows : (r - a ≤ mostRows) × Rising (lowestOf (inMask mask)) (rowAt vs) (rowCut mask) a r
       rows = rows-rise vs mask a r (sym (ap (rowsFit mask) (found-here cursor low k (t .rest) (o .found))) ∙ fits (point (low .0 + k)) (omega arith) (omega arith))
 
       farther : Been (suc k) r
@@ -243,12 +244,12 @@ module _ (os ns vs : List ℕ) (count cursor x to : ℕ) (low : Point) (mask : �
               go (passed e) = f (ltb-true i a e)
               go (failed e) = g (ltb-false i a e)
 
-          across : (i : ℕ) → cursor ≤ i → i < a → getD ns (i + 1) 0 ≡ low .0 + k → before (pairAt ns vs i) (pairAt ns vs (i + 1)) ≡ true
-          across i u v e = before-lt (getD ns i 0) (getD ns (i + 1) 0) (rowAt vs i) (rowAt vs (i + 1)) (omega (arith, t .inside i u v .1))
+          across : (i : ℕ) → cursor ≤ i → i < a → getD ns (i + 1) 0 ≡ low .0 + k → before (suc (lowestOf (inMask mask))) (pairAt ns vs i) (pairAt ns vs (i + 1)) ≡ true
+          across i u v e = before-lt (lowestOf (inMask mask)) (getD ns i 0) (getD ns (i + 1) 0) (rowAt vs i) (rowAt vs (i + 1)) (omega (arith, t .inside i u v .1))
 
-          within-run : (i : ℕ) → a ≤ i → i + 1 < r → before (pairAt ns vs i) (pairAt ns vs (i + 1)) ≡ true
+          within-run : (i : ℕ) → a ≤ i → i + 1 < r → before (suc (lowestOf (inMask mask))) (pairAt ns vs i) (pairAt ns vs (i + 1)) ≡ true
           within-run i v m =
-              before-same (getD ns i 0) (getD ns (i + 1) 0) (rowAt vs i) (rowAt vs (i + 1)) (o .numbered i v (omega arith) ∙ sym (o .numbered (i + 1) (omega arith) m)) (rows .1 .up i v m)
+              before-same (lowestOf (inMask mask)) (getD ns i 0) (getD ns (i + 1) 0) (rowAt vs i) (rowAt vs (i + 1)) (o .numbered i v (omega arith) ∙ sym (o .numbered (i + 1) (omega arith) m)) (rows .1 .up i v m)
 
     been : (k : ℕ) → k ≤ n → (a : ℕ) × Been k a
     been zero l = (
@@ -287,7 +288,7 @@ module _ (os ns vs : List ℕ) (count cursor x to : ℕ) (low : Point) (mask : �
           let (a, t) = been n (omega arith) in
           let e : a ≡ to = meets a t in
           record {
-            rise = subst (λ r. Rising (pairAt ns vs) (λ p. rowCut mask (drop 1 p)) cursor r) e (t .rise);
+            rise = subst (λ r. Rising (suc (lowestOf (inMask mask))) (pairAt ns vs) (λ p. rowCut mask (drop 1 p)) cursor r) e (t .rise);
             inside = λ i u l. let w = t .inside i u (omega arith) in (w .0, omega (arith, w .0, w .1));
             few = record { apart = λ i u l d. t .few i u (omega arith) d };
           }

@@ -14,7 +14,7 @@ use rowset::Row;
 ghost use mathlib.Core.Path.{_≡_};
 ghost use mathlib.Core.Bool.{true, _&&_, _||_};
 ghost use mathlib.Core.List.{[], _∷_, _++_};
-ghost use Prim.Native.Nat.{ℕ, _+_, _-_, _*_, _≤_, _<_};
+ghost use Prim.Native.Nat.{ℕ, suc, _+_, _-_, _*_, _≤_, _<_};
 ghost use lib.ListN.{length, getD, drop};
 ghost use lib.Dec.{leb, eqb};
 ghost use Rattle.meaning.specs.Outcome.{given, mostPoints, mostKept};
@@ -22,17 +22,18 @@ ghost use Rattle.meaning.specs.View.{viewOf};
 ghost use Rattle.meaning.specs.RuleFile.{Accepted, checking, isAccepted, nodeCount, nodeAt};
 ghost use Rattle.meaning.specs.Log.{point};
 ghost use Rattle.meaning.specs.Order.{before};
+ghost use Rattle.meaning.specs.Formula.{lowestOf};
 ghost use Rattle.method.specs.Stored.{leastOf, firstRetained};
 ghost use Rattle.method.specs.Step.{wantedFrom};
 ghost use Rattle.method.specs.WellFormed.{mostTimes, notFalling, pairsFit, wellFormed};
 ghost use Rattle.progress.specs.Bounds.{Within};
 ghost use Rattle.rowset.specs.Rows.{wordsOf};
-ghost use Rattle.kinds.specs.Kinds.{pairAt, pairsFrom};
+ghost use Rattle.kinds.specs.Kinds.{inMask, pairAt, pairsFrom};
 ghost use Rattle.entries.specs.Entries.{entriesFrom, EntriesWithin};
 ghost use Rattle.formed.specs.StateFigures.{storedIn, StateFigures, EntryPlaces};
 ghost use Rattle.formed.specs.Parts.{CountsStand, timesFit, keptFit};
 ghost use Rattle.formed.specs.Walk.{entriesFit};
-ghost use Rattle.formed.specs.Tests.{Tells, MaskOf, rowCut, mostOf, rowUnder, joinedBits, Rising, FewAlike, SetsFit, ageFits, agedFit};
+ghost use Rattle.formed.specs.Tests.{Tells, MaskOf, rowCut, mostOf, rowUnder, joinedBits, jointAt, Rising, FewAlike, SetsFit, ageFits, agedFit};
 ghost use Rattle.formed.specs.Steps.{NodeEnded, EntriesPlaced};
 
 // The largest word.
@@ -85,12 +86,13 @@ fn joined(x: Row, y: Row) -> Row
     }
 }
 
-// Entry i stands behind the one before it, by its number and then by its row.
-fn is_behind(numbers: &[u32], values: &[u32], i: usize) -> bool
+// Entry i of a node with this lowest free variable stands behind the one before it, by its number and then by its row.
+fn is_behind(lowest: u32, numbers: &[u32], values: &[u32], i: usize) -> bool
     requires { ⌜ (0 < i) × (i < length (now numbers)) × (i * 4 + 4 ≤ length (now values)) ⌝ }
-    ensures { λ t. ⌜ t ≡ before (pairAt (now (numbers .entry)) (now (values .entry)) (i - 1)) (pairAt (now (numbers .entry)) (now (values .entry)) i) ⌝ }
+    ensures { λ t. ⌜ t ≡ before (suc lowest) (pairAt (now (numbers .entry)) (now (values .entry)) (i - 1)) (pairAt (now (numbers .entry)) (now (values .entry)) i) ⌝ }
 {
     pairs::pair_before(
+        lowest,
         numbers[i - 1],
         rowset::row_at(values, i - 1),
         numbers[i],
@@ -98,18 +100,35 @@ fn is_behind(numbers: &[u32], values: &[u32], i: usize) -> bool
     )
 }
 
+// Entry i stands behind the one before it, where `last` and `here` are their joined numbers: mostly these tell.
+fn follows(last: u64, here: u64, lowest: u32, numbers: &[u32], values: &[u32], i: usize) -> bool
+    requires { ⌜ (0 < i) × (i < length (now numbers)) × (i * 4 + 4 ≤ length (now values)) ⌝ }
+    requires { ⌜ (last ≡ jointAt (now numbers) (now values) (i - 1)) × (here ≡ jointAt (now numbers) (now values) i) ⌝ }
+    ensures { λ t. ⌜ t ≡ before (suc lowest) (pairAt (now (numbers .entry)) (now (values .entry)) (i - 1)) (pairAt (now (numbers .entry)) (now (values .entry)) i) ⌝ }
+{
+    if last < here {
+        return true;
+    }
+    is_behind(lowest, numbers, values, i)
+}
+
 // Entries from..to, of which there is one, ascend by number and then by row, and their rows are 0 at variables that the mask doesn't have: the bits of all rows are gathered in the same loop, and compared with the largest that the mask leaves once.
 fn rows_ascend(numbers: &[u32], values: &[u32], from: usize, to: usize, mask: u8) -> bool
     requires { ⌜ (from < to) × (to ≤ length (now numbers)) × (to * 4 ≤ length (now values)) ⌝ }
-    ensures { λ t. ⌜ Tells t (Rising (pairAt (now (numbers .entry)) (now (values .entry))) (λ p. rowCut mask (drop 1 p)) from to) ⌝ }
+    ensures { λ t. ⌜ Tells t (Rising (suc (lowestOf (inMask mask))) (pairAt (now (numbers .entry)) (now (values .entry))) (λ p. rowCut mask (drop 1 p)) from to) ⌝ }
 {
+    let lowest = kinds::lowest_of(mask);
     let mut bits = rowset::row_at(values, from);
+    let mut last = pairs::joint(numbers[from], bits.v0);
     let mut i = from + 1;
     while i < to {
-        if !is_behind(numbers, values, i) {
+        let row = rowset::row_at(values, i);
+        let here = pairs::joint(numbers[i], row.v0);
+        if !follows(last, here, lowest, numbers, values, i) {
             return false;
         }
-        bits = joined(bits, rowset::row_at(values, i));
+        bits = joined(bits, row);
+        last = here;
         i += 1;
     }
     is_under(most_of(mask), bits)

@@ -11,7 +11,7 @@ ghost use Prim.Native.Nat.{_+_, _-_, _*_, _≤_, _<_};
 ghost use lib.ListN.{length, getD, take};
 ghost use lib.Dec.{eqb};
 ghost use Rattle.meaning.specs.Lists.{select, sameRow};
-ghost use Rattle.meaning.specs.Formula.{termsOf, compares, isVariable, variables};
+ghost use Rattle.meaning.specs.Formula.{termsOf, compares, isVariable, variables, lowestOf};
 ghost use Rattle.meaning.specs.Definition2.{value};
 ghost use Rattle.meaning.specs.Log.{relationIn};
 ghost use Rattle.meaning.specs.Event.{rowCount, columnsOf};
@@ -60,6 +60,23 @@ pub fn cut(mask: u8, u: Row) -> Row
         v2: pick(v.b2, u.v2, 0),
         v3: pick(v.b3, u.v3, 0),
     }
+}
+
+// The lowest variable of the mask; 0 where it has none.
+pub fn lowest_of(mask: u8) -> u32
+    ensures { λ r. ⌜ r ≡ lowestOf (inMask mask) ⌝ }
+{
+    let v = vars_of(mask);
+    if v.b0 {
+        return 0;
+    }
+    if v.b1 {
+        return 1;
+    }
+    if v.b2 {
+        return 2;
+    }
+    pick(v.b3, 3, 0)
 }
 
 // The row with variable x set to 0.
@@ -154,17 +171,18 @@ fn compare(c: Comparison, a: u32, b: u32) -> bool
 }
 
 // Copies the rows of a run: serves "or", "previous" and "next".
-pub fn copy(rows: &[u32], from: usize, to: usize, out: &mut [u32], n: usize) -> usize
+pub fn copy(lowest: u32, rows: &[u32], from: usize, to: usize, out: &mut [u32], n: usize) -> usize
     requires { ⌜ Run (now rows) from to ⌝ }
     requires { ⌜ SetRoom (now out) n ⌝ }
-    ensures { λ k. ⌜ Added (now (out .entry)) n (now (out .exit)) k (rowsFrom (now (rows .entry)) from (to - from)) ⌝ }
+    ensures { λ k. ⌜ Added lowest (now (out .entry)) n (now (out .exit)) k (rowsFrom (now (rows .entry)) from (to - from)) ⌝ }
 {
-    let g = rowset::add_rows(rows, from, to, out, Gathered { count: n, near: 0 });
+    let g = rowset::add_rows(lowest, rows, from, to, out, Gathered { count: n, near: 0 });
     g.count
 }
 
 // The rows that join a row of the left child with those of the right child that agree with it.
 fn and_row(
+    lowest: u32,
     f: u8,
     g: u8,
     u: Row,
@@ -176,7 +194,7 @@ fn and_row(
 ) -> usize
     requires { ⌜ Run (now rows) from to ⌝ }
     requires { ⌜ SetRoom (now out) n ⌝ }
-    ensures { λ k. ⌜ Added (now (out .entry)) n (now (out .exit)) k (map (joined (inMask f) (wordsOf u)) (select (agrees (inMask f) (inMask g) (wordsOf u)) (rowsFrom (now (rows .entry)) from (to - from)))) ⌝ }
+    ensures { λ k. ⌜ Added lowest (now (out .entry)) n (now (out .exit)) k (map (joined (inMask f) (wordsOf u)) (select (agrees (inMask f) (inMask g) (wordsOf u)) (rowsFrom (now (rows .entry)) from (to - from)))) ⌝ }
 {
     let mut set = Gathered { count: n, near: 0 };
     let mut i = from;
@@ -184,14 +202,15 @@ fn and_row(
         let w = rowset::row_at(rows, i);
         let ok = agree(f, g, u, w);
         let row = join(f, u, w);
-        set = rowset::add_if(ok, out, set, row);
+        set = rowset::add_if(ok, lowest, out, set, row);
         i += 1;
     }
     set.count
 }
 
-// "and": f and g are the masks of the children's variables; the left child's rows are from..to, the right child's start..end.
+// "and", of a node with this lowest free variable: f and g are the masks of the children's variables; the left child's rows are from..to, the right child's start..end.
 pub fn and(
+    lowest: u32,
     f: u8,
     g: u8,
     rows: &[u32],
@@ -205,21 +224,23 @@ pub fn and(
     requires { ⌜ Run (now rows) from to ⌝ }
     requires { ⌜ Run (now rows) start end ⌝ }
     requires { ⌜ SetRoom (now out) n ⌝ }
-    ensures { λ k. ⌜ Added (now (out .entry)) n (now (out .exit)) k (andRows (inMask f) (inMask g) (rowsFrom (now (rows .entry)) from (to - from)) (rowsFrom (now (rows .entry)) start (end - start))) ⌝ }
+    ensures { λ k. ⌜ Added lowest (now (out .entry)) n (now (out .exit)) k (andRows (inMask f) (inMask g) (rowsFrom (now (rows .entry)) from (to - from)) (rowsFrom (now (rows .entry)) start (end - start))) ⌝ }
 {
     let mut k = n;
     let mut i = from;
     while i < to {
         let u = rowset::row_at(rows, i);
-        k = and_row(f, g, u, rows, start, end, out, k);
+        k = and_row(lowest, f, g, u, rows, start, end, out, k);
         i += 1;
     }
     k
 }
 
-// "and not": g is the mask of the right child's variables; the rows are as for "and".
+// "and not": g is the mask of the right child's variables, and inner the lowest of them; the rows are as for "and".
 pub fn and_not(
+    lowest: u32,
     g: u8,
+    inner: u32,
     rows: &[u32],
     from: usize,
     to: usize,
@@ -231,14 +252,14 @@ pub fn and_not(
     requires { ⌜ Run (now rows) from to ⌝ }
     requires { ⌜ Run (now rows) start end ⌝ }
     requires { ⌜ SetRoom (now out) n ⌝ }
-    ensures { λ k. ⌜ Added (now (out .entry)) n (now (out .exit)) k (select (λ u. not (isThere (lookUp (cutTo (inMask g) (valuationOf u)) (rowsFrom (now (rows .entry)) start (end - start))))) (rowsFrom (now (rows .entry)) from (to - from))) ⌝ }
+    ensures { λ k. ⌜ Added lowest (now (out .entry)) n (now (out .exit)) k (select (λ u. not (isThere (lookUp inner (cutTo (inMask g) (valuationOf u)) (rowsFrom (now (rows .entry)) start (end - start))))) (rowsFrom (now (rows .entry)) from (to - from))) ⌝ }
 {
     let mut set = Gathered { count: n, near: 0 };
     let mut i = from;
     while i < to {
         let u = rowset::row_at(rows, i);
-        let found = rowset::contains(rows, start, end, cut(g, u));
-        set = rowset::add_if(!found, out, set, u);
+        let found = rowset::contains(inner, rows, start, end, cut(g, u));
+        set = rowset::add_if(!found, lowest, out, set, u);
         i += 1;
     }
     set.count
@@ -246,6 +267,7 @@ pub fn and_not(
 
 // "keep": a row is put in where its values of the two terms compare so.
 pub fn keep(
+    lowest: u32,
     c: Comparison,
     s: Term,
     t: Term,
@@ -257,7 +279,7 @@ pub fn keep(
 ) -> usize
     requires { ⌜ Run (now rows) from to ⌝ }
     requires { ⌜ SetRoom (now out) n ⌝ }
-    ensures { λ k. ⌜ Added (now (out .entry)) n (now (out .exit)) k (select (λ u. compares c (value (valuationOf u) s) (value (valuationOf u) t)) (rowsFrom (now (rows .entry)) from (to - from))) ⌝ }
+    ensures { λ k. ⌜ Added lowest (now (out .entry)) n (now (out .exit)) k (select (λ u. compares c (value (valuationOf u) s) (value (valuationOf u) t)) (rowsFrom (now (rows .entry)) from (to - from))) ⌝ }
 {
     let mut set = Gathered { count: n, near: 0 };
     let mut i = from;
@@ -266,23 +288,31 @@ pub fn keep(
         let a = term_value(u, s);
         let b = term_value(u, t);
         let ok = compare(c, a, b);
-        set = rowset::add_if(ok, out, set, u);
+        set = rowset::add_if(ok, lowest, out, set, u);
         i += 1;
     }
     set.count
 }
 
 // "exists": variable x is no longer free.
-pub fn exists(x: u32, rows: &[u32], from: usize, to: usize, out: &mut [u32], n: usize) -> usize
+pub fn exists(
+    lowest: u32,
+    x: u32,
+    rows: &[u32],
+    from: usize,
+    to: usize,
+    out: &mut [u32],
+    n: usize,
+) -> usize
     requires { ⌜ Run (now rows) from to ⌝ }
     requires { ⌜ SetRoom (now out) n ⌝ }
-    ensures { λ k. ⌜ Added (now (out .entry)) n (now (out .exit)) k (map (λ u. cutTo (λ y. not (eqb y x)) (valuationOf u)) (rowsFrom (now (rows .entry)) from (to - from))) ⌝ }
+    ensures { λ k. ⌜ Added lowest (now (out .entry)) n (now (out .exit)) k (map (λ u. cutTo (λ y. not (eqb y x)) (valuationOf u)) (rowsFrom (now (rows .entry)) from (to - from))) ⌝ }
 {
     let mut set = Gathered { count: n, near: 0 };
     let mut i = from;
     while i < to {
         let u = without(x, rowset::row_at(rows, i));
-        set = rowset::add(out, set, u);
+        set = rowset::add(lowest, out, set, u);
         i += 1;
     }
     set.count
@@ -486,6 +516,7 @@ fn columns_at(event: &[u32], m: usize, k: usize) -> Row
 
 // What an atom puts in for one row of an event.
 fn atom_row(
+    lowest: u32,
     relation: u32,
     found: u32,
     ts: Terms,
@@ -493,13 +524,13 @@ fn atom_row(
     out: &mut [u32],
     set: Gathered,
 ) -> Gathered
-    requires { ⌜ GatherRoom (now out) set ⌝ }
-    ensures { λ g. ⌜ Gathers (now (out .entry)) set (now (out .exit)) g (cond (eqb found relation && matches (termsOf ts) (take (ts .count) (wordsOf c))) (map (bound (termsOf ts) (take (ts .count) (wordsOf c))) variables ∷ []) []) ⌝ }
+    requires { ⌜ GatherRoom lowest (now out) set ⌝ }
+    ensures { λ g. ⌜ Gathers lowest (now (out .entry)) set (now (out .exit)) g (cond (eqb found relation && matches (termsOf ts) (take (ts .count) (wordsOf c))) (map (bound (termsOf ts) (take (ts .count) (wordsOf c))) variables ∷ []) []) ⌝ }
 {
     if found == relation {
         let ok = columns_match(ts, c);
         let row = bound_row(ts, c);
-        return rowset::add_if(ok, out, set, row);
+        return rowset::add_if(ok, lowest, out, set, row);
     }
     set
 }
@@ -515,17 +546,24 @@ pub fn row_total(event: &[u32]) -> usize
 }
 
 // "atom": a row of the event has as many values as the atom has terms.
-pub fn atom(relation: u32, ts: Terms, event: &[u32], out: &mut [u32], n: usize) -> usize
+pub fn atom(
+    lowest: u32,
+    relation: u32,
+    ts: Terms,
+    event: &[u32],
+    out: &mut [u32],
+    n: usize,
+) -> usize
     requires { ⌜ EventThere (now event) ⌝ }
     requires { ⌜ SetRoom (now out) n ⌝ }
-    ensures { λ k. ⌜ Added (now (out .entry)) n (now (out .exit)) k (atomRows (termsOf ts) (relationIn relation (rowsWith (ts .count) (now (event .entry))))) ⌝ }
+    ensures { λ k. ⌜ Added lowest (now (out .entry)) n (now (out .exit)) k (atomRows (termsOf ts) (relationIn relation (rowsWith (ts .count) (now (event .entry))))) ⌝ }
 {
     let m = row_total(event);
     let mut set = Gathered { count: n, near: 0 };
     let mut i = 0;
     while i < m {
         let c = columns_at(event, m, i);
-        set = atom_row(relation, event[2 + i], ts, c, out, set);
+        set = atom_row(lowest, relation, event[2 + i], ts, c, out, set);
         i += 1;
     }
     set.count

@@ -43,13 +43,13 @@ module _ (r : List ℕ) where
       (omega (arith, point-short (entryIn r k .at) (entryIn r k .time) (length (rowsIn r k)), rw (range-length (rowsBefore r k) (countIn r k)) at (rows-fit (range (rowsBefore r k) (countIn r k)))))
 
   -- with no free variable a point has at most one row
-  few-rows : freeIn r ≡ 0 → (ks : List ℕ) → all (λ k. ascending (rowsIn r k)) ks ≡ true → total (map (countIn r) ks) ≤ length ks
+  few-rows : freeIn r ≡ 0 → (ks : List ℕ) → all (λ k. ascending 0 (rowsIn r k)) ks ≡ true → total (map (countIn r) ks) ≤ length ks
   few-rows e [] h = omega arith
   few-rows e (k ∷ ks) h =
-      let s = both (ascending (rowsIn r k)) (all (λ j. ascending (rowsIn r j)) ks) h in
+      let s = both (ascending 0 (rowsIn r k)) (all (λ j. ascending 0 (rowsIn r j)) ks) h in
       omega (arith, one (s .0), few-rows e ks (s .1))
     where
-      one : ascending (rowsIn r k) ≡ true → countIn r k ≤ 1
+      one : ascending 0 (rowsIn r k) ≡ true → countIn r k ≤ 1
       one a =
           let few : countIn r k < 2 = lt-of-not-le (λ (more : 2 ≤ countIn r k). true≢false (sym a ∙ no-words r k e more)) in
           omega arith

@@ -10,7 +10,7 @@ use borrow.Author.Tests.{ltb-true, eqb-true, lt-ltb, eq-eqb}
 use native.Mathlib.Omega.{arith}
 use Rattle.meaning.specs.Lists.{all, any, select, sameRow}
 use Rattle.meaning.specs.Log.{Log, size, time, rowsAt, elapsed, point, pointBefore, pointAfter, pointsFrom}
-use Rattle.meaning.specs.Formula.{Formula, atom, and, andNot, keep, or, exists, previous, next, since, notSince, until, notUntil, once, eventually, inWindow, compares, isVariable, free, variables, within, termWithin}
+use Rattle.meaning.specs.Formula.{Formula, atom, and, andNot, keep, or, exists, previous, next, since, notSince, until, notUntil, once, eventually, inWindow, compares, isVariable, free, lowestOf, variables, within, termWithin}
 use Rattle.meaning.specs.Definition2.{Valuation, value, replaced, Since, Until, Holds}
 use Rattle.meaning.specs.Order.{ascending, OfLength}
 use Rattle.meaning.specs.Evaluator.{cutTo, valuationOf, setOf, bound, matches, atomRows, agrees, joined, andRows, lasting, sinceRows, leading, untilRows, among, vals}
@@ -58,11 +58,11 @@ module _ {f : ℕ → Bool} {H : Valuation → Type 0} {rows : List (List ℕ)} 
   pub gives-looks : {v v' : Valuation} → ((x : ℕ) → x < 4 → f x ≡ true → v x ≡ v' x) → H v → H v'
   gives-looks {v} {v'} h k = g .same v' .0 (rw (cut-same f h) at (g .same v .1 k))
 
-  exact-set : Exact f H (setOf rows)
-  exact-set = record { gives = record { cut = λ u m. g .cut u (stays u .0 m); same = λ v. Iff·trans (stays (cutTo f v)) (g .same v) }; ascends = setOf-ascends rows }
+  exact-set : Exact f H (setOf (lowestOf f) rows)
+  exact-set = record { gives = record { cut = λ u m. g .cut u (stays u .0 m); same = λ v. Iff·trans (stays (cutTo f v)) (g .same v) }; ascends = setOf-ascends (lowestOf f) rows }
     where
-      stays : (u : List ℕ) → List·Memᴰ u (setOf rows) ↔ List·Memᴰ u rows
-      stays = setOf-mem rows gives-length
+      stays : (u : List ℕ) → List·Memᴰ u (setOf (lowestOf f) rows) ↔ List·Memᴰ u rows
+      stays = setOf-mem (lowestOf f) rows gives-length
 
 -- What each kind makes of its children's rows; first, some of left's rows, or all of them on a condition.
 module _ {f : ℕ → Bool} {H : Valuation → Type 0} {rows : List (List ℕ)} (e : Exact f H rows) where
@@ -349,7 +349,7 @@ module _ (l : Log) (φ : Formula) (fine : Fine φ) (i : Point) where
   pub agreement : (v : Valuation) → List·Memᴰ (cutTo (free φ) v) (vals l φ i) ↔ Holds l φ v i
   agreement = exact l φ fine i .gives .same
 
-  pub ascends : ascending (vals l φ i) ≡ true
+  pub ascends : ascending (lowestOf (free φ)) (vals l φ i) ≡ true
   ascends = exact l φ fine i .ascends
 
   pub rows-length : OfLength 4 (vals l φ i)

@@ -8,7 +8,7 @@ use lib.ListN.{length}
 use native.Mathlib.Omega.{arith}
 use Rattle.meaning.specs.Lists.{select}
 use Rattle.meaning.specs.Log.{Log, time, elapsed, point, pointsFrom}
-use Rattle.meaning.specs.Formula.{Formula, since, notSince, once, free}
+use Rattle.meaning.specs.Formula.{Formula, since, notSince, once, free, lowestOf}
 use Rattle.meaning.specs.Definition2.{Valuation, Holds}
 use Rattle.meaning.specs.Order.{ascending, OfLength}
 use Rattle.meaning.specs.Evaluator.{cutTo, valuationOf, setOf, lasting, among, vals}
@@ -33,7 +33,7 @@ pub record Aged (l : Log) (w : Window) (left right : Point → Type 0) (i : Poin
 pub record ExactPairs (f : ℕ → Bool) (H : ℕ → Valuation → Type 0) (rows : List (List ℕ)) : Type 0 where
   pub cut : (p : List ℕ) → List·Memᴰ p rows → (y : ℕ) × (v : Valuation) × (p ≡ y ∷ cutTo f v)
   pub same : (y : ℕ) (v : Valuation) → List·Memᴰ (y ∷ cutTo f v) rows ↔ H y v
-  pub ascends : ascending rows ≡ true
+  pub ascends : ascending (suc (lowestOf f)) rows ≡ true
 
 -- The pairs over a test of left and the rows of right: an age before a row that lasts from so long ago.
 module _ (l : Log) (w : Window) (i : Point) where
@@ -77,11 +77,11 @@ module _ (l : Log) (w : Window) (i : Point) where
         lasts : (j : Point) → List·Memᴰ (cutTo f v) (lasting left right i j) ↔ (R v j × ((k : Point) → suc (j .0) ≤ k .0 → k .0 < suc (i .0) → L v k))
         lasts = lasting-mem left right (cutTo f v) (asked v) (λ j. e j .gives .same v) i
 
-    exact-pairs : ExactPairs f (λ y v. Aged l w (L v) (R v) i y) (setOf (pairRows (time l) w left right i))
-    exact-pairs = record { cut = λ p m. pairs-cut (stays p .0 m); same = λ y v. Iff·trans (stays (y ∷ cutTo f v)) (pairs-same y v); ascends = setOf-ascends (pairRows (time l) w left right i) }
+    exact-pairs : ExactPairs f (λ y v. Aged l w (L v) (R v) i y) (setOf (suc (lowestOf f)) (pairRows (time l) w left right i))
+    exact-pairs = record { cut = λ p m. pairs-cut (stays p .0 m); same = λ y v. Iff·trans (stays (y ∷ cutTo f v)) (pairs-same y v); ascends = setOf-ascends (suc (lowestOf f)) (pairRows (time l) w left right i) }
       where
-        stays : (p : List ℕ) → List·Memᴰ p (setOf (pairRows (time l) w left right i)) ↔ List·Memᴰ p (pairRows (time l) w left right i)
-        stays = setOf-mem (pairRows (time l) w left right i) pairs-length
+        stays : (p : List ℕ) → List·Memᴰ p (setOf (suc (lowestOf f)) (pairRows (time l) w left right i)) ↔ List·Memᴰ p (pairRows (time l) w left right i)
+        stays = setOf-mem (suc (lowestOf f)) (pairRows (time l) w left right i) pairs-length
 
 -- The three kinds, at every point of every log.
 module _ (l : Log) (i : Point) (a b : Formula) (w : Window) where

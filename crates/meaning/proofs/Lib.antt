@@ -3,6 +3,7 @@ pub mod Lists
 pub mod Rows
 pub mod Points
 pub mod Order
+pub mod OrderLaws
 pub mod LookUp
 pub mod Fine
 pub mod Tree

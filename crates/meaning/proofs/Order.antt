@@ -9,16 +9,6 @@ use Rattle.meaning.specs.Order.{before}
 use Rattle.meaning.proofs.Points.{Tested, passed, failed, tested}
 use Rattle.meaning.proofs.Rows.{before-irreflexive, before-transitive, before-total, before-apart, same-row}
 
-pub asymmetric : (x y : List ℕ) → before x y ≡ true → before y x ≡ false
-asymmetric x y e = go (tested (before y x))
-  where
-    go : Tested (before y x) → before y x ≡ false
-    go (passed d) = absurd (true≢false (sym (before-transitive x y x e d) ∙ before-irreflexive x))
-    go (failed d) = d
-
-pub total : (x y : List ℕ) → length x ≡ length y → before x y ≡ false → before y x ≡ false → sameRow x y ≡ true
-total x y n p q = same-row x y .1 (before-total x y n p q)
-
 -- rows that aren't equal aren't the same
 pub apart : (x y : List ℕ) → (x ≡ y → ⊥) → sameRow x y ≡ false
 apart x y d = go (tested (sameRow x y))
@@ -27,16 +17,27 @@ apart x y d = go (tested (sameRow x y))
     go (passed e) = absurd (d (same-row x y .0 e))
     go (failed e) = e
 
--- a row that stands before another isn't the same, either way round
-pub before-other : (x y : List ℕ) → before x y ≡ true → sameRow x y ≡ false
-before-other x y p = apart x y (before-apart x y p)
+module _ (lowest : ℕ) where
+  pub asymmetric : (x y : List ℕ) → before lowest x y ≡ true → before lowest y x ≡ false
+  asymmetric x y e = go (tested (before lowest y x))
+    where
+      go : Tested (before lowest y x) → before lowest y x ≡ false
+      go (passed d) = absurd (true≢false (sym (before-transitive lowest x y x e d) ∙ before-irreflexive lowest x))
+      go (failed d) = d
 
-pub after-other : (x y : List ℕ) → before y x ≡ true → sameRow x y ≡ false
-after-other x y p = apart x y (λ e. before-apart y x p (sym e))
+  pub total : (x y : List ℕ) → length x ≡ length y → before lowest x y ≡ false → before lowest y x ≡ false → sameRow x y ≡ true
+  total x y n p q = same-row x y .1 (before-total lowest x y n p q)
 
--- nor does a row stand before or after the same one
-pub same-not-before : (x y : List ℕ) → sameRow x y ≡ true → before x y ≡ false
-same-not-before x y e = rw (same-row x y .0 e) (before-irreflexive y)
+  -- a row that stands before another isn't the same, either way round
+  pub before-other : (x y : List ℕ) → before lowest x y ≡ true → sameRow x y ≡ false
+  before-other x y p = apart x y (before-apart lowest x y p)
 
-pub same-not-after : (x y : List ℕ) → sameRow x y ≡ true → before y x ≡ false
-same-not-after x y e = rw (same-row x y .0 e) (before-irreflexive y)
+  pub after-other : (x y : List ℕ) → before lowest y x ≡ true → sameRow x y ≡ false
+  after-other x y p = apart x y (λ e. before-apart lowest y x p (sym e))
+
+  -- nor does a row stand before or after the same one
+  pub same-not-before : (x y : List ℕ) → sameRow x y ≡ true → before lowest x y ≡ false
+  same-not-before x y e = rw (same-row x y .0 e) (before-irreflexive lowest y)
+
+  pub same-not-after : (x y : List ℕ) → sameRow x y ≡ true → before lowest y x ≡ false
+  same-not-after x y e = rw (same-row x y .0 e) (before-irreflexive lowest y)

@@ -12,7 +12,7 @@ use native.Mathlib.Omega.{arith}
 use Rattle.meaning.specs.Lists.{all, any, select, gather, range, sameRow}
 use Rattle.meaning.specs.Log.{point, pointsFrom}
 use Rattle.meaning.specs.Formula.{variables}
-use Rattle.meaning.specs.Order.{before, ascending, OfLength}
+use Rattle.meaning.specs.Order.{higher, before, ascending, OfLength}
 use Rattle.meaning.specs.Evaluator.{insert, insertAll, setOf, member}
 use Rattle.meaning.specs.declared.Point.{Point}
 
@@ -156,164 +156,201 @@ word-at f e x h = ap (λ (t : List ℕ). getD t x 0) e ∙ words-at f x h
 pub words-equal : (f g : ℕ → ℕ) → map f variables ≡ map g variables → (x : ℕ) → x < 4 → f x ≡ g x
 words-equal f g e x h = sym (words-at f x h) ∙ word-at g e x h
 
--- The laws of the order: whatever else is shown of it follows from these three.
-pub before-irreflexive : (r : List ℕ) → before r r ≡ false
-before-irreflexive [] = refl
-before-irreflexive (x ∷ xs) = rw (le-ltb x x (omega arith), eq-eqb x x refl) (before-irreflexive xs)
+-- The laws of the order: whatever else is shown of it follows from these three. A word and what comes behind it, first.
+first-word : (x y : ℕ) (t : Bool) → ltb x y || (eqb x y && t) ≡ true → (x < y) ⊎ ((x ≡ y) × (t ≡ true))
+first-word x y t e = elim (either (ltb x y) (eqb x y && t) e) [ inl l ↦ inl (ltb-true x y l) | inr r ↦ let (a, b) = and-eq-true-iff (eqb x y) t .0 r in inr (eqb-true x y a, b) ]
 
-pub before-transitive : (r s t : List ℕ) → before r s ≡ true → before s t ≡ true → before r t ≡ true
-before-transitive [] s t h k = absurd (false≢true h)
-before-transitive (x ∷ xs) [] t h k = absurd (false≢true h)
-before-transitive (x ∷ xs) (y ∷ ys) [] h k = absurd (false≢true k)
-before-transitive (x ∷ xs) (y ∷ ys) (z ∷ zs) h k = go (before-transitive xs ys zs) (first x y xs ys h) (first y z ys zs k)
+word-irreflexive : (x : ℕ) (t : Bool) → t ≡ false → ltb x x || (eqb x x && t) ≡ false
+word-irreflexive x t e = rw (le-ltb x x (omega arith), eq-eqb x x refl) e
+
+word-transitive : (x y z : ℕ) (s t u : Bool) → (s ≡ true → t ≡ true → u ≡ true) → ltb x y || (eqb x y && s) ≡ true → ltb y z || (eqb y z && t) ≡ true → ltb x z || (eqb x z && u) ≡ true
+word-transitive x y z s t u rest h k = go (first-word x y s h) (first-word y z t k)
   where
-    first : (a b : ℕ) (us vs : List ℕ) → before (a ∷ us) (b ∷ vs) ≡ true → (a < b) ⊎ ((a ≡ b) × (before us vs ≡ true))
-    first a b us vs e = elim (either (ltb a b) (eqb a b && before us vs) e) [ inl t ↦ inl (ltb-true a b t) | inr t ↦ let r = and-eq-true-iff (eqb a b) (before us vs) .0 t in inr (eqb-true a b (r .0), r .1) ]
-
-    below : x < z → before (x ∷ xs) (z ∷ zs) ≡ true
+    below : x < z → ltb x z || (eqb x z && u) ≡ true
     below d = rw (lt-ltb x z d)
 
-    go : (before xs ys ≡ true → before ys zs ≡ true → before xs zs ≡ true) → (x < y) ⊎ ((x ≡ y) × (before xs ys ≡ true)) → (y < z) ⊎ ((y ≡ z) × (before ys zs ≡ true)) → before (x ∷ xs) (z ∷ zs) ≡ true
-    go rest (inl a) (inl b) = below (omega arith)
-    go rest (inl a) (inr b) = below (omega arith)
-    go rest (inr a) (inl b) = below (omega arith)
-    go rest (inr a) (inr b) = rw (eq-eqb x z (a .0 ∙ b .0), rest (a .1) (b .1)) (or-true (ltb x z))
+    go : (x < y) ⊎ ((x ≡ y) × (s ≡ true)) → (y < z) ⊎ ((y ≡ z) × (t ≡ true)) → ltb x z || (eqb x z && u) ≡ true
+    go (inl a) (inl b) = below (omega arith)
+    go (inl a) (inr b) = below (omega arith)
+    go (inr a) (inl b) = below (omega arith)
+    go (inr a) (inr b) = rw (eq-eqb x z (a .0 ∙ b .0), rest (a .1) (b .1)) (or-true (ltb x z))
 
-pub before-total : (r s : List ℕ) → length r ≡ length s → before r s ≡ false → before s r ≡ false → r ≡ s
-before-total [] [] l h k = refl
-before-total [] (y ∷ ys) l h k = absurd (omega arith)
-before-total (x ∷ xs) [] l h k = absurd (omega arith)
-before-total (x ∷ xs) (y ∷ ys) l h k =
-    let a = neither (ltb x y) (eqb x y && before xs ys) h in
-    let b = neither (ltb y x) (eqb y x && before ys xs) k in
+word-total : (x y : ℕ) (s t : Bool) → ltb x y || (eqb x y && s) ≡ false → ltb y x || (eqb y x && t) ≡ false → (x ≡ y) × (s ≡ false) × (t ≡ false)
+word-total x y s t h k =
+    let a = neither (ltb x y) (eqb x y && s) h in
+    let b = neither (ltb y x) (eqb y x && t) k in
     let e : x ≡ y = omega (arith, ltb-false x y (a .0), ltb-false y x (b .0)) in
-    λ i. e i ∷ before-total xs ys (omega arith) (rw (eq-eqb x y e) at (a .1)) (rw (eq-eqb y x (sym e)) at (b .1)) i
+    (e, rw (eq-eqb x y e) at (a .1), rw (eq-eqb y x (sym e)) at (b .1))
 
-pub before-apart : (r s : List ℕ) → before r s ≡ true → r ≡ s → ⊥
-before-apart r s h e = true≢false (sym h ∙ (rw e (before-irreflexive s)))
+higher-irreflexive : (r : List ℕ) → higher r r ≡ false
+higher-irreflexive [] = refl
+higher-irreflexive (x ∷ xs) = word-irreflexive x (higher xs xs) (higher-irreflexive xs)
 
--- Strictly ascending lists: the head stands before every other row, and the rows alone determine the list.
-pub ascending-tail : (r : List ℕ) (rows : List (List ℕ)) → ascending (r ∷ rows) ≡ true → ascending rows ≡ true
-ascending-tail r [] h = refl
-ascending-tail r (s ∷ rows) h = and-eq-true-iff (before r s) (ascending (s ∷ rows)) .0 h .1
+higher-transitive : (r s t : List ℕ) → higher r s ≡ true → higher s t ≡ true → higher r t ≡ true
+higher-transitive [] s t h k = absurd (false≢true h)
+higher-transitive (x ∷ xs) [] t h k = absurd (false≢true h)
+higher-transitive (x ∷ xs) (y ∷ ys) [] h k = absurd (false≢true k)
+higher-transitive (x ∷ xs) (y ∷ ys) (z ∷ zs) h k = word-transitive z y x (higher ys zs) (higher xs ys) (higher xs zs) (λ a b. higher-transitive xs ys zs b a) k h
 
-pub head-before : (r : List ℕ) {s : List ℕ} {rows : List (List ℕ)} → ascending (r ∷ rows) ≡ true → List·Memᴰ s rows → before r s ≡ true
-head-before r h (List·Memᴰ·head {x = t} {xs = ts} e) = rw e (and-eq-true-iff (before r t) (ascending (t ∷ ts)) .0 h .0)
-head-before r {s} h (List·Memᴰ·tail {x = t} {xs = ts} m) = let k = and-eq-true-iff (before r t) (ascending (t ∷ ts)) .0 h in before-transitive r t s (k .0) (head-before t (k .1) m)
+higher-total : (r s : List ℕ) → length r ≡ length s → higher r s ≡ false → higher s r ≡ false → r ≡ s
+higher-total [] [] l h k = refl
+higher-total [] (y ∷ ys) l h k = absurd (omega arith)
+higher-total (x ∷ xs) [] l h k = absurd (omega arith)
+higher-total (x ∷ xs) (y ∷ ys) l h k =
+    let (d, a, b) = word-total y x (higher xs ys) (higher ys xs) h k in
+    let e : x ≡ y = sym d in
+    λ i. e i ∷ higher-total xs ys (omega arith) a b i
 
-pub ascending-same : (xs ys : List (List ℕ)) → ascending xs ≡ true → ascending ys ≡ true → ((r : List ℕ) → List·Memᴰ r xs ↔ List·Memᴰ r ys) → xs ≡ ys
-ascending-same [] [] h k same = refl
-ascending-same [] (y ∷ ys) h k same = absurd (List·Memᴰ·not-nil (same y .1 (List·Memᴰ·head refl)))
-ascending-same (x ∷ xs) [] h k same = absurd (List·Memᴰ·not-nil (same x .0 (List·Memᴰ·head refl)))
-ascending-same (x ∷ xs) (y ∷ ys) h k same =
-    let e : x ≡ y = heads (same x .0 (List·Memᴰ·head refl)) (same y .1 (List·Memᴰ·head refl)) in
-    let d = ascending-same xs ys (ascending-tail x xs h) (ascending-tail y ys k) (λ r. (λ m. rest h e m (same r .0 (List·Memᴰ·tail m)), λ m. rest k (sym e) m (same r .1 (List·Memᴰ·tail m)))) in
-    λ i. e i ∷ d i
-  where
-    heads : List·Memᴰ x (y ∷ ys) → List·Memᴰ y (x ∷ xs) → x ≡ y
-    heads (List·Memᴰ·head e) n = e
-    heads (List·Memᴰ·tail m) (List·Memᴰ·head e) = sym e
-    heads (List·Memᴰ·tail m) (List·Memᴰ·tail n) = absurd (before-apart x x (before-transitive x y x (head-before x h n) (head-before y k m)) refl)
+pub before-irreflexive : (lowest : ℕ) (r : List ℕ) → before lowest r r ≡ false
+before-irreflexive lowest [] = refl
+before-irreflexive zero (x ∷ xs) = word-irreflexive x (higher xs xs) (higher-irreflexive xs)
+before-irreflexive (suc lowest) (x ∷ xs) = word-irreflexive x (before lowest xs xs) (before-irreflexive lowest xs)
 
-    rest : {r s t : List ℕ} {us vs : List (List ℕ)} → ascending (s ∷ us) ≡ true → s ≡ t → List·Memᴰ r us → List·Memᴰ r (t ∷ vs) → List·Memᴰ r vs
-    rest {r} {s} up e m (List·Memᴰ·head d) = absurd (before-apart s r (head-before s up m) (e ∙ sym d))
-    rest up e m (List·Memᴰ·tail n) = n
+pub before-transitive : (lowest : ℕ) (r s t : List ℕ) → before lowest r s ≡ true → before lowest s t ≡ true → before lowest r t ≡ true
+before-transitive lowest [] s t h k = absurd (false≢true h)
+before-transitive lowest (x ∷ xs) [] t h k = absurd (false≢true h)
+before-transitive lowest (x ∷ xs) (y ∷ ys) [] h k = absurd (false≢true k)
+before-transitive zero (x ∷ xs) (y ∷ ys) (z ∷ zs) h k = word-transitive x y z (higher xs ys) (higher ys zs) (higher xs zs) (higher-transitive xs ys zs) h k
+before-transitive (suc lowest) (x ∷ xs) (y ∷ ys) (z ∷ zs) h k = word-transitive x y z (before lowest xs ys) (before lowest ys zs) (before lowest xs zs) (before-transitive lowest xs ys zs) h k
 
--- Sets: a row put in its place, by the three cases of its definition.
-insert-cases : (P : List (List ℕ) → Type 0) (s t : List ℕ) (rows : List (List ℕ))
-    → (before s t ≡ true → P (s ∷ t ∷ rows)) → (before t s ≡ true → P (t ∷ insert s rows)) → (before s t ≡ false → before t s ≡ false → P (t ∷ rows)) → P (insert s (t ∷ rows))
-insert-cases P s t rows first later there = go (before s t) (before t s) refl refl
-  where
-    go : (p q : Bool) → before s t ≡ p → before t s ≡ q → P (cond p (s ∷ t ∷ rows) (cond q (t ∷ insert s rows) (t ∷ rows)))
-    go true q h k = first h
-    go false true h k = later k
-    go false false h k = there h k
+pub before-total : (lowest : ℕ) (r s : List ℕ) → length r ≡ length s → before lowest r s ≡ false → before lowest s r ≡ false → r ≡ s
+before-total lowest [] [] l h k = refl
+before-total lowest [] (y ∷ ys) l h k = absurd (omega arith)
+before-total lowest (x ∷ xs) [] l h k = absurd (omega arith)
+before-total zero (x ∷ xs) (y ∷ ys) l h k =
+    let (e, a, b) = word-total x y (higher xs ys) (higher ys xs) h k in
+    λ i. e i ∷ higher-total xs ys (omega arith) a b i
+before-total (suc lowest) (x ∷ xs) (y ∷ ys) l h k =
+    let (e, a, b) = word-total x y (before lowest xs ys) (before lowest ys xs) h k in
+    λ i. e i ∷ before-total lowest xs ys (omega arith) a b i
 
-pub insert-at : {r : List ℕ} (s : List ℕ) (rows : List (List ℕ)) → List·Memᴰ r (insert s rows) → List·Memᴰ r (s ∷ rows)
-insert-at s [] m = m
-insert-at {r} s (t ∷ rows) m =
-    insert-cases (λ set. List·Memᴰ r set → List·Memᴰ r (s ∷ t ∷ rows)) s t rows
-    (λ h n. n)
-    (λ h n. elim (List·Memᴰ·cases-cons n) [ inl e ↦ List·Memᴰ·tail (List·Memᴰ·head e) | inr k ↦ past (insert-at s rows k) ])
-    (λ h k n. List·Memᴰ·tail n) m
-  where
-    past : List·Memᴰ r (s ∷ rows) → List·Memᴰ r (s ∷ t ∷ rows)
-    past (List·Memᴰ·head e) = List·Memᴰ·head e
-    past (List·Memᴰ·tail k) = List·Memᴰ·tail (List·Memᴰ·tail k)
+pub before-apart : (lowest : ℕ) (r s : List ℕ) → before lowest r s ≡ true → r ≡ s → ⊥
+before-apart lowest r s h e = true≢false (sym h ∙ (rw e (before-irreflexive lowest s)))
 
-pub insert-keeps : {r : List ℕ} (s : List ℕ) {rows : List (List ℕ)} → List·Memᴰ r rows → List·Memᴰ r (insert s rows)
-insert-keeps {r} s (List·Memᴰ·head {x = t} {xs = rows} e) = insert-cases (List·Memᴰ r) s t rows (λ h. List·Memᴰ·tail (List·Memᴰ·head e)) (λ h. List·Memᴰ·head e) (λ h k. List·Memᴰ·head e)
-insert-keeps {r} s (List·Memᴰ·tail {x = t} {xs = rows} m) = insert-cases (List·Memᴰ r) s t rows (λ h. List·Memᴰ·tail (List·Memᴰ·tail m)) (λ h. List·Memᴰ·tail (insert-keeps s m)) (λ h k. List·Memᴰ·tail m)
+-- What follows from the laws, whatever the lowest free variable.
+module _ (lowest : ℕ) where
+  -- Strictly ascending lists: the head stands before every other row, and the rows alone determine the list.
+  pub ascending-tail : (r : List ℕ) (rows : List (List ℕ)) → ascending lowest (r ∷ rows) ≡ true → ascending lowest rows ≡ true
+  ascending-tail r [] h = refl
+  ascending-tail r (s ∷ rows) h = and-eq-true-iff (before lowest r s) (ascending lowest (s ∷ rows)) .0 h .1
 
-pub insert-puts : (s : List ℕ) (rows : List (List ℕ)) → OfLength (length s) rows → List·Memᴰ s (insert s rows)
-insert-puts s [] long = List·Memᴰ·head refl
-insert-puts s (t ∷ rows) long =
-    insert-cases (List·Memᴰ s) s t rows
-    (λ h. List·Memᴰ·head refl)
-    (λ h. List·Memᴰ·tail (insert-puts s rows (λ r m. long r (List·Memᴰ·tail m))))
-    (λ h k. List·Memᴰ·head (before-total s t (sym (long t (List·Memᴰ·head refl))) h k))
+  pub head-before : (r : List ℕ) {s : List ℕ} {rows : List (List ℕ)} → ascending lowest (r ∷ rows) ≡ true → List·Memᴰ s rows → before lowest r s ≡ true
+  head-before r h (List·Memᴰ·head {x = t} {xs = ts} e) = rw e (and-eq-true-iff (before lowest r t) (ascending lowest (t ∷ ts)) .0 h .0)
+  head-before r {s} h (List·Memᴰ·tail {x = t} {xs = ts} m) = let k = and-eq-true-iff (before lowest r t) (ascending lowest (t ∷ ts)) .0 h in before-transitive lowest r t s (k .0) (head-before t (k .1) m)
 
-insert-after : (t s : List ℕ) (rows : List (List ℕ)) → before t s ≡ true → ascending (t ∷ rows) ≡ true → ascending (t ∷ insert s rows) ≡ true
-insert-after t s [] h k = and-eq-true-iff (before t s) true .1 (h, refl)
-insert-after t s (u ∷ rows) h k =
-    let r = and-eq-true-iff (before t u) (ascending (u ∷ rows)) .0 k in
-    insert-cases (λ set. ascending (t ∷ set) ≡ true) s u rows
-    (λ a. and-eq-true-iff (before t s) (ascending (s ∷ u ∷ rows)) .1 (h, and-eq-true-iff (before s u) (ascending (u ∷ rows)) .1 (a, r .1)))
-    (λ a. and-eq-true-iff (before t u) (ascending (u ∷ insert s rows)) .1 (r .0, insert-after u s rows a (r .1)))
-    (λ a b. k)
+  pub ascending-same : (xs ys : List (List ℕ)) → ascending lowest xs ≡ true → ascending lowest ys ≡ true → ((r : List ℕ) → List·Memᴰ r xs ↔ List·Memᴰ r ys) → xs ≡ ys
+  ascending-same [] [] h k same = refl
+  ascending-same [] (y ∷ ys) h k same = absurd (List·Memᴰ·not-nil (same y .1 (List·Memᴰ·head refl)))
+  ascending-same (x ∷ xs) [] h k same = absurd (List·Memᴰ·not-nil (same x .0 (List·Memᴰ·head refl)))
+  ascending-same (x ∷ xs) (y ∷ ys) h k same =
+      let e : x ≡ y = heads (same x .0 (List·Memᴰ·head refl)) (same y .1 (List·Memᴰ·head refl)) in
+      let d = ascending-same xs ys (ascending-tail x xs h) (ascending-tail y ys k) (λ r. (λ m. rest h e m (same r .0 (List·Memᴰ·tail m)), λ m. rest k (sym e) m (same r .1 (List·Memᴰ·tail m)))) in
+      λ i. e i ∷ d i
+    where
+      heads : List·Memᴰ x (y ∷ ys) → List·Memᴰ y (x ∷ xs) → x ≡ y
+      heads (List·Memᴰ·head e) n = e
+      heads (List·Memᴰ·tail m) (List·Memᴰ·head e) = sym e
+      heads (List·Memᴰ·tail m) (List·Memᴰ·tail n) = absurd (before-apart lowest x x (before-transitive lowest x y x (head-before x h n) (head-before y k m)) refl)
 
-pub insert-ascends : (s : List ℕ) (rows : List (List ℕ)) → ascending rows ≡ true → ascending (insert s rows) ≡ true
-insert-ascends s [] h = refl
-insert-ascends s (t ∷ rows) h = insert-cases (λ set. ascending set ≡ true) s t rows (λ a. and-eq-true-iff (before s t) (ascending (t ∷ rows)) .1 (a, h)) (λ a. insert-after t s rows a h) (λ a b. h)
+      rest : {r s t : List ℕ} {us vs : List (List ℕ)} → ascending lowest (s ∷ us) ≡ true → s ≡ t → List·Memᴰ r us → List·Memᴰ r (t ∷ vs) → List·Memᴰ r vs
+      rest {r} {s} up e m (List·Memᴰ·head d) = absurd (before-apart lowest s r (head-before s up m) (e ∙ sym d))
+      rest up e m (List·Memᴰ·tail n) = n
 
-pub insertAll-at : {r : List ℕ} (set rows : List (List ℕ)) → List·Memᴰ r (insertAll set rows) → List·Memᴰ r set ⊎ List·Memᴰ r rows
-insertAll-at set [] m = inl m
-insertAll-at {r} set (s ∷ rows) m = go (insertAll-at (insert s set) rows m)
-  where
-    put : List·Memᴰ r (s ∷ set) → List·Memᴰ r set ⊎ List·Memᴰ r (s ∷ rows)
-    put (List·Memᴰ·head e) = inr (List·Memᴰ·head e)
-    put (List·Memᴰ·tail n) = inl n
+  -- Sets: a row put in its place, by the three cases of its definition.
+  insert-cases : (P : List (List ℕ) → Type 0) (s t : List ℕ) (rows : List (List ℕ))
+      → (before lowest s t ≡ true → P (s ∷ t ∷ rows)) → (before lowest t s ≡ true → P (t ∷ insert lowest s rows)) → (before lowest s t ≡ false → before lowest t s ≡ false → P (t ∷ rows)) → P (insert lowest s (t ∷ rows))
+  insert-cases P s t rows first later there = go (before lowest s t) (before lowest t s) refl refl
+    where
+      go : (p q : Bool) → before lowest s t ≡ p → before lowest t s ≡ q → P (cond p (s ∷ t ∷ rows) (cond q (t ∷ insert lowest s rows) (t ∷ rows)))
+      go true q h k = first h
+      go false true h k = later k
+      go false false h k = there h k
 
-    go : List·Memᴰ r (insert s set) ⊎ List·Memᴰ r rows → List·Memᴰ r set ⊎ List·Memᴰ r (s ∷ rows)
-    go (inl n) = put (insert-at s set n)
-    go (inr n) = inr (List·Memᴰ·tail n)
+  pub insert-at : {r : List ℕ} (s : List ℕ) (rows : List (List ℕ)) → List·Memᴰ r (insert lowest s rows) → List·Memᴰ r (s ∷ rows)
+  insert-at s [] m = m
+  insert-at {r} s (t ∷ rows) m =
+      insert-cases (λ set. List·Memᴰ r set → List·Memᴰ r (s ∷ t ∷ rows)) s t rows
+      (λ h n. n)
+      (λ h n. elim (List·Memᴰ·cases-cons n) [ inl e ↦ List·Memᴰ·tail (List·Memᴰ·head e) | inr k ↦ past (insert-at s rows k) ])
+      (λ h k n. List·Memᴰ·tail n) m
+    where
+      past : List·Memᴰ r (s ∷ rows) → List·Memᴰ r (s ∷ t ∷ rows)
+      past (List·Memᴰ·head e) = List·Memᴰ·head e
+      past (List·Memᴰ·tail k) = List·Memᴰ·tail (List·Memᴰ·tail k)
 
-pub insertAll-keeps : {r : List ℕ} {set : List (List ℕ)} (rows : List (List ℕ)) → List·Memᴰ r set → List·Memᴰ r (insertAll set rows)
-insertAll-keeps [] m = m
-insertAll-keeps (s ∷ rows) m = insertAll-keeps rows (insert-keeps s m)
+  pub insert-keeps : {r : List ℕ} (s : List ℕ) {rows : List (List ℕ)} → List·Memᴰ r rows → List·Memᴰ r (insert lowest s rows)
+  insert-keeps {r} s (List·Memᴰ·head {x = t} {xs = rows} e) = insert-cases (List·Memᴰ r) s t rows (λ h. List·Memᴰ·tail (List·Memᴰ·head e)) (λ h. List·Memᴰ·head e) (λ h k. List·Memᴰ·head e)
+  insert-keeps {r} s (List·Memᴰ·tail {x = t} {xs = rows} m) = insert-cases (List·Memᴰ r) s t rows (λ h. List·Memᴰ·tail (List·Memᴰ·tail m)) (λ h. List·Memᴰ·tail (insert-keeps s m)) (λ h k. List·Memᴰ·tail m)
 
-pub insertAll-puts : {r : List ℕ} {n : ℕ} (set : List (List ℕ)) {rows : List (List ℕ)} → OfLength n set → OfLength n rows → List·Memᴰ r rows → List·Memᴰ r (insertAll set rows)
-insertAll-puts set a b (List·Memᴰ·head {x = s} {xs = rows} e) = insertAll-keeps rows (Memᴰ·cast e (insert-puts s set (λ t m. a t m ∙ sym (b s (List·Memᴰ·head refl)))))
-insertAll-puts {n} set a b (List·Memᴰ·tail {x = s} {xs = rows} m) = insertAll-puts (insert s set) (λ t k. go (insert-at s set k)) (λ t k. b t (List·Memᴰ·tail k)) m
-  where
-    go : {t : List ℕ} → List·Memᴰ t (s ∷ set) → length t ≡ n
-    go (List·Memᴰ·head e) = ap length e ∙ b s (List·Memᴰ·head refl)
-    go {t} (List·Memᴰ·tail k) = a t k
+  pub insert-puts : (s : List ℕ) (rows : List (List ℕ)) → OfLength (length s) rows → List·Memᴰ s (insert lowest s rows)
+  insert-puts s [] long = List·Memᴰ·head refl
+  insert-puts s (t ∷ rows) long =
+      insert-cases (List·Memᴰ s) s t rows
+      (λ h. List·Memᴰ·head refl)
+      (λ h. List·Memᴰ·tail (insert-puts s rows (λ r m. long r (List·Memᴰ·tail m))))
+      (λ h k. List·Memᴰ·head (before-total lowest s t (sym (long t (List·Memᴰ·head refl))) h k))
 
-pub insertAll-ascends : (set rows : List (List ℕ)) → ascending set ≡ true → ascending (insertAll set rows) ≡ true
-insertAll-ascends set [] h = h
-insertAll-ascends set (s ∷ rows) h = insertAll-ascends (insert s set) rows (insert-ascends s set h)
+  insert-after : (t s : List ℕ) (rows : List (List ℕ)) → before lowest t s ≡ true → ascending lowest (t ∷ rows) ≡ true → ascending lowest (t ∷ insert lowest s rows) ≡ true
+  insert-after t s [] h k = and-eq-true-iff (before lowest t s) true .1 (h, refl)
+  insert-after t s (u ∷ rows) h k =
+      let r = and-eq-true-iff (before lowest t u) (ascending lowest (u ∷ rows)) .0 k in
+      insert-cases (λ set. ascending lowest (t ∷ set) ≡ true) s u rows
+      (λ a. and-eq-true-iff (before lowest t s) (ascending lowest (s ∷ u ∷ rows)) .1 (h, and-eq-true-iff (before lowest s u) (ascending lowest (u ∷ rows)) .1 (a, r .1)))
+      (λ a. and-eq-true-iff (before lowest t u) (ascending lowest (u ∷ insert lowest s rows)) .1 (r .0, insert-after u s rows a (r .1)))
+      (λ a b. k)
 
--- setOf: the same rows, each once, in order; nothing else is such a list, so what is one already stays
-pub setOf-mem : {n : ℕ} (rows : List (List ℕ)) → OfLength n rows → (r : List ℕ) → List·Memᴰ r (setOf rows) ↔ List·Memᴰ r rows
-setOf-mem rows long r = (λ m. elim (insertAll-at [] rows m) [ inl k ↦ absurd (List·Memᴰ·not-nil k) | inr k ↦ k ], insertAll-puts [] (λ s k. absurd (List·Memᴰ·not-nil k)) long)
+  pub insert-ascends : (s : List ℕ) (rows : List (List ℕ)) → ascending lowest rows ≡ true → ascending lowest (insert lowest s rows) ≡ true
+  insert-ascends s [] h = refl
+  insert-ascends s (t ∷ rows) h = insert-cases (λ set. ascending lowest set ≡ true) s t rows (λ a. and-eq-true-iff (before lowest s t) (ascending lowest (t ∷ rows)) .1 (a, h)) (λ a. insert-after t s rows a h) (λ a b. h)
 
-pub setOf-ascends : (rows : List (List ℕ)) → ascending (setOf rows) ≡ true
-setOf-ascends rows = insertAll-ascends [] rows refl
+  pub insertAll-at : {r : List ℕ} (set rows : List (List ℕ)) → List·Memᴰ r (insertAll lowest set rows) → List·Memᴰ r set ⊎ List·Memᴰ r rows
+  insertAll-at set [] m = inl m
+  insertAll-at {r} set (s ∷ rows) m = go (insertAll-at (insert lowest s set) rows m)
+    where
+      put : List·Memᴰ r (s ∷ set) → List·Memᴰ r set ⊎ List·Memᴰ r (s ∷ rows)
+      put (List·Memᴰ·head e) = inr (List·Memᴰ·head e)
+      put (List·Memᴰ·tail n) = inl n
 
--- the order in which rows are put in makes no difference
-pub insertAll-same : (n : ℕ) (set xs ys : List (List ℕ)) → ascending set ≡ true → OfLength n set → OfLength n xs → ((u : List ℕ) → List·Memᴰ u xs ↔ List·Memᴰ u ys) → insertAll set xs ≡ insertAll set ys
-insertAll-same n set xs ys up long wide same =
-    ascending-same (insertAll set xs) (insertAll set ys) (insertAll-ascends set xs up) (insertAll-ascends set ys up)
-    (λ r. (λ m. one r (insertAll-at set xs m), λ m. other r (insertAll-at set ys m)))
-  where
-    one : (r : List ℕ) → List·Memᴰ r set ⊎ List·Memᴰ r xs → List·Memᴰ r (insertAll set ys)
-    one r (inl m) = insertAll-keeps ys m
-    one r (inr m) = insertAll-puts set long (λ u o. wide u (same u .1 o)) (same r .0 m)
+      go : List·Memᴰ r (insert lowest s set) ⊎ List·Memᴰ r rows → List·Memᴰ r set ⊎ List·Memᴰ r (s ∷ rows)
+      go (inl n) = put (insert-at s set n)
+      go (inr n) = inr (List·Memᴰ·tail n)
 
-    other : (r : List ℕ) → List·Memᴰ r set ⊎ List·Memᴰ r ys → List·Memᴰ r (insertAll set xs)
-    other r (inl m) = insertAll-keeps xs m
-    other r (inr m) = insertAll-puts set long wide (same r .1 m)
+  pub insertAll-keeps : {r : List ℕ} {set : List (List ℕ)} (rows : List (List ℕ)) → List·Memᴰ r set → List·Memᴰ r (insertAll lowest set rows)
+  insertAll-keeps [] m = m
+  insertAll-keeps (s ∷ rows) m = insertAll-keeps rows (insert-keeps s m)
 
-pub setOf-same : {n : ℕ} (xs ys : List (List ℕ)) → OfLength n xs → ((r : List ℕ) → List·Memᴰ r xs ↔ List·Memᴰ r ys) → setOf xs ≡ setOf ys
-setOf-same {n} xs ys long same = insertAll-same n [] xs ys refl (λ s k. absurd (List·Memᴰ·not-nil k)) long same
+  pub insertAll-puts : {r : List ℕ} {n : ℕ} (set : List (List ℕ)) {rows : List (List ℕ)} → OfLength n set → OfLength n rows → List·Memᴰ r rows → List·Memᴰ r (insertAll lowest set rows)
+  insertAll-puts set a b (List·Memᴰ·head {x = s} {xs = rows} e) = insertAll-keeps rows (Memᴰ·cast e (insert-puts s set (λ t m. a t m ∙ sym (b s (List·Memᴰ·head refl)))))
+  insertAll-puts {n} set a b (List·Memᴰ·tail {x = s} {xs = rows} m) = insertAll-puts (insert lowest s set) (λ t k. go (insert-at s set k)) (λ t k. b t (List·Memᴰ·tail k)) m
+    where
+      go : {t : List ℕ} → List·Memᴰ t (s ∷ set) → length t ≡ n
+      go (List·Memᴰ·head e) = ap length e ∙ b s (List·Memᴰ·head refl)
+      go {t} (List·Memᴰ·tail k) = a t k
+
+  pub insertAll-ascends : (set rows : List (List ℕ)) → ascending lowest set ≡ true → ascending lowest (insertAll lowest set rows) ≡ true
+  insertAll-ascends set [] h = h
+  insertAll-ascends set (s ∷ rows) h = insertAll-ascends (insert lowest s set) rows (insert-ascends s set h)
+
+  -- setOf: the same rows, each once, in order; nothing else is such a list, so what is one already stays
+  pub setOf-mem : {n : ℕ} (rows : List (List ℕ)) → OfLength n rows → (r : List ℕ) → List·Memᴰ r (setOf lowest rows) ↔ List·Memᴰ r rows
+  setOf-mem rows long r = (λ m. elim (insertAll-at [] rows m) [ inl k ↦ absurd (List·Memᴰ·not-nil k) | inr k ↦ k ], insertAll-puts [] (λ s k. absurd (List·Memᴰ·not-nil k)) long)
+
+  pub setOf-ascends : (rows : List (List ℕ)) → ascending lowest (setOf lowest rows) ≡ true
+  setOf-ascends rows = insertAll-ascends [] rows refl
+
+  -- the order in which rows are put in makes no difference
+  pub insertAll-same : (n : ℕ) (set xs ys : List (List ℕ)) → ascending lowest set ≡ true → OfLength n set → OfLength n xs → ((u : List ℕ) → List·Memᴰ u xs ↔ List·Memᴰ u ys) → insertAll lowest set xs ≡ insertAll lowest set ys
+  insertAll-same n set xs ys up long wide same =
+      ascending-same (insertAll lowest set xs) (insertAll lowest set ys) (insertAll-ascends set xs up) (insertAll-ascends set ys up)
+      (λ r. (λ m. one r (insertAll-at set xs m), λ m. other r (insertAll-at set ys m)))
+    where
+      one : (r : List ℕ) → List·Memᴰ r set ⊎ List·Memᴰ r xs → List·Memᴰ r (insertAll lowest set ys)
+      one r (inl m) = insertAll-keeps ys m
+      one r (inr m) = insertAll-puts set long (λ u o. wide u (same u .1 o)) (same r .0 m)
+
+      other : (r : List ℕ) → List·Memᴰ r set ⊎ List·Memᴰ r ys → List·Memᴰ r (insertAll lowest set xs)
+      other r (inl m) = insertAll-keeps xs m
+      other r (inr m) = insertAll-puts set long wide (same r .1 m)
+
+  pub setOf-same : {n : ℕ} (xs ys : List (List ℕ)) → OfLength n xs → ((r : List ℕ) → List·Memᴰ r xs ↔ List·Memᴰ r ys) → setOf lowest xs ≡ setOf lowest ys
+  setOf-same {n} xs ys long same = insertAll-same n [] xs ys refl (λ s k. absurd (List·Memᴰ·not-nil k)) long same

@@ -9,7 +9,7 @@ use borrow.Author.Tests.{ltb-true, ltb-false, lt-ltb, le-ltb, eqb-true, ne-eqb}
 use native.Mathlib.Omega.{arith}
 use Rattle.meaning.specs.Lists.{select, gather}
 use Rattle.meaning.specs.Log.{Log, size, time, latest, elapsed, pointBefore, pointAfter, pointsFrom}
-use Rattle.meaning.specs.Formula.{Formula, atom, and, andNot, keep, or, exists, previous, next, since, notSince, until, notUntil, once, eventually, inWindow, compares, free}
+use Rattle.meaning.specs.Formula.{Formula, atom, and, andNot, keep, or, exists, previous, next, since, notSince, until, notUntil, once, eventually, inWindow, compares, free, lowestOf}
 use Rattle.meaning.specs.Definition2.{value}
 use Rattle.meaning.specs.Evaluator.{cutTo, valuationOf, setOf, member, atomRows, andRows, lasting, sinceRows, leading, untilRows, among, vals}
 use Rattle.meaning.specs.Kept.{belowEnd, countedAge, pairRows, pairs}
@@ -99,43 +99,43 @@ among-same f rows rows' j e u = ap (member (cutTo f (valuationOf u))) e
 
 module _ (l l' : Log) (x : Extends l l') where
   -- since and until over a test of the children, where left and right are the same at the points that pass it
-  module _ (w : Window) (c : Point → Bool) (left left' : List ℕ → Point → Bool) (right right' : Point → List (List ℕ))
+  module _ (lowest : ℕ) (w : Window) (c : Point → Bool) (left left' : List ℕ → Point → Bool) (right right' : Point → List (List ℕ))
       (p : (j : Point) → c j ≡ true → (u : List ℕ) → left u j ≡ left' u j) (q : (j : Point) → c j ≡ true → right j ≡ right' j) (i : Point) where
-    steady-since : i .0 < size l → settledSince c i ≡ true → setOf (sinceRows (time l) w left right i) ≡ setOf (sinceRows (time l') w left' right' i)
+    steady-since : i .0 < size l → settledSince c i ≡ true → setOf lowest (sinceRows (time l) w left right i) ≡ setOf lowest (sinceRows (time l') w left' right' i)
     steady-since n e =
-        ap setOf
+        ap (setOf lowest)
         (since-same l l' w left left' right right' i (λ j u. x .times j (omega arith))
         (λ j u. p j (since-each c i e j u)) (λ j u. q j (since-each c i e j u)))
 
-    steady-pairs : i .0 < size l → settledSince c i ≡ true → setOf (pairRows (time l) w left right i) ≡ setOf (pairRows (time l') w left' right' i)
+    steady-pairs : i .0 < size l → settledSince c i ≡ true → setOf lowest (pairRows (time l) w left right i) ≡ setOf lowest (pairRows (time l') w left' right' i)
     steady-pairs n e =
-        ap setOf
+        ap (setOf lowest)
         (pair-same l l' w left left' right right' i (λ j u. x .times j (omega arith))
         (λ j u. p j (since-each c i e j u)) (λ j u. q j (since-each c i e j u)))
 
-    steady-until : 0 < w .end → settledUntil l w c i ≡ true → setOf (untilRows (time l) (size l) w left right i) ≡ setOf (untilRows (time l') (size l') w left' right' i)
+    steady-until : 0 < w .end → settledUntil l w c i ≡ true → setOf lowest (untilRows (time l) (size l) w left right i) ≡ setOf lowest (untilRows (time l') (size l') w left' right' i)
     steady-until d e =
         let s : UntilSettled l w c i = until-parts l w c i e in
-        ap setOf
+        ap (setOf lowest)
         (until-same l l' x w d left left' right right' i (s .here) (s .late)
         (λ j u o h. p j (s .inner j u o h)) (λ j u o h. q j (s .inner j u o h)))
 
-  steady-previous : (w : Window) (rows rows' : List (List ℕ)) (i : Point) → i .0 < size l → (eqb (i .0) 0 ≡ true) ⊎ (rows ≡ rows')
-      → setOf (cond (ltb 0 (i .0) && inWindow w (elapsed (time l (pointBefore i)) (time l i))) rows []) ≡ setOf (cond (ltb 0 (i .0) && inWindow w (elapsed (time l' (pointBefore i)) (time l' i))) rows' [])
-  steady-previous w rows rows' i n (inl z) = rw (le-ltb 0 (i .0) (omega (arith, eqb-true (i .0) 0 z)))
-  steady-previous w rows rows' i n (inr e) = rw (e, x .times (pointBefore i) (omega arith), x .times i n)
+  steady-previous : (lowest : ℕ) (w : Window) (rows rows' : List (List ℕ)) (i : Point) → i .0 < size l → (eqb (i .0) 0 ≡ true) ⊎ (rows ≡ rows')
+      → setOf lowest (cond (ltb 0 (i .0) && inWindow w (elapsed (time l (pointBefore i)) (time l i))) rows []) ≡ setOf lowest (cond (ltb 0 (i .0) && inWindow w (elapsed (time l' (pointBefore i)) (time l' i))) rows' [])
+  steady-previous lowest w rows rows' i n (inl z) = rw (le-ltb 0 (i .0) (omega (arith, eqb-true (i .0) 0 z)))
+  steady-previous lowest w rows rows' i n (inr e) = rw (e, x .times (pointBefore i) (omega arith), x .times i n)
 
   pub steady-by : (φ : Formula) → Fine φ → (i : Point) → settled l φ i ≡ true → vals l φ i ≡ vals l' φ i
-  steady-by (atom r ts) f i e = ap (λ rows. setOf (atomRows ts rows)) (x .rows r i (ltb-true (i .0) (size l) e))
+  steady-by (atom r ts) f i e = ap (λ rows. setOf (lowestOf (free (atom r ts))) (atomRows ts rows)) (x .rows r i (ltb-true (i .0) (size l) e))
   steady-by (and a b) f i e =
-      ap₂ (λ s t. setOf (andRows (free a) (free b) s t)) (steady-by a (f .0) i (first (settled l a i) (settled l b i) e)) (steady-by b (f .1) i (second (settled l a i) (settled l b i) e))
+      ap₂ (λ s t. setOf (lowestOf (free (and a b))) (andRows (free a) (free b) s t)) (steady-by a (f .0) i (first (settled l a i) (settled l b i) e)) (steady-by b (f .1) i (second (settled l a i) (settled l b i) e))
   steady-by (andNot a b) f i e =
-      ap₂ (λ s t. setOf (select (λ u. not (member (cutTo (free b) (valuationOf u)) t)) s)) (steady-by a (f .0) i (first (settled l a i) (settled l b i) e)) (steady-by b (f .1) i (second (settled l a i) (settled l b i) e))
-  steady-by (keep a c s t) f i e = ap (λ rows. setOf (select (λ u. compares c (value (valuationOf u) s) (value (valuationOf u) t)) rows)) (steady-by a (f .0) i e)
+      ap₂ (λ s t. setOf (lowestOf (free (andNot a b))) (select (λ u. not (member (cutTo (free b) (valuationOf u)) t)) s)) (steady-by a (f .0) i (first (settled l a i) (settled l b i) e)) (steady-by b (f .1) i (second (settled l a i) (settled l b i) e))
+  steady-by (keep a c s t) f i e = ap (λ rows. setOf (lowestOf (free (keep a c s t))) (select (λ u. compares c (value (valuationOf u) s) (value (valuationOf u) t)) rows)) (steady-by a (f .0) i e)
   steady-by (or a b) f i e =
-      ap₂ (λ s t. setOf (s ++ t)) (steady-by a (f .0) i (first (settled l a i) (settled l b i) e)) (steady-by b (f .1) i (second (settled l a i) (settled l b i) e))
-  steady-by (exists a y) f i e = ap (λ rows. setOf (map (λ u. cutTo (λ z. not (eqb z y)) (valuationOf u)) rows)) (steady-by a (f .0) i e)
-  steady-by (previous a w) f i e = steady-previous w (vals l a (pointBefore i)) (vals l' a (pointBefore i)) i (present l (previous a w) i e)
+      ap₂ (λ s t. setOf (lowestOf (free (or a b))) (s ++ t)) (steady-by a (f .0) i (first (settled l a i) (settled l b i) e)) (steady-by b (f .1) i (second (settled l a i) (settled l b i) e))
+  steady-by (exists a y) f i e = ap (λ rows. setOf (lowestOf (free (exists a y))) (map (λ u. cutTo (λ z. not (eqb z y)) (valuationOf u)) rows)) (steady-by a (f .0) i e)
+  steady-by (previous a w) f i e = steady-previous (lowestOf (free (previous a w))) w (vals l a (pointBefore i)) (vals l' a (pointBefore i)) i (present l (previous a w) i e)
       (go (steady-by a f (pointBefore i)) (either (eqb (i .0) 0) (settled l a (pointBefore i)) (second (ltb (i .0) (size l)) (eqb (i .0) 0 || settled l a (pointBefore i)) e)))
     where
       go : (settled l a (pointBefore i) ≡ true → vals l a (pointBefore i) ≡ vals l' a (pointBefore i)) → (eqb (i .0) 0 ≡ true) ⊎ (settled l a (pointBefore i) ≡ true)
@@ -146,25 +146,25 @@ module _ (l l' : Log) (x : Extends l l') where
       let n : suc (i .0) < size l = present l a (pointAfter i) e in
       rw (lt-ltb (suc (i .0)) (size l) n, lt-ltb (suc (i .0)) (size l') (omega (arith, x .longer)), x .times i (omega arith), x .times (pointAfter i) n, steady-by a f (pointAfter i) e)
   steady-by (since a b w) f i e =
-      steady-since w (twin l a b) (among (free a) (vals l a)) (among (free a) (vals l' a)) (vals l b) (vals l' b)
+      steady-since (lowestOf (free (since a b w))) w (twin l a b) (among (free a) (vals l a)) (among (free a) (vals l' a)) (vals l b) (vals l' b)
       (λ j h. among-same (free a) (vals l a) (vals l' a) j (steady-by a (f .0) j (first (settled l a j) (settled l b j) h)))
       (λ j h. steady-by b (f .1) j (second (settled l a j) (settled l b j) h)) i (present l (since a b w) i e) e
   steady-by (notSince a b w) f i e =
-      steady-since w (twin l a b) (λ u k. not (among (free a) (vals l a) u k)) (λ u k. not (among (free a) (vals l' a) u k)) (vals l b) (vals l' b)
+      steady-since (lowestOf (free (notSince a b w))) w (twin l a b) (λ u k. not (among (free a) (vals l a) u k)) (λ u k. not (among (free a) (vals l' a) u k)) (vals l b) (vals l' b)
       (λ j h u. ap not (among-same (free a) (vals l a) (vals l' a) j (steady-by a (f .0) j (first (settled l a j) (settled l b j) h)) u))
       (λ j h. steady-by b (f .1) j (second (settled l a j) (settled l b j) h)) i (present l (notSince a b w) i e) e
   steady-by (until a b w) f i e =
-      steady-until w (twin l a b) (among (free a) (vals l a)) (among (free a) (vals l' a)) (vals l b) (vals l' b)
+      steady-until (lowestOf (free (until a b w))) w (twin l a b) (among (free a) (vals l a)) (among (free a) (vals l' a)) (vals l b) (vals l' b)
       (λ j h. among-same (free a) (vals l a) (vals l' a) j (steady-by a (f .0) j (first (settled l a j) (settled l b j) h)))
       (λ j h. steady-by b (f .1) j (second (settled l a j) (settled l b j) h)) i (f .3) e
   steady-by (notUntil a b w) f i e =
-      steady-until w (twin l a b) (λ u k. not (among (free a) (vals l a) u k)) (λ u k. not (among (free a) (vals l' a) u k)) (vals l b) (vals l' b)
+      steady-until (lowestOf (free (notUntil a b w))) w (twin l a b) (λ u k. not (among (free a) (vals l a) u k)) (λ u k. not (among (free a) (vals l' a) u k)) (vals l b) (vals l' b)
       (λ j h u. ap not (among-same (free a) (vals l a) (vals l' a) j (steady-by a (f .0) j (first (settled l a j) (settled l b j) h)) u))
       (λ j h. steady-by b (f .1) j (second (settled l a j) (settled l b j) h)) i (f .3) e
   steady-by (once a w) f i e =
-      steady-since w (settled l a) (λ u k. true) (λ u k. true) (vals l a) (vals l' a) (λ j h u. refl) (λ j h. steady-by a f j h) i (present l (once a w) i e) e
+      steady-since (lowestOf (free (once a w))) w (settled l a) (λ u k. true) (λ u k. true) (vals l a) (vals l' a) (λ j h u. refl) (λ j h. steady-by a f j h) i (present l (once a w) i e) e
   steady-by (eventually a w) f i e =
-      steady-until w (settled l a) (λ u k. true) (λ u k. true) (vals l a) (vals l' a) (λ j h u. refl) (λ j h. steady-by a (f .0) j h) i (f .1) e
+      steady-until (lowestOf (free (eventually a w))) w (settled l a) (λ u k. true) (λ u k. true) (vals l a) (vals l' a) (λ j h u. refl) (λ j h. steady-by a (f .0) j h) i (f .1) e
 
   -- the pairs of a node at a settled point
   pub pairs-by : (φ : Formula) → Fine φ → (i : Point) → settled l φ i ≡ true → pairs l φ i ≡ pairs l' φ i
@@ -177,15 +177,15 @@ module _ (l l' : Log) (x : Extends l l') where
   pairs-by (previous a w) f i e = refl
   pairs-by (next a w) f i e = refl
   pairs-by (since a b w) f i e =
-      steady-pairs w (twin l a b) (among (free a) (vals l a)) (among (free a) (vals l' a)) (vals l b) (vals l' b)
+      steady-pairs (suc (lowestOf (free (since a b w)))) w (twin l a b) (among (free a) (vals l a)) (among (free a) (vals l' a)) (vals l b) (vals l' b)
       (λ j h. among-same (free a) (vals l a) (vals l' a) j (steady-by a (f .0) j (first (settled l a j) (settled l b j) h)))
       (λ j h. steady-by b (f .1) j (second (settled l a j) (settled l b j) h)) i (present l (since a b w) i e) e
   pairs-by (notSince a b w) f i e =
-      steady-pairs w (twin l a b) (λ u k. not (among (free a) (vals l a) u k)) (λ u k. not (among (free a) (vals l' a) u k)) (vals l b) (vals l' b)
+      steady-pairs (suc (lowestOf (free (notSince a b w)))) w (twin l a b) (λ u k. not (among (free a) (vals l a) u k)) (λ u k. not (among (free a) (vals l' a) u k)) (vals l b) (vals l' b)
       (λ j h u. ap not (among-same (free a) (vals l a) (vals l' a) j (steady-by a (f .0) j (first (settled l a j) (settled l b j) h)) u))
       (λ j h. steady-by b (f .1) j (second (settled l a j) (settled l b j) h)) i (present l (notSince a b w) i e) e
   pairs-by (until a b w) f i e = refl
   pairs-by (notUntil a b w) f i e = refl
   pairs-by (once a w) f i e =
-      steady-pairs w (settled l a) (λ u k. true) (λ u k. true) (vals l a) (vals l' a) (λ j h u. refl) (λ j h. steady-by a f j h) i (present l (once a w) i e) e
+      steady-pairs (suc (lowestOf (free (once a w)))) w (settled l a) (λ u k. true) (λ u k. true) (vals l a) (vals l' a) (λ j h u. refl) (λ j h. steady-by a f j h) i (present l (once a w) i e) e
   pairs-by (eventually a w) f i e = refl

@@ -383,12 +383,30 @@ cases =
       kepts = 0 ∷ 0 ∷ 0 ∷ 0 ∷ [];
       left = 1;
     }
-    -- rows ascend by variable 0, then by variable 1, and a repeated row counts as one
+    -- "Newest zone first under one valve": variable 0 ascends, rows that tie on it descend by variable 1, and a repeated row counts as one
     ∷ record {
       rule = 1 ∷ 1 ∷ 1 ∷ 0 ∷ 2 ∷ 0 ∷ 0 ∷ 0 ∷ 0 ∷ 0 ∷ 0 ∷ 0 ∷ (head 1 0 0 ++ body 0 1);
       fed = events (event 3 ((0 ∷ 2 ∷ 1 ∷ []) ∷ (0 ∷ 1 ∷ 5 ∷ []) ∷ (0 ∷ 1 ∷ 3 ∷ []) ∷ (0 ∷ 2 ∷ 1 ∷ []) ∷ []) ∷ []);
       checked = reaching 0 3;
-      givens = written (1 ∷ 2 ∷ 3 ∷ 0 ∷ 3 ∷ 3 ∷ 1 ∷ 3 ∷ 1 ∷ 5 ∷ 2 ∷ 1 ∷ []) ∷ [];
+      givens = written (1 ∷ 2 ∷ 3 ∷ 0 ∷ 3 ∷ 3 ∷ 1 ∷ 5 ∷ 1 ∷ 3 ∷ 2 ∷ 1 ∷ []) ∷ [];
+      kepts = 0 ∷ [];
+      left = 0;
+    }
+    -- "Rows that tie on the lowest free variable now descend by each later variable in turn": three variables, with ties on the first, and on the first two
+    ∷ record {
+      rule = sizes 3 0 1 ++ head 1 0 0 ++ word 0 ++ word 1 ++ word 2 ++ word 0;
+      fed = events (event 3 ((0 ∷ 1 ∷ 2 ∷ 3 ∷ []) ∷ (0 ∷ 1 ∷ 2 ∷ 5 ∷ []) ∷ (0 ∷ 1 ∷ 4 ∷ 1 ∷ []) ∷ (0 ∷ 0 ∷ 9 ∷ 9 ∷ []) ∷ []) ∷ []);
+      checked = reaching 0 7;
+      givens = written (1 ∷ 3 ∷ 4 ∷ 0 ∷ 3 ∷ 4 ∷ 0 ∷ 9 ∷ 9 ∷ 1 ∷ 4 ∷ 1 ∷ 1 ∷ 2 ∷ 5 ∷ 1 ∷ 2 ∷ 3 ∷ []) ∷ [];
+      kepts = 0 ∷ [];
+      left = 0;
+    }
+    -- "By the node's own free variables, not by the four stored words": of variables 1 and 3, 1 ascends and 3 descends
+    ∷ record {
+      rule = sizes 2 0 1 ++ head 1 0 0 ++ body 1 3;
+      fed = events (event 3 ((0 ∷ 1 ∷ 5 ∷ []) ∷ (0 ∷ 1 ∷ 7 ∷ []) ∷ (0 ∷ 0 ∷ 9 ∷ []) ∷ (0 ∷ 2 ∷ 6 ∷ []) ∷ []) ∷ []);
+      checked = reaching 0 10;
+      givens = written (1 ∷ 2 ∷ 4 ∷ 0 ∷ 3 ∷ 4 ∷ 0 ∷ 9 ∷ 1 ∷ 7 ∷ 1 ∷ 5 ∷ 2 ∷ 6 ∷ []) ∷ [];
       kepts = 0 ∷ [];
       left = 0;
     }
@@ -396,13 +414,13 @@ cases =
     ∷ keeping 0 (1 ∷ 2 ∷ 1 ∷ 0 ∷ 3 ∷ 1 ∷ 2 ∷ 2 ∷ [])
     ∷ keeping 1 (1 ∷ 2 ∷ 2 ∷ 0 ∷ 3 ∷ 2 ∷ 1 ∷ 2 ∷ 2 ∷ 1 ∷ [])
     ∷ keeping 2 (1 ∷ 2 ∷ 1 ∷ 0 ∷ 3 ∷ 1 ∷ 1 ∷ 2 ∷ [])
-    ∷ keeping 3 (1 ∷ 2 ∷ 2 ∷ 0 ∷ 3 ∷ 2 ∷ 2 ∷ 1 ∷ 2 ∷ 2 ∷ [])
+    ∷ keeping 3 (1 ∷ 2 ∷ 2 ∷ 0 ∷ 3 ∷ 2 ∷ 2 ∷ 2 ∷ 2 ∷ 1 ∷ [])
     -- and: rows that agree where both have the variable, here variable 1
     ∷ record {
       rule = sizes 2 2 3 ++ joinHeads ++ joinBodies;
       fed = events (event 3 ((0 ∷ 1 ∷ 2 ∷ []) ∷ (0 ∷ 3 ∷ 4 ∷ []) ∷ (1 ∷ 2 ∷ 6 ∷ []) ∷ (1 ∷ 2 ∷ 5 ∷ []) ∷ (1 ∷ 9 ∷ 9 ∷ []) ∷ []) ∷ []);
       checked = reaching 0 7;
-      givens = written (1 ∷ 3 ∷ 2 ∷ 0 ∷ 3 ∷ 2 ∷ 1 ∷ 2 ∷ 5 ∷ 1 ∷ 2 ∷ 6 ∷ []) ∷ [];
+      givens = written (1 ∷ 3 ∷ 2 ∷ 0 ∷ 3 ∷ 2 ∷ 1 ∷ 2 ∷ 6 ∷ 1 ∷ 2 ∷ 5 ∷ []) ∷ [];
       kepts = 0 ∷ [];
       left = 0;
     }
@@ -411,7 +429,7 @@ cases =
       rule = sizes 2 2 4 ++ joinHeads ++ head 6 2 0 ++ joinBodies ++ body 1 0;
       fed = events (event 3 ((0 ∷ 1 ∷ 2 ∷ []) ∷ (0 ∷ 1 ∷ 4 ∷ []) ∷ (1 ∷ 2 ∷ 6 ∷ []) ∷ (1 ∷ 4 ∷ 6 ∷ []) ∷ (1 ∷ 4 ∷ 5 ∷ []) ∷ []) ∷ []);
       checked = reaching 0 5;
-      givens = written (1 ∷ 2 ∷ 2 ∷ 0 ∷ 3 ∷ 2 ∷ 1 ∷ 5 ∷ 1 ∷ 6 ∷ []) ∷ [];
+      givens = written (1 ∷ 2 ∷ 2 ∷ 0 ∷ 3 ∷ 2 ∷ 1 ∷ 6 ∷ 1 ∷ 5 ∷ []) ∷ [];
       kepts = 0 ∷ [];
       left = 0;
     }

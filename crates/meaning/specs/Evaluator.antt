@@ -8,7 +8,7 @@ use lib.Dec.{ltb, eqb}
 use Rattle.meaning.specs.Lists.{all, any, select, gather, sameRow}
 use Rattle.meaning.specs.Order.{before}
 use Rattle.meaning.specs.Log.{Log, size, time, rowsAt, elapsed, point, pointBefore, pointAfter, pointsFrom}
-use Rattle.meaning.specs.Formula.{Formula, atom, and, andNot, keep, or, exists, previous, next, since, notSince, until, notUntil, once, eventually, inWindow, compares, isVariable, free, variables}
+use Rattle.meaning.specs.Formula.{Formula, atom, and, andNot, keep, or, exists, previous, next, since, notSince, until, notUntil, once, eventually, inWindow, compares, isVariable, free, lowestOf, variables}
 use Rattle.meaning.specs.Definition2.{Valuation, value}
 use Rattle.meaning.specs.declared.Point.{Point}
 use Rattle.meaning.specs.declared.Stamp.{Stamp}
@@ -23,17 +23,17 @@ abbrev pub valuationOf : List ℕ → Valuation
 valuationOf u x = getD u x 0
 
 -- a row put in its place in a strictly ascending list, where it is once
-abbrev pub insert : List ℕ → List (List ℕ) → List (List ℕ)
-insert r [] = r ∷ []
-insert r (s ∷ rows) = cond (before r s) (r ∷ s ∷ rows) (cond (before s r) (s ∷ insert r rows) (s ∷ rows))
+abbrev pub insert : ℕ → List ℕ → List (List ℕ) → List (List ℕ)
+insert lowest r [] = r ∷ []
+insert lowest r (s ∷ rows) = cond (before lowest r s) (r ∷ s ∷ rows) (cond (before lowest s r) (s ∷ insert lowest r rows) (s ∷ rows))
 
-abbrev pub insertAll : List (List ℕ) → List (List ℕ) → List (List ℕ)
-insertAll set [] = set
-insertAll set (r ∷ rows) = insertAll (insert r set) rows
+abbrev pub insertAll : ℕ → List (List ℕ) → List (List ℕ) → List (List ℕ)
+insertAll lowest set [] = set
+insertAll lowest set (r ∷ rows) = insertAll lowest (insert lowest r set) rows
 
--- the rows of a list, each once, in order
-abbrev pub setOf : List (List ℕ) → List (List ℕ)
-setOf rows = insertAll [] rows
+-- the rows of a list, each once, in the order that the lowest free variable gives
+abbrev pub setOf : ℕ → List (List ℕ) → List (List ℕ)
+setOf lowest rows = insertAll lowest [] rows
 
 abbrev pub member : List ℕ → List (List ℕ) → Bool
 member r rows = any (sameRow r) rows
@@ -80,17 +80,17 @@ abbrev pub among : (ℕ → Bool) → (Point → List (List ℕ)) → List ℕ �
 among f left u k = member (cutTo f (valuationOf u)) (left k)
 
 abbrev pub vals : Log → Formula → Point → List (List ℕ)
-vals l (atom r ts) i = setOf (atomRows ts (rowsAt l r i))
-vals l (and a b) i = setOf (andRows (free a) (free b) (vals l a i) (vals l b i))
-vals l (andNot a b) i = setOf (select (λ u. not (among (free b) (vals l b) u i)) (vals l a i))
-vals l (keep a c s t) i = setOf (select (λ u. compares c (value (valuationOf u) s) (value (valuationOf u) t)) (vals l a i))
-vals l (or a b) i = setOf (vals l a i ++ vals l b i)
-vals l (exists a x) i = setOf (map (λ u. cutTo (λ y. not (eqb y x)) (valuationOf u)) (vals l a i))
-vals l (previous a w) i = setOf (cond (ltb 0 (i .0) && inWindow w (elapsed (time l (pointBefore i)) (time l i))) (vals l a (pointBefore i)) [])
-vals l (next a w) i = setOf (cond (ltb (suc (i .0)) (size l) && inWindow w (elapsed (time l i) (time l (pointAfter i)))) (vals l a (pointAfter i)) [])
-vals l (since a b w) i = setOf (sinceRows (time l) w (among (free a) (vals l a)) (vals l b) i)
-vals l (notSince a b w) i = setOf (sinceRows (time l) w (λ u k. not (among (free a) (vals l a) u k)) (vals l b) i)
-vals l (until a b w) i = setOf (untilRows (time l) (size l) w (among (free a) (vals l a)) (vals l b) i)
-vals l (notUntil a b w) i = setOf (untilRows (time l) (size l) w (λ u k. not (among (free a) (vals l a) u k)) (vals l b) i)
-vals l (once a w) i = setOf (sinceRows (time l) w (λ u k. true) (vals l a) i)
-vals l (eventually a w) i = setOf (untilRows (time l) (size l) w (λ u k. true) (vals l a) i)
+vals l (atom r ts) i = setOf (lowestOf (free (atom r ts))) (atomRows ts (rowsAt l r i))
+vals l (and a b) i = setOf (lowestOf (free (and a b))) (andRows (free a) (free b) (vals l a i) (vals l b i))
+vals l (andNot a b) i = setOf (lowestOf (free (andNot a b))) (select (λ u. not (among (free b) (vals l b) u i)) (vals l a i))
+vals l (keep a c s t) i = setOf (lowestOf (free (keep a c s t))) (select (λ u. compares c (value (valuationOf u) s) (value (valuationOf u) t)) (vals l a i))
+vals l (or a b) i = setOf (lowestOf (free (or a b))) (vals l a i ++ vals l b i)
+vals l (exists a x) i = setOf (lowestOf (free (exists a x))) (map (λ u. cutTo (λ y. not (eqb y x)) (valuationOf u)) (vals l a i))
+vals l (previous a w) i = setOf (lowestOf (free (previous a w))) (cond (ltb 0 (i .0) && inWindow w (elapsed (time l (pointBefore i)) (time l i))) (vals l a (pointBefore i)) [])
+vals l (next a w) i = setOf (lowestOf (free (next a w))) (cond (ltb (suc (i .0)) (size l) && inWindow w (elapsed (time l i) (time l (pointAfter i)))) (vals l a (pointAfter i)) [])
+vals l (since a b w) i = setOf (lowestOf (free (since a b w))) (sinceRows (time l) w (among (free a) (vals l a)) (vals l b) i)
+vals l (notSince a b w) i = setOf (lowestOf (free (notSince a b w))) (sinceRows (time l) w (λ u k. not (among (free a) (vals l a) u k)) (vals l b) i)
+vals l (until a b w) i = setOf (lowestOf (free (until a b w))) (untilRows (time l) (size l) w (among (free a) (vals l a)) (vals l b) i)
+vals l (notUntil a b w) i = setOf (lowestOf (free (notUntil a b w))) (untilRows (time l) (size l) w (λ u k. not (among (free a) (vals l a) u k)) (vals l b) i)
+vals l (once a w) i = setOf (lowestOf (free (once a w))) (sinceRows (time l) w (λ u k. true) (vals l a) i)
+vals l (eventually a w) i = setOf (lowestOf (free (eventually a w))) (untilRows (time l) (size l) w (λ u k. true) (vals l a) i)

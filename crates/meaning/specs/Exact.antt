@@ -5,6 +5,7 @@ use mathlib.Core.Bool.{Bool, true}
 use mathlib.Core.Logic.{_↔_}
 use mathlib.Core.List.{List, List·Memᴰ}
 use Rattle.meaning.specs.Order.{ascending}
+use Rattle.meaning.specs.Formula.{lowestOf}
 use Rattle.meaning.specs.Definition2.{Valuation}
 use Rattle.meaning.specs.Evaluator.{cutTo, valuationOf}
 
@@ -16,4 +17,4 @@ pub record Gives (f : ℕ → Bool) (H : Valuation → Type 0) (rows : List (Lis
 -- The promises of an evaluator: nothing but the satisfying valuations, none missing, each once, in order.
 pub record Exact (f : ℕ → Bool) (H : Valuation → Type 0) (rows : List (List ℕ)) : Type 0 where
   pub gives : Gives f H rows
-  pub ascends : ascending rows ≡ true
+  pub ascends : ascending (lowestOf f) rows ≡ true

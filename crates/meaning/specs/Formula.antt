@@ -4,7 +4,7 @@ use mathlib.Core.Bool.{Bool, true, false, not, _&&_, _||_}
 use mathlib.Core.List.{List, [], _∷_}
 use lib.ListN.{take}
 use lib.Dec.{ltb, leb, eqb}
-use Rattle.meaning.specs.Lists.{all, any}
+use Rattle.meaning.specs.Lists.{all, any, firstOr}
 use Rattle.meaning.specs.declared.Term.{Term}
 use Rattle.meaning.specs.declared.Term.the-variants.{Variable, Constant}
 use Rattle.meaning.specs.declared.Terms.{Terms}
@@ -97,6 +97,10 @@ withoutNext (eventually a w) = withoutNext a
 -- "Variables are 0 to 3"
 abbrev pub variables : List ℕ
 variables = 0 ∷ 1 ∷ 2 ∷ 3 ∷ []
+
+-- the lowest of a set of variables; 0 where it has none
+abbrev pub lowestOf : (ℕ → Bool) → ℕ
+lowestOf f = firstOr f variables 0
 
 -- the first set of variables lies within the second
 abbrev pub within : (ℕ → Bool) → (ℕ → Bool) → Bool

@@ -6,7 +6,7 @@ use lib.ListN.{length, getD, drop}
 use lib.Dec.{ltb, leb, eqb}
 use Rattle.meaning.specs.Lists.{any, range, select, firstOr, gather}
 use Rattle.meaning.specs.Log.{Log, point, time, elapsed, pointsFrom, pointsOf}
-use Rattle.meaning.specs.Formula.{Formula, atom, and, andNot, keep, or, exists, previous, next, since, notSince, until, notUntil, once, eventually, free}
+use Rattle.meaning.specs.Formula.{Formula, atom, and, andNot, keep, or, exists, previous, next, since, notSince, until, notUntil, once, eventually, free, lowestOf}
 use Rattle.meaning.specs.Evaluator.{setOf, lasting, among, vals}
 use Rattle.meaning.specs.Settled.{settled, settledCount}
 use Rattle.meaning.specs.RuleFile.{nodeCount, nodeAt, childrenOf, formulaAt, lastNode, pattern, isOneOf}
@@ -22,7 +22,7 @@ belowEnd w age = eqb (w .end) 0 || ltb age (w .end)
 abbrev pub countedAge : Window → ℕ → ℕ
 countedAge w age = cond (eqb (w .end) 0) (min age (w .start)) age
 
--- "the distinct pairs (valuation, age) that Lemma 9(i) of document 003 gives": each as its age and then its row, so that they ascend by age first
+-- "the distinct pairs (valuation, age) that Lemma 9(i) of document 003 gives": each as its age and then its row, so that they ascend by age first, and with one age stand in the order of valuations
 abbrev pub pairRows : (Point → Stamp) → Window → (List ℕ → Point → Bool) → (Point → List (List ℕ)) → Point → List (List ℕ)
 pairRows τ w left right i =
     gather (λ j. map (λ u. countedAge w (elapsed (τ j) (τ i)) ∷ u) (lasting left right i j))
@@ -38,11 +38,11 @@ pairs l (or a b) i = []
 pairs l (exists a x) i = []
 pairs l (previous a w) i = []
 pairs l (next a w) i = []
-pairs l (since a b w) i = setOf (pairRows (time l) w (among (free a) (vals l a)) (vals l b) i)
-pairs l (notSince a b w) i = setOf (pairRows (time l) w (λ u k. not (among (free a) (vals l a) u k)) (vals l b) i)
+pairs l (since a b w) i = setOf (suc (lowestOf (free (since a b w)))) (pairRows (time l) w (among (free a) (vals l a)) (vals l b) i)
+pairs l (notSince a b w) i = setOf (suc (lowestOf (free (notSince a b w)))) (pairRows (time l) w (λ u k. not (among (free a) (vals l a) u k)) (vals l b) i)
 pairs l (until a b w) i = []
 pairs l (notUntil a b w) i = []
-pairs l (once a w) i = setOf (pairRows (time l) w (λ u k. true) (vals l a) i)
+pairs l (once a w) i = setOf (suc (lowestOf (free (once a w)))) (pairRows (time l) w (λ u k. true) (vals l a) i)
 pairs l (eventually a w) i = []
 
 -- "with i its last settled point"; before any settled point there are none

@@ -15,5 +15,6 @@ pub mod Kept
 pub mod Event
 pub mod Report
 pub mod Keeper
+pub mod OrderLaws
 pub mod Limits
 pub mod WithoutNotices

@@ -54,14 +54,14 @@ rowIn r q = take (freeIn r) (drop (3 + 3 * pointsIn r + freeIn r * q) r)
 unfoldable pub rowsIn : List ℕ → ℕ → List (List ℕ)
 rowsIn r k = map (rowIn r) (range (rowsBefore r k) (countIn r k))
 
--- "For 17 a report's form is sizes in range, words enough, the total and these two ascents, and no more"
+-- "For 17 a report's form is sizes in range, words enough, the total and these two ascents, and no more"; of the rows: "In a report column 0 ascends and columns 1 to 3 descend"
 unfoldable pub inForm : List ℕ → Bool
 inForm r =
     leb 3 (length r) && leb (pointsIn r) mostReported && leb (freeIn r) 4
     && leb (3 + 3 * pointsIn r + freeIn r * totalIn r) (length r)
     && eqb (rowsBefore r (pointsIn r)) (totalIn r)
-    && ascending (map (λ k. pointIn r k ∷ []) (range 0 (pointsIn r)))
-    && all (λ k. ascending (rowsIn r k)) (range 0 (pointsIn r))
+    && ascending 0 (map (λ k. pointIn r k ∷ []) (range 0 (pointsIn r)))
+    && all (λ k. ascending 0 (rowsIn r k)) (range 0 (pointsIn r))
 
 -- "17: not a report by the next section, or no such entry. The row count of entry k is answered or refused"
 unfoldable pub readCount : List ℕ → ℕ → Outcome ℕ

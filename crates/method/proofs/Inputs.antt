@@ -8,7 +8,7 @@ use lib.Dec.{ltb, eqb}
 use borrow.Author.Tests.{ltb-true, ltb-false, lt-ltb, le-ltb, ne-eqb}
 use Rattle.meaning.specs.Lists.{all, select, gather}
 use Rattle.meaning.specs.Log.{Log, Ordered, size, time, rowsAt, elapsed, pointBefore, pointAfter, pointsFrom}
-use Rattle.meaning.specs.Formula.{Formula, free, termsOf, inWindow, variables}
+use Rattle.meaning.specs.Formula.{Formula, free, lowestOf, termsOf, inWindow, variables}
 use Rattle.meaning.specs.Evaluator.{cutTo, valuationOf, setOf, atomRows, leading, untilRows, among, vals}
 use Rattle.meaning.specs.Settled.{settled, settledSince, settledUntil}
 use Rattle.meaning.specs.View.{viewOf}
@@ -40,7 +40,7 @@ pub record InputsAgree (v : Inputs) (l : Log) (F : ℕ → Formula) (n : Node) (
 -- a child's rows, asked for a row
 found-among : (v : Inputs) (l : Log) (F : ℕ → Formula) (a : ℕ) (k : Point) → Fine (F a) → v .free ≡ (λ y. free (F y)) → v .rows a k ≡ vals l (F a) k → (u : List ℕ) → found v a u k ≡ among (free (F a)) (vals l (F a)) u k
 found-among v l F a k f e r u =
-    rw (e, r) (look-member (cutTo (free (F a)) (valuationOf u)) (vals l (F a) k) (rows-length l (F a) f k) (ascends l (F a) f k))
+    rw (e, r) (look-member (lowestOf (free (F a))) (cutTo (free (F a)) (valuationOf u)) (vals l (F a) k) (rows-length l (F a) f k) (ascends l (F a) f k))
 
 -- until over fewer points, where the others are past the window's end
 pub until-cut : (τ τ' : Point → Stamp) (m n : ℕ) (w : Window) (left left' : List ℕ → Point → Bool) (right right' : Point → List (List ℕ)) (i : Point)
@@ -161,17 +161,17 @@ module _ (v : Inputs) (l : Log) (ordered : Ordered l) (F : ℕ → Formula) (sta
 
   -- the valuations and the pairs of each kind
   pub settle-right : (n : Node) → InputsAgree v l F n start → Fine (formulaOf F n) → settled l (formulaOf F n) i ≡ true → (childrenOf n ≡ [] → (r : ℕ) → v .event r ≡ rowsAt l r i)
-      → (settle v (pairsBefore l (formulaOf F n) start) start i n ≡ vals l (formulaOf F n) i)
-      × (pairsAfter v (pairsBefore l (formulaOf F n) start) start i (viewOf n) ≡ pairs l (formulaOf F n) i)
+      → (settle v (lowestOf (free (formulaOf F n))) (pairsBefore l (formulaOf F n) start) start i n ≡ vals l (formulaOf F n) i)
+      × (pairsAfter v (lowestOf (free (formulaOf F n))) (pairsBefore l (formulaOf F n) start) start i (viewOf n) ≡ pairs l (formulaOf F n) i)
   unfolding settle
-  settle-right (Atom r t) s f e h = (ap (λ rows. setOf (atomRows (termsOf t) rows)) (h refl r), refl)
+  settle-right (Atom r t) s f e h = (ap (λ rows. setOf (lowestOf (free (formulaOf F (Atom r t)))) (atomRows (termsOf t) rows)) (h refl r), refl)
   settle-right (And a b) s f e h = (
     rw (s .variables, seen (And a b) s a one i (omega arith) (first (settled l (F a) i) (settled l (F b) i) e), seen (And a b) s b two i (omega arith) (second (settled l (F a) i) (settled l (F b) i) e)),
     refl,
   )
   settle-right (AndNot a b) s f e h =
       let p : v .rows b i ≡ vals l (F b) i = seen (AndNot a b) s b two i (omega arith) (second (settled l (F a) i) (settled l (F b) i) e) in (
-        ap setOf
+        ap (setOf (lowestOf (free (F a))))
             (select-same _ _ (v .rows a i) (λ u. ap not (found-among v l F b i (f .1) (s .variables) p u))
             ∙ ap (select (λ u. not (among (free (F b)) (vals l (F b)) u i))) (seen (AndNot a b) s a one i (omega arith) (first (settled l (F a) i) (settled l (F b) i) e))),
         refl,
@@ -182,7 +182,7 @@ module _ (v : Inputs) (l : Log) (ordered : Ordered l) (F : ℕ → Formula) (sta
     refl,
   )
   settle-right (Exists a x) s f e h = (rw (seen (Exists a x) s a one i (omega arith) e), refl)
-  settle-right (Previous a w) s f e h = (ap setOf (go (tested (ltb 0 (i .0)))), refl)
+  settle-right (Previous a w) s f e h = (ap (setOf (lowestOf (free (F a)))) (go (tested (ltb 0 (i .0)))), refl)
     where
       n : i .0 < size l
       n = present l (formulaOf F (Previous a w)) i e
@@ -196,19 +196,19 @@ module _ (v : Inputs) (l : Log) (ordered : Ordered l) (F : ℕ → Formula) (sta
   settle-right (Next a w) s f e h =
       let n : suc (i .0) < size l = present l (F a) (pointAfter i) e in
       (rw (lt-ltb (suc (i .0)) (size l) n, s .stamps i (omega arith) (omega arith), s .stamps (pointAfter i) (omega arith) n, seen (Next a w) s a one (pointAfter i) (omega arith) e), refl)
-  settle-right (Since a b w) s f e h = rows-and-pairs l ordered w (sees-since a b w s f e) (rows-length l (F b) (f .1)) (present l (formulaOf F (Since a b w)) i e)
-  settle-right (NotSince a b w) s f e h = rows-and-pairs l ordered w (sees-notSince a b w s f e) (rows-length l (F b) (f .1)) (present l (formulaOf F (NotSince a b w)) i e)
+  settle-right (Since a b w) s f e h = rows-and-pairs (lowestOf (free (F b))) l ordered w (sees-since a b w s f e) (rows-length l (F b) (f .1)) (present l (formulaOf F (Since a b w)) i e)
+  settle-right (NotSince a b w) s f e h = rows-and-pairs (lowestOf (free (F b))) l ordered w (sees-notSince a b w s f e) (rows-length l (F b) (f .1)) (present l (formulaOf F (NotSince a b w)) i e)
   settle-right (Until a b w) s f e h = (
-    ap setOf (settle-two (Until a b w) s a b one two refl w (f .3) e (found v a) (among (free (F a)) (vals l (F a))) (λ j p. found-among v l F a j (f .0) (s .variables) p)),
+    ap (setOf (lowestOf (free (F b)))) (settle-two (Until a b w) s a b one two refl w (f .3) e (found v a) (among (free (F a)) (vals l (F a))) (λ j p. found-among v l F a j (f .0) (s .variables) p)),
     refl,
   )
   settle-right (NotUntil a b w) s f e h = (
-    ap setOf (settle-two (NotUntil a b w) s a b one two refl w (f .3) e (λ u k. not (found v a u k)) (λ u k. not (among (free (F a)) (vals l (F a)) u k)) (λ j p u. ap not (found-among v l F a j (f .0) (s .variables) p u))),
+    ap (setOf (lowestOf (free (F b)))) (settle-two (NotUntil a b w) s a b one two refl w (f .3) e (λ u k. not (found v a u k)) (λ u k. not (among (free (F a)) (vals l (F a)) u k)) (λ j p u. ap not (found-among v l F a j (f .0) (s .variables) p u))),
     refl,
   )
-  settle-right (Once a w) s f e h = rows-and-pairs l ordered w (sees-once a w s e) (rows-length l (F a) f) (present l (formulaOf F (Once a w)) i e)
+  settle-right (Once a w) s f e h = rows-and-pairs (lowestOf (free (F a))) l ordered w (sees-once a w s e) (rows-length l (F a) f) (present l (formulaOf F (Once a w)) i e)
   settle-right (Eventually a w) s f e h = (
-    ap setOf
+    ap (setOf (lowestOf (free (F a))))
         (settle-until l (v .stamps) w (settled l (F a)) (v .count a) (λ u k. true) (λ u k. true) (v .rows a) (vals l (F a)) i (f .1) (s .counts a one)
         (counted-most l (F a) (v .count a) (s .counts a one)) e (λ j u o. s .stamps j (omega arith) o) (λ j u o x. refl) (λ j u o. s .rows a one j (omega arith) o)),
     refl,

@@ -12,7 +12,7 @@ use Rattle.meaning.specs.Lists.{all, any, range, gather}
 use Rattle.meaning.specs.Outcome.{given, mostOpen, mostKept, mostPoints, mostRows}
 use Rattle.meaning.specs.Order.{ascending}
 use Rattle.meaning.specs.Log.{Log, Ordered, Taken, inOrder, point, stamp, pointBefore, pointAfter, size, time, latest, pointsFrom, logOf}
-use Rattle.meaning.specs.Formula.{Formula, free}
+use Rattle.meaning.specs.Formula.{Formula, free, lowestOf}
 use Rattle.meaning.specs.Definition2.{Valuation}
 use Rattle.meaning.specs.Evaluator.{cutTo, valuationOf, vals}
 use Rattle.meaning.specs.Settled.{settled, settledCount}
@@ -186,8 +186,8 @@ cut-again f v = words-same (λ x h. go x (f x) (words-at (λ y. cond (f y) (v y)
 
 module _ (b : List ℕ) (x : ℕ) where
   -- the pairs of since: ages in range, rows of the node
-  pairs-fit : (w : Window) {f : ℕ → Bool} → free (formulaAt b x) ≡ f → {rows : List (List ℕ)} → AgedRows f w rows → (ascending rows && all (pairFits b x w) rows) ≡ true
-  pairs-fit w {f} q {rows} e = both (e .ascends) (all-of (pairFits b x w) rows one)
+  pairs-fit : (w : Window) {f : ℕ → Bool} → free (formulaAt b x) ≡ f → {rows : List (List ℕ)} → AgedRows f w rows → (ascending (suc (lowestOf (free (formulaAt b x)))) rows && all (pairFits b x w) rows) ≡ true
+  pairs-fit w {f} q {rows} e = both (ap (λ (g : ℕ → Bool). ascending (suc (lowestOf g)) rows) q ∙ e .ascends) (all-of (pairFits b x w) rows one)
     where
       one : (p : List ℕ) → List·Memᴰ p rows → pairFits b x w p ≡ true
       one p m =
@@ -205,7 +205,7 @@ module _ (b : List ℕ) (x : ℕ) where
   some-pairs-fit : {f : ℕ → Bool} → free (formulaAt b x) ≡ f → (v : View) (rows : List (List ℕ)) → PairsBy f (v .window) rows (hasPairs (v .times)) → pairsFit b x v rows ≡ true
   some-pairs-fit {f} q v rows = go (hasPairs (v .times))
     where
-      go : (t : Bool) → PairsBy f (v .window) rows t → cond t (ascending rows && all (pairFits b x (v .window)) rows) (eqb (length rows) 0) ≡ true
+      go : (t : Bool) → PairsBy f (v .window) rows t → cond t (ascending (suc (lowestOf (free (formulaAt b x)))) rows && all (pairFits b x (v .window)) rows) (eqb (length rows) 0) ≡ true
       go true e = pairs-fit (v .window) q e
       go false e = rw e
 

@@ -1,5 +1,5 @@
 -- An entry of what is well formed is a row of a node or a pair: its mark is 0 or 1, and it has four values.
-use Prim.Native.Nat.{ℕ, _-_, _<_}
+use Prim.Native.Nat.{ℕ, suc, _-_, _<_}
 use native.Mathlib.Omega.{arith}
 use mathlib.Core.Path.{_≡_, refl, ap}
 use mathlib.Core.Bool.{Bool, true, false, cond, _&&_}
@@ -11,7 +11,7 @@ use borrow.Author.Tests.{eqb-true}
 use Rattle.meaning.specs.Lists.{all, range, gather}
 use Rattle.meaning.specs.Order.{ascending}
 use Rattle.meaning.specs.Log.{pointsFrom}
-use Rattle.meaning.specs.Formula.{free}
+use Rattle.meaning.specs.Formula.{free, lowestOf}
 use Rattle.meaning.specs.Evaluator.{cutTo, valuationOf}
 use Rattle.meaning.specs.View.{viewOf}
 use Rattle.meaning.specs.RuleFile.{nodeCount, nodeAt, formulaAt}
@@ -35,11 +35,14 @@ module _ (b : List ℕ) (x : ℕ) where
   four-values u t = ap length (same-row u (cutTo (free (formulaAt b x)) (valuationOf u)) .0 t)
 
   -- pairs that fit ascend, and each fits; a node that has none has only such
-  pub pairs-each : (v : View) (ps : List (List ℕ)) → pairsFit b x v ps ≡ true → (ascending ps ≡ true) × (all (pairFits b x (v .window)) ps ≡ true)
+  pub pairs-each : (v : View) (ps : List (List ℕ)) → pairsFit b x v ps ≡ true → (ascending (suc (lowestOf (free (formulaAt b x)))) ps ≡ true) × (all (pairFits b x (v .window)) ps ≡ true)
   pairs-each v ps = go (hasPairs (v .times)) ps
     where
-      go : (t : Bool) (ps : List (List ℕ)) → cond t (ascending ps && all (pairFits b x (v .window)) ps) (eqb (length ps) 0) ≡ true → (ascending ps ≡ true) × (all (pairFits b x (v .window)) ps ≡ true)
-      go true ps e = (first (ascending ps) (all (pairFits b x (v .window)) ps) e, second (ascending ps) (all (pairFits b x (v .window)) ps) e)
+      ascends : List (List ℕ) → Bool
+      ascends ps = ascending (suc (lowestOf (free (formulaAt b x)))) ps
+
+      go : (t : Bool) (ps : List (List ℕ)) → cond t (ascends ps && all (pairFits b x (v .window)) ps) (eqb (length ps) 0) ≡ true → (ascends ps ≡ true) × (all (pairFits b x (v .window)) ps ≡ true)
+      go true ps e = (first (ascends ps) (all (pairFits b x (v .window)) ps) e, second (ascends ps) (all (pairFits b x (v .window)) ps) e)
       go false [] e = (refl, refl)
       go false (q ∷ ps) e = absurd (omega (arith, eqb-true (length (q ∷ ps)) 0 e))
 

@@ -11,7 +11,7 @@ use borrow.Author.Tests.{eqb-true}
 use Rattle.meaning.specs.Lists.{all, select, gather}
 use Rattle.meaning.specs.Order.{ascending}
 use Rattle.meaning.specs.Log.{point, elapsed, pointBefore, pointAfter, pointsFrom}
-use Rattle.meaning.specs.Formula.{Formula, inWindow, free, termsOf}
+use Rattle.meaning.specs.Formula.{Formula, inWindow, free, lowestOf, termsOf}
 use Rattle.meaning.specs.Evaluator.{cutTo, valuationOf, setOf, lasting, leading, untilRows}
 use Rattle.meaning.specs.Exact.{Exact}
 use Rattle.meaning.specs.View.{viewOf}
@@ -42,15 +42,15 @@ Cut f u = u ≡ cutTo f (valuationOf u)
 
 -- the rows of a node with free variables f at a point: they ascend, and are 0 at other variables
 pub record RowsOf (f : ℕ → Bool) (rows : List (List ℕ)) : Type 0 where
-  pub ascends : ascending rows ≡ true
+  pub ascends : ascending (lowestOf f) rows ≡ true
   pub cut : (u : List ℕ) → List·Memᴰ u rows → Cut f u
 
 -- its pairs, each an age and such a row
 record PairsOf (f : ℕ → Bool) (ps : List (List ℕ)) : Type 0 where
   cut : (p : List ℕ) → List·Memᴰ p ps → Cut f (drop 1 p)
 
-set-at : {r : List ℕ} (rows : List (List ℕ)) → List·Memᴰ r (setOf rows) → List·Memᴰ r rows
-set-at rows m = elim (insertAll-at [] rows m) [ inl k ↦ absurd (List·Memᴰ·not-nil k) | inr k ↦ k ]
+set-at : (lowest : ℕ) {r : List ℕ} (rows : List (List ℕ)) → List·Memᴰ r (setOf lowest rows) → List·Memᴰ r rows
+set-at lowest rows m = elim (insertAll-at lowest [] rows m) [ inl k ↦ absurd (List·Memᴰ·not-nil k) | inr k ↦ k ]
 
 -- such rows give the valuations that they are, so that what is shown of each kind for the evaluator serves here too
 exactly : {f : ℕ → Bool} {rows : List (List ℕ)} → RowsOf f rows → Exact f (λ v. List·Memᴰ (cutTo f v) rows) rows
@@ -106,11 +106,11 @@ module _ (F : ℕ → Formula) (v : Inputs) (same : v .free ≡ (λ y. free (F y
   candidates-cut (Once a w) f s ps c start i u m = since-cut v w _ (v .rows a) ps start i (s a one) c u m
   candidates-cut (Eventually a w) f s ps c start i u m = until-cut v _ w _ (v .rows a) i (s a one) u m
 
-  new-rows : (n : Node) → Fine (formulaOf F n) → Children n → (start : Point) (count : ℕ) (ps : List (List ℕ)) → PairsOf (free (formulaOf F n)) ps → (rows : List (List ℕ)) → List·Memᴰ rows (newRows v n start count ps) → RowsOf (free (formulaOf F n)) rows
+  new-rows : (n : Node) → Fine (formulaOf F n) → Children n → (start : Point) (count : ℕ) (ps : List (List ℕ)) → PairsOf (free (formulaOf F n)) ps → (rows : List (List ℕ)) → List·Memᴰ rows (newRows v (lowestOf (free (formulaOf F n))) n start count ps) → RowsOf (free (formulaOf F n)) rows
   unfolding settle
   new-rows n f s start count ps c rows m =
-      let (i, k, e) = Memᴰ·of-map (λ i. settle v ps start i n) (pointsFrom start count) m in
-      subst (RowsOf (free (formulaOf F n))) e (record { ascends = setOf-ascends (candidates v ps start i n); cut = λ u k. candidates-cut n f s ps c start i u (set-at (candidates v ps start i n) k) })
+      let (i, k, e) = Memᴰ·of-map (λ i. settle v (lowestOf (free (formulaOf F n))) ps start i n) (pointsFrom start count) m in
+      subst (RowsOf (free (formulaOf F n))) e (record { ascends = setOf-ascends (lowestOf (free (formulaOf F n))) (candidates v ps start i n); cut = λ u k. candidates-cut n f s ps c start i u (set-at (lowestOf (free (formulaOf F n))) (candidates v ps start i n) k) })
 
 -- ---- what is held
 
@@ -151,7 +151,7 @@ module _ (s : Stored) (f : Formed s) (w : List ℕ) where
     old = map (held (s .entries) x) points
 
     abbrev new : List (List (List ℕ))
-    new = newRows (sight x) (nodeAt b x) (point (countBefore s x)) (countAfter s w x - countBefore s x) (heldPairs (s .entries) x)
+    new = newRows (sight x) (lowestOf (free (formulaAt b x))) (nodeAt b x) (point (countBefore s x)) (countAfter s w x - countBefore s x) (heldPairs (s .entries) x)
 
     fits : nodeFits s x ≡ true
     fits = f .nodes-fit x o

@@ -67,8 +67,8 @@ module _ (τ : Point → Stamp) (w : Window) (left : List ℕ → Point → Bool
   age i j = elapsed (τ j) (τ i)
 
   -- the pairs of the point before start, none at the first
-  abbrev before : Point → List (List ℕ)
-  before start = cond (eqb (start .0) 0) [] (setOf (pairRows τ w left right (pointBefore start)))
+  abbrev before : ℕ → Point → List (List ℕ)
+  before lowest start = cond (eqb (start .0) 0) [] (setOf (suc lowest) (pairRows τ w left right (pointBefore start)))
 
   lasts : (i j : Point) (u : List ℕ) → List·Memᴰ u (lasting left right i j) ↔ (List·Memᴰ u (right j) × ((k : Point) → suc (j .0) ≤ k .0 → k .0 < suc (i .0) → left u k ≡ true))
   lasts i j u = lasting-mem left right u (λ k. Iff·rfl) (λ k. Iff·rfl) i j
@@ -126,18 +126,18 @@ module _ (τ : Point → Stamp) (w : Window) (left : List ℕ → Point → Bool
         let e : length u ≡ 4 = long j u (lasts i j u .0 c .0) in
         ap length (sym d) ∙ reading .long (age i j) u e
 
-  module _ (long : (j : Point) → OfLength 4 (right j)) (start i : Point) (h : start .0 ≤ i .0) (times : (j k : Point) → j .0 ≤ k .0 → k .0 ≤ i .0 → τ j .0 ≤ τ k .0) where
+  module _ (lowest : ℕ) (long : (j : Point) → OfLength 4 (right j)) (start i : Point) (h : start .0 ≤ i .0) (times : (j k : Point) → j .0 ≤ k .0 → k .0 ≤ i .0 → τ j .0 ≤ τ k .0) where
     abbrev last : Point
     last = pointBefore start
 
     abbrev held : List (List ℕ)
-    held = before start
+    held = before lowest start
 
     held-mem : (p : List ℕ) → List·Memᴰ p held ↔ ((0 < start .0) × Made (belowEnd w) (paired w) last (pointsFrom (point 0) (suc (last .0))) p)
     held-mem p = go (tested (eqb (start .0) 0))
       where
-        stays : List·Memᴰ p (setOf (pairRows τ w left right last)) ↔ Made (belowEnd w) (paired w) last (pointsFrom (point 0) (suc (last .0))) p
-        stays = Iff·trans (setOf-mem (pairRows τ w left right last) (made-length long (reads-pairs w) last (pointsFrom (point 0) (suc (last .0)))) p) (made-mem (belowEnd w) (paired w) last (pointsFrom (point 0) (suc (last .0))) p)
+        stays : List·Memᴰ p (setOf (suc lowest) (pairRows τ w left right last)) ↔ Made (belowEnd w) (paired w) last (pointsFrom (point 0) (suc (last .0))) p
+        stays = Iff·trans (setOf-mem (suc lowest) (pairRows τ w left right last) (made-length long (reads-pairs w) last (pointsFrom (point 0) (suc (last .0)))) p) (made-mem (belowEnd w) (paired w) last (pointsFrom (point 0) (suc (last .0))) p)
 
         go : Tested (eqb (start .0) 0) → List·Memᴰ p held ↔ ((0 < start .0) × Made (belowEnd w) (paired w) last (pointsFrom (point 0) (suc (last .0))) p)
         go (passed e) = let z : start .0 ≡ 0 = eqb-true (start .0) 0 e in rw e (λ m. absurd (List·Memᴰ·not-nil m), λ x. absurd (omega (arith, x .0)))
@@ -195,9 +195,10 @@ module _ (τ : Point → Stamp) (w : Window) (left : List ℕ → Point → Bool
           let (f, g) = and-eq-true-iff (test (countedAge w (age last j) + by)) (all (left u) (pointsFrom start (suc (i .0) - start .0))) .0 (rw (← d) at t) in
           (j, u, points-of 0 (suc (i .0)) (omega arith) (omega arith), sym (same-test j o) ∙ f, lasts-on start i j u o h .1 (c, g), sym (same-made j u o) ∙ ap madeNow d ∙ e)
 
-      straight-right : setOf (straight test made held start i) ≡ setOf (madeFrom test made i points)
-      straight-right =
-          sym (setOf-same (madeFrom test made i points) (straight test made held start i) (made-length long reading i points) (λ r. (
+      -- in whatever order
+      straight-right : (place : ℕ) → setOf place (straight test made held start i) ≡ setOf place (madeFrom test made i points)
+      straight-right place =
+          sym (setOf-same place (madeFrom test made i points) (straight test made held start i) (made-length long reading i points) (λ r. (
             λ m. let x = made-mem test made i points r .0 m in placed x (tested (ltb (x .0 .0) (start .0))),
             λ m. made-mem test made i points r .1 (found (List·Memᴰ·append-cases (madeFrom test made i fresh) m)),
           )))
@@ -241,24 +242,24 @@ module _ {τ τ' : Point → Stamp} {left left' : List ℕ → Point → Bool} {
   pairs-agree w held = seen-same w (belowEnd w) (paired w) held
 
 -- from what is seen of a log, and its pairs at the point before start: its rows and its pairs at point i
-module _ (l : Log) (ordered : Ordered l) (w : Window) {τ : Point → Stamp} {left left' : List ℕ → Point → Bool} {right right' : Point → List (List ℕ)} {start i : Point}
+module _ (lowest : ℕ) (l : Log) (ordered : Ordered l) (w : Window) {τ : Point → Stamp} {left left' : List ℕ → Point → Bool} {right right' : Point → List (List ℕ)} {start i : Point}
     (s : SameSince τ (time l) left left' right right' start i) (long : (j : Point) → OfLength 4 (right' j)) (here : i .0 < size l) where
   abbrev pub pairsHeld : List (List ℕ)
-  pairsHeld = before (time l) w left' right' start
+  pairsHeld = before (time l) w left' right' lowest start
 
-  log-right : {test : ℕ → Bool} {made : ℕ → List ℕ → List ℕ} {words : ℕ} → Reading w test made words
-      → setOf (straight (time l) w left' right' test made pairsHeld start i) ≡ setOf (madeFrom (time l) w left' right' test made i (pointsFrom (point 0) (suc (i .0))))
-  log-right = straight-right (time l) w left' right' long start i (s .order) (λ j k a b. ordered .steps j k a (omega (arith, here)))
+  log-right : {test : ℕ → Bool} {made : ℕ → List ℕ → List ℕ} {words : ℕ} → Reading w test made words → (place : ℕ)
+      → setOf place (straight (time l) w left' right' test made pairsHeld start i) ≡ setOf place (madeFrom (time l) w left' right' test made i (pointsFrom (point 0) (suc (i .0))))
+  log-right = straight-right (time l) w left' right' lowest long start i (s .order) (λ j k a b. ordered .steps j k a (omega (arith, here)))
 
-  rows-straight : setOf (rowsSince τ w left right pairsHeld start i) ≡ setOf (sinceRows (time l) w left' right' i)
+  rows-straight : setOf lowest (rowsSince τ w left right pairsHeld start i) ≡ setOf lowest (sinceRows (time l) w left' right' i)
   rows-straight =
-      ap setOf (rows-agree s w pairsHeld ∙ rows-as-made (time l) w left' right' pairsHeld start i)
-      ∙ log-right (reads-rows w)
-      ∙ ap (λ (f : Point → List (List ℕ)). setOf (gather f (select (λ j. inWindow w (elapsed (time l j) (time l i))) (pointsFrom (point 0) (suc (i .0)))))) (fun-ext (λ j. map-same (lasting left' right' i j)))
+      ap (setOf lowest) (rows-agree s w pairsHeld ∙ rows-as-made (time l) w left' right' pairsHeld start i)
+      ∙ log-right (reads-rows w) lowest
+      ∙ ap (λ (f : Point → List (List ℕ)). setOf lowest (gather f (select (λ j. inWindow w (elapsed (time l j) (time l i))) (pointsFrom (point 0) (suc (i .0)))))) (fun-ext (λ j. map-same (lasting left' right' i j)))
 
-  pairs-straight : setOf (pairsSince τ w left right pairsHeld start i) ≡ setOf (pairRows (time l) w left' right' i)
+  pairs-straight : setOf (suc lowest) (pairsSince τ w left right pairsHeld start i) ≡ setOf (suc lowest) (pairRows (time l) w left' right' i)
   unfolding pairsSince
-  pairs-straight = ap setOf (pairs-agree s w pairsHeld) ∙ log-right (reads-pairs w)
+  pairs-straight = ap (setOf (suc lowest)) (pairs-agree s w pairsHeld) ∙ log-right (reads-pairs w) (suc lowest)
 
-  pub rows-and-pairs : (setOf (rowsSince τ w left right pairsHeld start i) ≡ setOf (sinceRows (time l) w left' right' i)) × (setOf (pairsSince τ w left right pairsHeld start i) ≡ setOf (pairRows (time l) w left' right' i))
+  pub rows-and-pairs : (setOf lowest (rowsSince τ w left right pairsHeld start i) ≡ setOf lowest (sinceRows (time l) w left' right' i)) × (setOf (suc lowest) (pairsSince τ w left right pairsHeld start i) ≡ setOf (suc lowest) (pairRows (time l) w left' right' i))
   rows-and-pairs = (rows-straight, pairs-straight)

@@ -11,7 +11,7 @@ use borrow.Author.Tests.{ltb-true, ltb-false, lt-ltb, le-leb, lt-leb, eqb-false}
 use Rattle.meaning.specs.Lists.{range, select, gather}
 use Rattle.meaning.specs.Outcome.{given, mostRows}
 use Rattle.meaning.specs.Log.{Log, Ordered, point, stamp, size, time, rowsAt, latest, pointsFrom}
-use Rattle.meaning.specs.Formula.{free, variables}
+use Rattle.meaning.specs.Formula.{free, lowestOf, variables}
 use Rattle.meaning.specs.Evaluator.{vals}
 use Rattle.meaning.specs.Settled.{settled, settledCount}
 use Rattle.meaning.specs.RuleFile.{Accepted, checking, nodeCount, nodeAt, childrenOf, formulaOf, formulaAt, lastNode, pattern, oneIf}
@@ -267,20 +267,22 @@ module _ (b : List ℕ) (a : Accepted) (ok : checking b ≡ given a) (l : Log) (
           (λ j u v. held-is b a ok l ordered x o j u (omega (arith, lo-low))
           ∙ steady-by l l' grows (formulaAt b x) (fine b a ok x o) j (upto-holds (settled l (formulaAt b x)) (was x) (count-of b a ok l ordered x o) j (omega (arith, lo-low))))
 
-      made-rows : newRows (sight x) node (point (was x)) (is x - was x) (heldPairs (entries b l) x) ≡ map (vals l' (formulaAt b x)) (pointsFrom (point (was x)) (is x - was x))
+      made-rows : newRows (sight x) (lowestOf (free (formulaAt b x))) node (point (was x)) (is x - was x) (heldPairs (entries b l) x) ≡ map (vals l' (formulaAt b x)) (pointsFrom (point (was x)) (is x - was x))
       made-rows =
-          ap (newRows (sight x) node (point (was x)) (is x - was x)) (start-pairs x o ∙ ap (λ φ. pairsBefore l' φ (point (was x))) (stepped x o))
+          ap (newRows (sight x) (lowestOf (free (formulaAt b x))) node (point (was x)) (is x - was x)) (start-pairs x o)
+          ∙ ap (λ φ. newRows (sight x) (lowestOf (free φ)) node (point (was x)) (is x - was x) (pairsBefore l' φ (point (was x)))) (stepped x o)
           ∙ new-rows (sight x) l' ordered' (formulaAt b) node (fine-node x o) (point (was x)) (is x - was x) (sees x o under) ready-run
           ∙ ap (λ φ. map (vals l' φ) (pointsFrom (point (was x)) (is x - was x))) (sym (stepped x o))
 
-      made-pairs : newPairs (sight x) node (point (was x)) (is x - was x) (heldPairs (entries b l) x) ≡ lastPairs l' (formulaAt b x)
+      made-pairs : newPairs (sight x) (lowestOf (free (formulaAt b x))) node (point (was x)) (is x - was x) (heldPairs (entries b l) x) ≡ lastPairs l' (formulaAt b x)
       made-pairs =
           let z : was x + (is x - was x) ≡ is x = omega (arith, was-is x o) in
-          ap (newPairs (sight x) node (point (was x)) (is x - was x)) (start-pairs x o ∙ ap (λ φ. pairsBefore l' φ (point (was x))) (stepped x o))
+          ap (newPairs (sight x) (lowestOf (free (formulaAt b x))) node (point (was x)) (is x - was x)) (start-pairs x o)
+          ∙ ap (λ φ. newPairs (sight x) (lowestOf (free φ)) node (point (was x)) (is x - was x) (pairsBefore l' φ (point (was x)))) (stepped x o)
           ∙ new-pairs (sight x) l' ordered' (formulaAt b) node (fine-node x o) (point (was x)) (is x - was x) (sees x o under) ready-run
           ∙ ap (λ k. pairsBefore l' (formulaOf (formulaAt b) node) (point k)) z ∙ ap (λ φ. pairsBefore l' φ (point (is x))) (sym (stepped x o)) ∙ end-pairs x
 
-      all-rows : map (held (entries b l) x) (pointsFrom lo (was x - lo .0)) ++ newRows (sight x) node (point (was x)) (is x - was x) (heldPairs (entries b l) x) ≡ map (vals l' (formulaAt b x)) (pointsFrom lo (is x - lo .0))
+      all-rows : map (held (entries b l) x) (pointsFrom lo (was x - lo .0)) ++ newRows (sight x) (lowestOf (free (formulaAt b x))) node (point (was x)) (is x - was x) (heldPairs (entries b l) x) ≡ map (vals l' (formulaAt b x)) (pointsFrom lo (is x - lo .0))
       all-rows =
           let z : is x - lo .0 ≡ (was x - lo .0) + (is x - was x) = omega (arith, lo-low, was-is x o) in
           let q : lo .0 + (was x - lo .0) ≡ was x = omega (arith, lo-low) in

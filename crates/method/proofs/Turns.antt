@@ -10,7 +10,7 @@ use lib.Dec.{ltb}
 use borrow.Author.Tests.{ne-eqb}
 use Rattle.meaning.specs.Lists.{any, range, gather}
 use Rattle.meaning.specs.Log.{Log, Ordered, point, size, rowsAt, pointsFrom}
-use Rattle.meaning.specs.Formula.{Formula}
+use Rattle.meaning.specs.Formula.{Formula, free, lowestOf}
 use Rattle.meaning.specs.Evaluator.{vals}
 use Rattle.meaning.specs.Settled.{settled}
 use Rattle.meaning.specs.View.{viewOf, childrenIn}
@@ -75,20 +75,20 @@ map-append f (x ∷ xs) ys = ap (λ zs. f x ∷ zs) (map-append f xs ys)
 
 -- ---- newly settled points
 
-module _ (v : Inputs) (node : Node) (start : Point) (count : ℕ) (held : List (List ℕ)) where
-  pub newRows-at : (q : ℕ) → q < count → getD (newRows v node start count held) q [] ≡ settle v held start (point (start .0 + q)) node
-  newRows-at q h = getD-points (λ i. settle v held start i node) [] (start .0) count q h
+module _ (v : Inputs) (lowest : ℕ) (node : Node) (start : Point) (count : ℕ) (held : List (List ℕ)) where
+  pub newRows-at : (q : ℕ) → q < count → getD (newRows v lowest node start count held) q [] ≡ settle v lowest held start (point (start .0 + q)) node
+  newRows-at q h = getD-points (λ i. settle v lowest held start i node) [] (start .0) count q h
 
 module _ (v : Inputs) (l : Log) (ordered : Ordered l) (F : ℕ → Formula) (n : Node) (f : Fine (formulaOf F n)) where
   abbrev pub Ready : Point → Type 0
   Ready i = (settled l (formulaOf F n) i ≡ true) × (childrenOf n ≡ [] → (r : ℕ) → v .event r ≡ rowsAt l r i)
 
   pub new-rows : (start : Point) (count : ℕ) → InputsAgree v l F n start → ((j : Point) → start .0 ≤ j .0 → j .0 < start .0 + count → Ready j)
-      → newRows v n start count (pairsBefore l (formulaOf F n) start) ≡ map (vals l (formulaOf F n)) (pointsFrom start count)
+      → newRows v (lowestOf (free (formulaOf F n))) n start count (pairsBefore l (formulaOf F n) start) ≡ map (vals l (formulaOf F n)) (pointsFrom start count)
   new-rows start count s h = map-points _ (vals l (formulaOf F n)) (start .0) count (λ j u o. let r = h j u o in settle-right v l ordered F start j u n s f (r .0) (r .1) .0)
 
   pub new-pairs : (start : Point) (count : ℕ) → InputsAgree v l F n start → ((j : Point) → start .0 ≤ j .0 → j .0 < start .0 + count → Ready j)
-      → newPairs v n start count (pairsBefore l (formulaOf F n) start) ≡ pairsBefore l (formulaOf F n) (point (start .0 + count))
+      → newPairs v (lowestOf (free (formulaOf F n))) n start count (pairsBefore l (formulaOf F n) start) ≡ pairsBefore l (formulaOf F n) (point (start .0 + count))
   new-pairs start zero s h = let z : start .0 + 0 ≡ start .0 = omega arith in rw z
   new-pairs start (suc count) s h =
       let z : start .0 + suc count - 1 ≡ start .0 + count = omega arith in

@@ -7,7 +7,7 @@ use mathlib.Core.List.{List, [], _∷_, List·Memᴰ, List·Memᴰ·not-nil, Mem
 use lib.Dec.{ltb, leb, eqb}
 use Rattle.meaning.specs.Order.{ascending}
 use Rattle.meaning.specs.Log.{Log, size, pointBefore, pointAfter}
-use Rattle.meaning.specs.Formula.{Formula, free}
+use Rattle.meaning.specs.Formula.{Formula, free, lowestOf}
 use Rattle.meaning.specs.Definition2.{Valuation}
 use Rattle.meaning.specs.Evaluator.{cutTo}
 use Rattle.meaning.specs.Settled.{settled, settledSince, settledUntil}
@@ -72,7 +72,7 @@ Ended w Future = 0 < w .end
 
 -- since's pairs: they ascend, and each is an age that counts and a valuation cut down to f
 pub record AgedRows (f : ℕ → Bool) (w : Window) (rows : List (List ℕ)) : Type 0 where
-  pub ascends : ascending rows ≡ true
+  pub ascends : ascending (suc (lowestOf f)) rows ≡ true
   pub each : (p : List ℕ) → List·Memᴰ p rows → (y : ℕ) × (v : Valuation) × (p ≡ y ∷ cutTo f v) × (belowEnd w y ≡ true) × (countedAge w y ≡ y)
 
 -- where a node has pairs, and where it has none

@@ -6,7 +6,7 @@ use lib.ListN.{getD, drop}
 use lib.Dec.{ltb, eqb}
 use Rattle.meaning.specs.Lists.{all, select, gather}
 use Rattle.meaning.specs.Log.{elapsed, pointBefore, pointAfter, pointsFrom}
-use Rattle.meaning.specs.Formula.{termsOf, inWindow, compares}
+use Rattle.meaning.specs.Formula.{termsOf, inWindow, compares, lowestOf}
 use Rattle.meaning.specs.Definition2.{value}
 use Rattle.meaning.specs.Evaluator.{cutTo, valuationOf, setOf, atomRows, andRows, lasting, untilRows}
 use Rattle.meaning.specs.LookUp.{lookUp, isThere}
@@ -33,7 +33,7 @@ pub record Inputs : Type 0 where
 
 -- a child's rows at a point, asked for a row cut down to the child's variables
 abbrev pub found : Inputs → ℕ → List ℕ → Point → Bool
-found v a u k = isThere (lookUp (cutTo (v .free a) (valuationOf u)) (v .rows a k))
+found v a u k = isThere (lookUp (lowestOf (v .free a)) (cutTo (v .free a) (valuationOf u)) (v .rows a k))
 
 -- as many points as the second argument says, from the first back
 abbrev pub backFrom : Point → ℕ → List Point
@@ -82,9 +82,9 @@ candidates v held start i (NotUntil a b w) = untilRows (v .stamps) (min (v .coun
 candidates v held start i (Once a w) = rowsSince (v .stamps) w (λ u k. true) (v .rows a) held start i
 candidates v held start i (Eventually a w) = untilRows (v .stamps) (v .count a) w (λ u k. true) (v .rows a) i
 
--- the valuations there
-unfoldable pub settle : Inputs → List (List ℕ) → Point → Point → Node → List (List ℕ)
-settle v held start i node = setOf (candidates v held start i node)
+-- the valuations there, of a node with this lowest free variable
+unfoldable pub settle : Inputs → ℕ → List (List ℕ) → Point → Point → Node → List (List ℕ)
+settle v lowest held start i node = setOf lowest (candidates v held start i node)
 
 -- left and right of since and until; where there is one child, it is right, and nothing is asked of left
 abbrev pub leftOf : Children → ℕ
@@ -106,9 +106,9 @@ hasPairs Past = true
 hasPairs Future = false
 
 -- the pairs there
-abbrev pub pairsAfter : Inputs → List (List ℕ) → Point → Point → View → List (List ℕ)
-pairsAfter v held start i node =
-    cond (hasPairs (node .times)) (setOf (pairsSince (v .stamps) (node .window) (λ u k. passes (node .left) (found v (leftOf (node .children)) u k)) (v .rows (rightOf (node .children))) held start i)) []
+abbrev pub pairsAfter : Inputs → ℕ → List (List ℕ) → Point → Point → View → List (List ℕ)
+pairsAfter v lowest held start i node =
+    cond (hasPairs (node .times)) (setOf (suc lowest) (pairsSince (v .stamps) (node .window) (λ u k. passes (node .left) (found v (leftOf (node .children)) u k)) (v .rows (rightOf (node .children))) held start i)) []
 
 -- What a node's turn gives: its rows from point low on, and its pairs at its last settled point.
 pub record Turn : Type 0 where

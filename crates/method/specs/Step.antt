@@ -7,7 +7,7 @@ use lib.Dec.{ltb, eqb}
 use Rattle.meaning.specs.Lists.{any, range, select, gather}
 use Rattle.meaning.specs.Outcome.{Outcome, refused, given, mostRows}
 use Rattle.meaning.specs.Log.{point, stamp, relationIn, pointsFrom}
-use Rattle.meaning.specs.Formula.{free, variables}
+use Rattle.meaning.specs.Formula.{free, variables, lowestOf}
 use Rattle.meaning.specs.View.{viewOf}
 use Rattle.meaning.specs.RuleFile.{nodeCount, nodeAt, formulaAt, lastNode, pattern, oneIf}
 use Rattle.meaning.specs.Kept.{Entry, entryOf, parentOf}
@@ -37,20 +37,20 @@ unfoldable pub wantedFrom : List ℕ → (ℕ → ℕ) → ℕ → Point
 wantedFrom b count x = point (cond (eqb x (lastNode b)) (count x) (min (count x) (firstWanted (viewOf (nodeAt b (parentOf b x)) .times) (count (parentOf b x)) .0)))
 
 -- a node's rows at newly settled points, and its pairs at the last of them
-abbrev pub newRows : Inputs → Node → Point → ℕ → List (List ℕ) → List (List (List ℕ))
-newRows v node start count held = map (λ i. settle v held start i node) (pointsFrom start count)
+abbrev pub newRows : Inputs → ℕ → Node → Point → ℕ → List (List ℕ) → List (List (List ℕ))
+newRows v lowest node start count held = map (λ i. settle v lowest held start i node) (pointsFrom start count)
 
-abbrev pub newPairs : Inputs → Node → Point → ℕ → List (List ℕ) → List (List ℕ)
-newPairs v node start zero held = held
-newPairs v node start (suc count) held = pairsAfter v held start (point (start .0 + count)) (viewOf node)
+abbrev pub newPairs : Inputs → ℕ → Node → Point → ℕ → List (List ℕ) → List (List ℕ)
+newPairs v lowest node start zero held = held
+newPairs v lowest node start (suc count) held = pairsAfter v lowest held start (point (start .0 + count)) (viewOf node)
 
 -- the turn of node x, which had settled as many points as before says and now has as many as after says
 unfoldable pub turnOf : List ℕ → List Entry → (ℕ → ℕ) → (ℕ → ℕ) → Inputs → ℕ → Turn
 turnOf b es before after v x =
     record {
       low = wantedFrom b before x;
-      rows = map (held es x) (pointsFrom (wantedFrom b before x) (before x - wantedFrom b before x .0)) ++ newRows v (nodeAt b x) (point (before x)) (after x - before x) (heldPairs es x);
-      pairs = newPairs v (nodeAt b x) (point (before x)) (after x - before x) (heldPairs es x);
+      rows = map (held es x) (pointsFrom (wantedFrom b before x) (before x - wantedFrom b before x .0)) ++ newRows v (lowestOf (free (formulaAt b x))) (nodeAt b x) (point (before x)) (after x - before x) (heldPairs es x);
+      pairs = newPairs v (lowestOf (free (formulaAt b x))) (nodeAt b x) (point (before x)) (after x - before x) (heldPairs es x);
     }
 
 abbrev pub noTurn : Turn

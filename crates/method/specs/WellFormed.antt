@@ -1,5 +1,5 @@
 -- When what is stored is well formed: the conditions of refusal 8, as docs/STATE.md lists them. What a log stores is so (proofs/Reached.antt).
-use Prim.Native.Nat.{ℕ, _+_, _-_, _≤_, _<_}
+use Prim.Native.Nat.{ℕ, suc, _+_, _-_, _≤_, _<_}
 use mathlib.Core.Path.{_≡_}
 use mathlib.Core.Bool.{Bool, true, false, cond, _&&_}
 use mathlib.Core.List.{List, [], _∷_, _++_, map}
@@ -9,7 +9,7 @@ use Rattle.meaning.specs.Lists.{all, range, gather, sameRow}
 use Rattle.meaning.specs.Outcome.{given, mostPoints, mostRows, mostOpen, mostKept}
 use Rattle.meaning.specs.Order.{ascending}
 use Rattle.meaning.specs.Log.{pointsFrom}
-use Rattle.meaning.specs.Formula.{free}
+use Rattle.meaning.specs.Formula.{free, lowestOf}
 use Rattle.meaning.specs.Evaluator.{cutTo, valuationOf}
 use Rattle.meaning.specs.View.{viewOf}
 use Rattle.meaning.specs.RuleFile.{Accepted, checking, nodeCount, nodeAt, formulaAt, isAccepted}
@@ -48,17 +48,17 @@ sameEntries (e ∷ es) (f ∷ fs) = sameEntry e f && sameEntries es fs
 abbrev pub rowOfNode : List ℕ → ℕ → List ℕ → Bool
 rowOfNode b x u = sameRow u (cutTo (free (formulaAt b x)) (valuationOf u))
 
--- the rows of node x at a point: at most 32, strictly ascending
+-- the rows of node x at a point: at most 32, strictly ascending in the order of its valuations
 abbrev pub setFits : List ℕ → ℕ → List (List ℕ) → Bool
-setFits b x rows = leb (length rows) mostRows && ascending rows && all (rowOfNode b x) rows
+setFits b x rows = leb (length rows) mostRows && ascending (lowestOf (free (formulaAt b x))) rows && all (rowOfNode b x) rows
 
 -- a pair of a node with a window: an age and a row; the age is below the end, and with no end at most the start
 abbrev pub pairFits : List ℕ → ℕ → Window → List ℕ → Bool
 pairFits b x w p = belowEnd w (getD p 0 0) && eqb (countedAge w (getD p 0 0)) (getD p 0 0) && rowOfNode b x (drop 1 p)
 
--- pairs are strictly ascending, and only kinds 9, 10 and 13 have any
+-- pairs are strictly ascending, by age and then in the order of valuations, and only kinds 9, 10 and 13 have any
 abbrev pub pairsFit : List ℕ → ℕ → View → List (List ℕ) → Bool
-pairsFit b x v ps = cond (hasPairs (v .times)) (ascending ps && all (pairFits b x (v .window)) ps) (eqb (length ps) 0)
+pairsFit b x v ps = cond (hasPairs (v .times)) (ascending (suc (lowestOf (free (formulaAt b x)))) ps && all (pairFits b x (v .window)) ps) (eqb (length ps) 0)
 
 module _ (s : Stored) where
   -- the entries of node x, in their order: its rows at each point that is still consulted, and its pairs

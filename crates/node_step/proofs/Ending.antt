@@ -120,7 +120,7 @@ module _ {s : Stored} {w : List ℕ} {x : ℕ} where
 
 module _ {s : Stored} {w os ns vs stamps f : List ℕ} {x : ℕ} {o : Own} {spot : Spot} {rows at : List ℕ} {left right : Child} {node : Node} {rows₁ at₁ : List ℕ}
     (k : Loads s w os ns vs stamps f x o spot rows at left right node rows₁ at₁) {rows₂ at₂ : List ℕ} {done : Bool}
-    (p : PointsSettled (s .rule) w rows₁ at₁ stamps (base k) (oldAges k) (oldValues k) left right (spot .sets + (o .before - o .low .0)) (point (o .before)) (point (o .after)) node rows₂ at₂ done)
+    (p : PointsSettled (s .rule) w rows₁ at₁ stamps (base k) (oldAges k) (oldValues k) left right (spot .sets + (o .before - o .low .0)) (o .lowest) (point (o .before)) (point (o .after)) node rows₂ at₂ done)
     {on ov bl bl₁ : List ℕ} (out : OutThere s w on ov bl (spot .kept)) (table : TableStays bl bl₁) where
   few-nodes : x < 32
   few-nodes = numbers (k .ready) x (k .here) (k .figures) .node

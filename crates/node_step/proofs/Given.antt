@@ -5,8 +5,9 @@ use mathlib.Core.Path.{_≡_, refl, sym, ap, _∙_}
 use mathlib.Core.List.{List, [], _++_, map}
 use lib.ListN.{length, getD, length-map, List·getD-append}
 use lib.Seq.{getD-append-add}
+use Rattle.meaning.specs.Formula.{free, lowestOf}
 use Rattle.meaning.specs.Log.{point, pointsFrom}
-use Rattle.meaning.specs.RuleFile.{nodeCount, nodeAt}
+use Rattle.meaning.specs.RuleFile.{nodeCount, nodeAt, formulaAt}
 use Rattle.meaning.specs.declared.Point.{Point}
 use Rattle.method.specs.Stored.{Stored, held, heldPairs}
 use Rattle.method.specs.Settle.{Inputs, settle, Turn, rowsOfTurn}
@@ -40,7 +41,7 @@ module _ (s : Stored) (w : List ℕ) where
     turn-is = turn-of x ∙ turns-at (s .rule) (s .entries) (stampsNow s w) (countBefore s) (countAfter s w) (rowsTaken (s .rule) w) (nodeCount (s .rule)) x o
 
     abbrev fresh : List (List (List ℕ))
-    fresh = newRows (sight x) (nodeAt (s .rule) x) (point (countBefore s x)) (countAfter s w x - countBefore s x) (heldPairs (s .entries) x)
+    fresh = newRows (sight x) (lowestOf (free (formulaAt (s .rule) x))) (nodeAt (s .rule) x) (point (countBefore s x)) (countAfter s w x - countBefore s x) (heldPairs (s .entries) x)
 
     abbrev kept : List (List (List ℕ))
     kept = map (held (s .entries) x) (pointsFrom (low x) (countBefore s x - low x .0))
@@ -53,7 +54,7 @@ module _ (s : Stored) (w : List ℕ) where
     unfolding turnOf
     turn-rows = ap (λ t. t .rows) turn-is
 
-    pub turn-pairs : turn s w x .pairs ≡ newPairs (sight x) (nodeAt (s .rule) x) (point (countBefore s x)) (countAfter s w x - countBefore s x) (heldPairs (s .entries) x)
+    pub turn-pairs : turn s w x .pairs ≡ newPairs (sight x) (lowestOf (free (formulaAt (s .rule) x))) (nodeAt (s .rule) x) (point (countBefore s x)) (countAfter s w x - countBefore s x) (heldPairs (s .entries) x)
     unfolding turnOf
     turn-pairs = ap (λ t. t .pairs) turn-is
 
@@ -71,8 +72,8 @@ module _ (s : Stored) (w : List ℕ) where
         ∙ getD-points (held (s .entries) x) [] (low x .0) (countBefore s x - low x .0) q l
 
     pub rows-new : (q : ℕ) → q < countAfter s w x - countBefore s x
-        → getD (turn s w x .rows) (countBefore s x - low x .0 + q) [] ≡ settle (sight x) (heldPairs (s .entries) x) (point (countBefore s x)) (point (countBefore s x + q)) (nodeAt (s .rule) x)
+        → getD (turn s w x .rows) (countBefore s x - low x .0 + q) [] ≡ settle (sight x) (lowestOf (free (formulaAt (s .rule) x))) (heldPairs (s .entries) x) (point (countBefore s x)) (point (countBefore s x + q)) (nodeAt (s .rule) x)
     rows-new q l =
         ap (λ rs. getD rs (countBefore s x - low x .0 + q) []) turn-rows ∙ ap (λ k. getD (kept ++ fresh) (k + q) []) (sym kept-long)
         ∙ getD-append-add kept fresh q []
-        ∙ newRows-at (sight x) (nodeAt (s .rule) x) (point (countBefore s x)) (countAfter s w x - countBefore s x) (heldPairs (s .entries) x) q l
+        ∙ newRows-at (sight x) (lowestOf (free (formulaAt (s .rule) x))) (nodeAt (s .rule) x) (point (countBefore s x)) (countAfter s w x - countBefore s x) (heldPairs (s .entries) x) q l

@@ -39,8 +39,8 @@ module _ {rows at : List ℕ} {n k : ℕ} (space : Space rows at n mostRows) whe
     push-more h = record { stay = extended-front (h .more) n (omega arith); few = λ d. (u, h); many = λ d. absurd (false≢true (sym d)) }
 
 -- the point's set, pushed
-pub next-settled : {b w rows at times : List ℕ} {base : Point} {oldAges oldValues : List ℕ} {left right : Child} {n : ℕ} {start i : Point} {node : Node} {out : List ℕ} {k : ℕ} {rows' at' : List ℕ} {done : Bool}
-    → PointSettled b w rows at times base oldAges oldValues left right start i node out k → SetPushed out k rows at n rows' at' done → NextSettled b w rows at times base oldAges oldValues left right n start i node rows' at' done
+pub next-settled : {b w rows at times : List ℕ} {base : Point} {oldAges oldValues : List ℕ} {left right : Child} {n lowest : ℕ} {start i : Point} {node : Node} {out : List ℕ} {k : ℕ} {rows' at' : List ℕ} {done : Bool}
+    → PointSettled b w rows at times base oldAges oldValues left right lowest start i node out k → SetPushed out k rows at n rows' at' done → NextSettled b w rows at times base oldAges oldValues left right n lowest start i node rows' at' done
 next-settled {out = out} {k = k} p h =
     let f : k - 0 ≡ k = omega arith in
     record {
@@ -53,18 +53,18 @@ next-settled {out = out} {k = k} p h =
 
 -- ---- one point after the other
 
-module _ (b w rows at times : List ℕ) (base : Point) (oldAges oldValues : List ℕ) (left right : Child) (n : ℕ) (start end : Point) (node : Node) where
+module _ (b w rows at times : List ℕ) (base : Point) (oldAges oldValues : List ℕ) (left right : Child) (n lowest : ℕ) (start end : Point) (node : Node) where
   -- the points from start on before i are settled
   pub record Going (rows' at' : List ℕ) (i : Point) : Type 0 where
     pub begun : start .0 ≤ i .0
     pub reached : i .0 ≤ end .0
     pub more : Extended rows at rows' at' n (i .0 - start .0) (λ q. setIn rows' at' (n + q))
     pub sets : Sets rows' at' (n + (i .0 - start .0))
-    pub there : (v : Inputs) → SeesFirst b w rows at times base oldAges oldValues left right n start end node v → (q : ℕ) → q < i .0 - start .0 → setIn rows' at' (n + q) ≡ settle v (heldIn oldAges oldValues) start (point (start .0 + q)) node
+    pub there : (v : Inputs) → SeesFirst b w rows at times base oldAges oldValues left right n lowest start end node v → (q : ℕ) → q < i .0 - start .0 → setIn rows' at' (n + q) ≡ settle v lowest (heldIn oldAges oldValues) start (point (start .0 + q)) node
 
-module _ {b w rows at times : List ℕ} {base : Point} {oldAges oldValues : List ℕ} {left right : Child} {n : ℕ} {start end : Point} {node : Node}
-    (r : PointsReady b w rows at times base oldAges oldValues left right n start end node) where
-  pub going-none : Going b w rows at times base oldAges oldValues left right n start end node rows at start
+module _ {b w rows at times : List ℕ} {base : Point} {oldAges oldValues : List ℕ} {left right : Child} {n lowest : ℕ} {start end : Point} {node : Node}
+    (r : PointsReady b w rows at times base oldAges oldValues left right n lowest start end node) where
+  pub going-none : Going b w rows at times base oldAges oldValues left right n lowest start end node rows at start
   going-none =
       let e : start .0 - start .0 ≡ 0 = omega arith in
       let z : n + 0 ≡ n = omega arith in
@@ -76,12 +76,12 @@ module _ {b w rows at times : List ℕ} {base : Point} {oldAges oldValues : List
         there = λ v s q l. absurd (omega arith);
       }
 
-  module _ {rows' at' : List ℕ} {i : Point} (t : Going b w rows at times base oldAges oldValues left right n start end node rows' at' i) where
+  module _ {rows' at' : List ℕ} {i : Point} (t : Going b w rows at times base oldAges oldValues left right n lowest start end node rows' at' i) where
     pub going-front : Extended rows at rows' at' n 0 (λ q. [])
     going-front = extended-front (t .more) n (omega arith)
 
     module _ (l : i .0 < end .0) where
-      pub point-ready : NextReady b w rows' at' times base oldAges oldValues left right (n + (i .0 - start .0)) start i node
+      pub point-ready : NextReady b w rows' at' times base oldAges oldValues left right (n + (i .0 - start .0)) lowest start i node
       point-ready =
           let s = r .space in
           let m = run-few (t .sets) n (i .0 - start .0) (omega arith) in
@@ -97,8 +97,8 @@ module _ {b w rows at times : List ℕ} {base : Point} {oldAges oldValues : List
                 };
           }
 
-      module _ {rows'' at'' : List ℕ} {done : Bool} (p : NextSettled b w rows' at' times base oldAges oldValues left right (n + (i .0 - start .0)) start i node rows'' at'' done) where
-        pub going-crowded : done ≡ false → PointsSettled b w rows at times base oldAges oldValues left right n start end node rows'' at'' false
+      module _ {rows'' at'' : List ℕ} {done : Bool} (p : NextSettled b w rows' at' times base oldAges oldValues left right (n + (i .0 - start .0)) lowest start i node rows'' at'' done) where
+        pub going-crowded : done ≡ false → PointsSettled b w rows at times base oldAges oldValues left right n lowest start end node rows'' at'' false
         going-crowded told =
             record {
               stay = extended-front (extended-then (t .more) (extended-as (p .stay) (λ q u. absurd (omega arith)))) n (omega arith);
@@ -108,7 +108,7 @@ module _ {b w rows at times : List ℕ} {base : Point} {oldAges oldValues : List
               crowded = λ d v s. (i, t .begun, l, p .crowded told v (s rows' at' (t .more .earlier)));
             }
 
-        pub going-more : done ≡ true → Going b w rows at times base oldAges oldValues left right n start end node rows'' at'' (point (i .0 + 1))
+        pub going-more : done ≡ true → Going b w rows at times base oldAges oldValues left right n lowest start end node rows'' at'' (point (i .0 + 1))
         going-more told =
             let g = t .begun in
             let h = p .more told in
@@ -124,8 +124,8 @@ module _ {b w rows at times : List ℕ} {base : Point} {oldAges oldValues : List
               there = λ v s q m. go v s q (rw e at m) (tested (ltb q (i .0 - start .0)));
             }
           where
-            go : (v : Inputs) → SeesFirst b w rows at times base oldAges oldValues left right n start end node v → (q : ℕ) → q < i .0 - start .0 + 1 → Tested (ltb q (i .0 - start .0))
-                → setIn rows'' at'' (n + q) ≡ settle v (heldIn oldAges oldValues) start (point (start .0 + q)) node
+            go : (v : Inputs) → SeesFirst b w rows at times base oldAges oldValues left right n lowest start end node v → (q : ℕ) → q < i .0 - start .0 + 1 → Tested (ltb q (i .0 - start .0))
+                → setIn rows'' at'' (n + q) ≡ settle v lowest (heldIn oldAges oldValues) start (point (start .0 + q)) node
             go v s q m (passed d) =
                 let o : q < i .0 - start .0 = ltb-true q (i .0 - start .0) d in
                 p .more told .earlier (n + q) (omega arith) ∙ t .there v s q o
@@ -135,10 +135,10 @@ module _ {b w rows at times : List ℕ} {base : Point} {oldAges oldValues : List
                 let f : start .0 + (i .0 - start .0) ≡ i .0 = omega arith in
                 rw (o, f) (p .there told v (s rows' at' (t .more .earlier)))
 
-    pub going-all : end .0 ≤ i .0 → PointsSettled b w rows at times base oldAges oldValues left right n start end node rows' at' true
+    pub going-all : end .0 ≤ i .0 → PointsSettled b w rows at times base oldAges oldValues left right n lowest start end node rows' at' true
     going-all l =
         let e : i ≡ end = ap point (omega (arith, t .reached)) in
-        let u : Going b w rows at times base oldAges oldValues left right n start end node rows' at' end = rw e at t in
+        let u : Going b w rows at times base oldAges oldValues left right n lowest start end node rows' at' end = rw e at t in
         record {
           stay = going-front;
           more = λ d. u .more;
@@ -148,27 +148,27 @@ module _ {b w rows at times : List ℕ} {base : Point} {oldAges oldValues : List
         }
 
   -- where there is none, all stays
-  pub none-settled : start .0 ≡ end .0 → {rows' at' : List ℕ} {done : Bool} → done ≡ true → rows' ≡ rows → at' ≡ at → PointsSettled b w rows at times base oldAges oldValues left right n start end node rows' at' done
+  pub none-settled : start .0 ≡ end .0 → {rows' at' : List ℕ} {done : Bool} → done ≡ true → rows' ≡ rows → at' ≡ at → PointsSettled b w rows at times base oldAges oldValues left right n lowest start end node rows' at' done
   none-settled l d e f = rw (d, e, f) (going-all going-none (omega arith))
 
   -- where there is one point, it is all
   pub one-space : start .0 + 1 ≡ end .0 → Space rows at n mostRows
   one-space l = let z : n + (start .0 - start .0) ≡ n = omega arith in rw z at (point-ready going-none (omega arith) .space)
 
-  module _ (l : start .0 + 1 ≡ end .0) {rows' at' : List ℕ} {done : Bool} (p : NextSettled b w rows at times base oldAges oldValues left right n start start node rows' at' done) where
-    first : NextSettled b w rows at times base oldAges oldValues left right (n + (start .0 - start .0)) start start node rows' at' done
+  module _ (l : start .0 + 1 ≡ end .0) {rows' at' : List ℕ} {done : Bool} (p : NextSettled b w rows at times base oldAges oldValues left right n lowest start start node rows' at' done) where
+    first : NextSettled b w rows at times base oldAges oldValues left right (n + (start .0 - start .0)) lowest start start node rows' at' done
     first = let z : n + (start .0 - start .0) ≡ n = omega arith in rw z p
 
-    one-crowded : done ≡ false → PointsSettled b w rows at times base oldAges oldValues left right n start end node rows' at' false
+    one-crowded : done ≡ false → PointsSettled b w rows at times base oldAges oldValues left right n lowest start end node rows' at' false
     one-crowded told = going-crowded going-none (omega arith) first told
 
-    one-settled : done ≡ true → PointsSettled b w rows at times base oldAges oldValues left right n start end node rows' at' true
+    one-settled : done ≡ true → PointsSettled b w rows at times base oldAges oldValues left right n lowest start end node rows' at' true
     one-settled told = going-all (going-more going-none (omega arith) first told) (omega arith)
 
-    pub one-more : PointsSettled b w rows at times base oldAges oldValues left right n start end node rows' at' done
+    pub one-more : PointsSettled b w rows at times base oldAges oldValues left right n lowest start end node rows' at' done
     one-more = elim (tested done) [ passed t ↦ rw t (one-settled t) | failed t ↦ rw t (one-crowded t) ]
 
 -- points settled, as was told
-pub told-settled : {b w rows at times : List ℕ} {base : Point} {oldAges oldValues : List ℕ} {left right : Child} {n : ℕ} {start end : Point} {node : Node} {rows' at' : List ℕ} {done told : Bool}
-    → PointsSettled b w rows at times base oldAges oldValues left right n start end node rows' at' done → done ≡ told → PointsSettled b w rows at times base oldAges oldValues left right n start end node rows' at' told
-told-settled {b} {w} {rows} {at} {times} {base} {oldAges} {oldValues} {left} {right} {n} {start} {end} {node} {rows'} {at'} p e = subst (PointsSettled b w rows at times base oldAges oldValues left right n start end node rows' at') e p
+pub told-settled : {b w rows at times : List ℕ} {base : Point} {oldAges oldValues : List ℕ} {left right : Child} {n lowest : ℕ} {start end : Point} {node : Node} {rows' at' : List ℕ} {done told : Bool}
+    → PointsSettled b w rows at times base oldAges oldValues left right n lowest start end node rows' at' done → done ≡ told → PointsSettled b w rows at times base oldAges oldValues left right n lowest start end node rows' at' told
+told-settled {b} {w} {rows} {at} {times} {base} {oldAges} {oldValues} {left} {right} {n} {lowest} {start} {end} {node} {rows'} {at'} p e = subst (PointsSettled b w rows at times base oldAges oldValues left right n lowest start end node rows' at') e p

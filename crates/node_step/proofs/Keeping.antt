@@ -99,15 +99,15 @@ module _ {on ov : List ℕ} {kept : ℕ} (r : RoomToKeep on ov kept) (l : kept �
             ∙ sym (aged-run x n) ∙ ap (agedEntries x) (p .set m));
       }
 
-module _ {b w rows at times : List ℕ} {base : Point} {oldAges oldValues : List ℕ} {left right : Child} {start end : Point} {node : Node} {on ov : List ℕ} {kept : ℕ}
-    (r : PairsReady b w rows at times base oldAges oldValues left right start end node on ov kept) where
+module _ {b w rows at times : List ℕ} {base : Point} {oldAges oldValues : List ℕ} {left right : Child} {lowest : ℕ} {start end : Point} {node : Node} {on ov : List ℕ} {kept : ℕ}
+    (r : PairsReady b w rows at times base oldAges oldValues left right lowest start end node on ov kept) where
   -- where no point is new the old pairs are kept
   pub old-kept : end .0 ≤ start .0 → {on' ov' : List ℕ} {kept' : ℕ} → ((x : ℕ) → EntriesPut x 1 on ov on' ov' kept kept' (agedEntries x (heldIn oldAges oldValues)))
-      → PairsKept b w rows at times base oldAges oldValues left right start end node on ov kept on' ov' kept'
+      → PairsKept b w rows at times base oldAges oldValues left right lowest start end node on ov kept on' ov' kept'
   old-kept l h = let e : end .0 - start .0 ≡ 0 = omega arith in record { gives = λ v s x. rw e (h x) }
 
   -- where there is no room none are
-  pub none-kept : length on < kept → PairsKept b w rows at times base oldAges oldValues left right start end node on ov kept on ov kept
+  pub none-kept : length on < kept → PairsKept b w rows at times base oldAges oldValues left right lowest start end node on ov kept on ov kept
   none-kept l =
       record {
         gives = λ v s x.
@@ -137,13 +137,13 @@ module _ {b w rows at times : List ℕ} {base : Point} {oldAges oldValues : List
       }
 
   module _ (o : start .0 < end .0) (l : kept ≤ length on) {ages' values' : List ℕ} (restOn restOv : List ℕ) {n : ℕ}
-      (p : PairsSettled rows at times base oldAges oldValues left right start (point (end .0 - 1)) node (take (length on - kept) (drop kept on)) (take (length ov - kept * 4) (drop (kept * 4) ov)) ages' values' n)
+      (p : PairsSettled rows at times base oldAges oldValues left right lowest start (point (end .0 - 1)) node (take (length on - kept) (drop kept on)) (take (length ov - kept * 4) (drop (kept * 4) ov)) ages' values' n)
       (onLong : length (take kept on ++ (ages' ++ restOn)) ≡ length on) (ovLong : length (take (kept * 4) ov ++ (values' ++ restOv)) ≡ length ov) where
     pub new-small : kept + n < 4294967296
     new-small = part-small (r .room) l restOn restOv (p .gives (r .sight) b w (r .sees)) onLong ovLong
 
     -- else those at the last point
-    pub new-kept : PairsKept b w rows at times base oldAges oldValues left right start end node on ov kept (take kept on ++ (ages' ++ restOn)) (take (kept * 4) ov ++ (values' ++ restOv)) (kept + n)
+    pub new-kept : PairsKept b w rows at times base oldAges oldValues left right lowest start end node on ov kept (take kept on ++ (ages' ++ restOn)) (take (kept * 4) ov ++ (values' ++ restOv)) (kept + n)
     new-kept =
         record {
           gives = λ v s x.

@@ -11,10 +11,10 @@ use borrow.Author.Tests.{eqb-true}
 use Rattle.meaning.specs.Lists.{all}
 use Rattle.meaning.specs.Order.{ascending}
 use Rattle.meaning.specs.Log.{relationIn, point}
-use Rattle.meaning.specs.Formula.{atom, termsOf}
+use Rattle.meaning.specs.Formula.{atom, termsOf, free, lowestOf}
 use Rattle.meaning.specs.Evaluator.{atomRows}
 use Rattle.meaning.specs.View.{viewOf, childrenIn}
-use Rattle.meaning.specs.RuleFile.{nodeCount, nodeAt, arity, childrenOf}
+use Rattle.meaning.specs.RuleFile.{nodeCount, nodeAt, formulaAt, arity, childrenOf}
 use Rattle.meaning.specs.declared.Point.{Point}
 use Rattle.meaning.specs.declared.Stamp.{Stamp}
 use Rattle.meaning.specs.declared.LogEnd.{LogEnd}
@@ -48,8 +48,8 @@ use Rattle.node_step.proofs.Keeping.{noted, room-then, nothing-put, blo
 use Rattle.node_step.proofs.Numbers.{a, ok, before-is, after-is}
 
 -- what an atom gives at a point, whatever its children's sets would be
-pub atom-settled : {b w rows at times : List ℕ} {base : Point} {oldAges oldValues : List ℕ} {left right : Child} {start i : Point} {node : Node} {r : ℕ} {t : Terms} {old out : List ℕ} {k : ℕ}
-    → node ≡ Atom r t → arity b r ≡ t .count → Added old 0 out k (atomRows (termsOf t) (relationIn r (rowsWith (t .count) w))) → PointSettled b w rows at times base oldAges oldValues left right start i node out k
+pub atom-settled : {b w rows at times : List ℕ} {base : Point} {oldAges oldValues : List ℕ} {left right : Child} {lowest : ℕ} {start i : Point} {node : Node} {r : ℕ} {t : Terms} {old out : List ℕ} {k : ℕ}
+    → node ≡ Atom r t → arity b r ≡ t .count → Added lowest old 0 out k (atomRows (termsOf t) (relationIn r (rowsWith (t .count) w))) → PointSettled b w rows at times base oldAges oldValues left right lowest start i node out k
 unfolding settle
 atom-settled {b} {w} {r = r} {t = t} e many h =
     rw e (record { gives = λ v s. set-made (added-as h (ap (atomRows (termsOf t)) (atom-reads b w r (t .count) many ∙ sym (s .event r)))) })
@@ -68,12 +68,12 @@ module _ (node : Node) (e : childrenOf node ≡ []) where
   advance-alone τ g c from = rw (e, here-alone)
 
   -- and has no pairs at a new point
-  pairs-alone : (v : Inputs) (start : Point) (n : ℕ) (held : List (List ℕ)) → newPairs v node start (suc n) held ≡ []
-  pairs-alone v start n held = rw here-alone
+  pairs-alone : (v : Inputs) (lowest : ℕ) (start : Point) (n : ℕ) (held : List (List ℕ)) → newPairs v lowest node start (suc n) held ≡ []
+  pairs-alone v lowest start n held = rw here-alone
 
   -- nor had any before
   pub none-held : (b : List ℕ) (x : ℕ) {ps : List (List ℕ)} → pairsFit b x (viewOf node) ps ≡ true → ps ≡ []
-  none-held b x {ps} fit = empty ps (eqb-true (length ps) 0 (subst (λ t. cond (hasPairs t) (ascending ps && all (pairFits b x (viewOf node .window)) ps) (eqb (length ps) 0) ≡ true) here-alone fit))
+  none-held b x {ps} fit = empty ps (eqb-true (length ps) 0 (subst (λ t. cond (hasPairs t) (ascending (suc (lowestOf (free (formulaAt b x)))) ps && all (pairFits b x (viewOf node .window)) ps) (eqb (length ps) 0) ≡ true) here-alone fit))
     where
       empty : (qs : List (List ℕ)) → length qs ≡ 0 → qs ≡ []
       empty [] e = refl
@@ -85,9 +85,9 @@ module _ (node : Node) (e : childrenOf node ≡ []) where
       → BlockKept b w rows at times base oldAges oldValues left right first o node on ov bl x kept on₁ ov₁ (noted bl x l kept k₁ k₁) k₁
   leaf-kept {oldAges = oldAges} {oldValues = oldValues} {o = o} new held r p bl l = record { gives = λ v s. rw (none v new) (block-put r p (nothing-put (room-then r p)) bl l) }
     where
-      none : (v : Inputs) → (o .before ≡ o .after) ⊎ (o .before + 1 ≡ o .after) → newPairs v node (point (o .before)) (o .after - o .before) (heldIn oldAges oldValues) ≡ []
+      none : (v : Inputs) → (o .before ≡ o .after) ⊎ (o .before + 1 ≡ o .after) → newPairs v (o .lowest) node (point (o .before)) (o .after - o .before) (heldIn oldAges oldValues) ≡ []
       none v (inl e) = let m : o .after - o .before ≡ 0 = omega arith in rw m held
-      none v (inr e) = let m : o .after - o .before ≡ suc 0 = omega arith in rw m (pairs-alone v (point (o .before)) 0 (heldIn oldAges oldValues))
+      none v (inr e) = let m : o .after - o .before ≡ suc 0 = omega arith in rw m (pairs-alone v (o .lowest) (point (o .before)) 0 (heldIn oldAges oldValues))
 
 -- so that a call settles the point of it that is added
 pub new-are : {s : Stored} {w os ns vs stamps f : List ℕ} (g : CallReady s w os ns vs stamps f) (x : ℕ) (l : x < nodeCount (s .rule)) → childrenOf (nodeAt (s .rule) x) ≡ [] → {o : Own} → OwnFigures f x o → o .before + pointsAdded w ≡ o .after

@@ -4,11 +4,13 @@ use native.Mathlib.Omega.{arith}
 use mathlib.Core.Path.{_≡_, sym, ap, _∙_}
 use mathlib.Core.List.{List}
 use lib.ListN.{length, getD, length-append}
+use Rattle.meaning.specs.Formula.{free, lowestOf}
 use Rattle.meaning.specs.Lists.{gather}
 use Rattle.meaning.specs.Log.{point, pointsFrom}
 use Rattle.meaning.specs.Outcome.{given}
-use Rattle.meaning.specs.RuleFile.{Accepted, checking, nodeCount}
+use Rattle.meaning.specs.RuleFile.{Accepted, checking, nodeCount, formulaAt}
 use Rattle.meaning.specs.Kept.{entryOf}
+use Rattle.meaning.proofs.OrderLaws.{lowest-same}
 use Rattle.meaning.proofs.Accepted.{nodes-most}
 use Rattle.method.specs.Stored.{Stored, baseOf, held}
 use Rattle.method.specs.Step.{wantedFrom, countBefore, countAfter}
@@ -20,10 +22,11 @@ use Rattle.entries.specs.Entries.{entriesFrom}
 use Rattle.node_sets.specs.NodeEntries.{setEntries, Spaces, NumbersWithin}
 use Rattle.node_sets.proofs.Gathered.{entries-many}
 use Rattle.node_sets.proofs.Loading.{numbers-within}
+use Rattle.kinds.specs.Kinds.{inMask}
 use Rattle.node_step.specs.declared.Own.{Own}
-use Rattle.node_step.specs.Figures.{NodeFigures, CallReady}
+use Rattle.node_step.specs.Figures.{NodeFigures, CallReady, maskIn}
 use Rattle.node_step.specs.Walks.{RoomFor}
-use Rattle.node_step.specs.Parts.{OwnFigures, ChildFigures}
+use Rattle.node_step.specs.Parts.{OwnFigures, FiguresThere}
 
 -- room for more is room for fewer
 fewer-words : (a k m r : ℕ) → (a + (k + m)) * 4 ≤ r → (a + k) * 4 ≤ r
@@ -65,12 +68,15 @@ module _ {s : Stored} {w os ns vs stamps f : List ℕ} (g : CallReady s w os ns 
   pub base-is : point (s .points + 1 - length stamps) ≡ baseOf s
   base-is = ap point (omega (arith, stamps-many))
 
-  pub child-figures : (y : ℕ) → y < nodeCount (s .rule) → ChildFigures f y
-  child-figures y l = record { there = omega (arith, g .figures-there); mask = g .each y l .mask-small }
+  pub figures-at : (y : ℕ) → y < nodeCount (s .rule) → FiguresThere f y
+  figures-at y l = record { there = omega (arith, g .figures-there); mask = g .each y l .mask-small }
 
   module _ (x : ℕ) (l : x < nodeCount (s .rule)) {o : Own} (h : OwnFigures f x o) where
     figures : NodeFigures s w os ns vs f x
     figures = g .each x l
+
+    pub lowest-is : o .lowest ≡ lowestOf (free (formulaAt (s .rule) x))
+    lowest-is = h .lowest ∙ lowest-same (inMask (maskIn f x)) (free (formulaAt (s .rule) x)) (figures .mask)
 
     pub low-is : o .low .0 ≡ wantedFrom (s .rule) (countBefore s) x .0
     low-is = h .low ∙ figures .low

@@ -5,38 +5,40 @@ use mathlib.Core.Path.{_≡_, refl, sym, ap, ap₂, _∙_}
 use mathlib.Core.Bool.{true}
 use mathlib.Core.List.{List, [], _∷_, List·Memᴰ}
 use lib.ListN.{length, getD}
+use Rattle.meaning.specs.Formula.{free, lowestOf}
 use Rattle.meaning.specs.Log.{point}
 use Rattle.meaning.specs.View.{viewOf}
-use Rattle.meaning.specs.RuleFile.{nodeCount, nodeAt, childrenOf}
+use Rattle.meaning.specs.RuleFile.{nodeCount, nodeAt, formulaAt, childrenOf}
 use Rattle.meaning.specs.Event.{pointOf}
 use Rattle.meaning.specs.declared.Point.{Point}
 use Rattle.meaning.specs.declared.Node.{Node}
+use Rattle.meaning.proofs.OrderLaws.{lowest-same}
 use Rattle.meaning.proofs.Accepted.{accepted}
 use Rattle.method.specs.Stored.{Stored, stampIn}
 use Rattle.method.specs.Step.{firstWanted, countBefore, countAfter, stampsNow, endNow, turn}
 use Rattle.method.specs.WellFormed.{pairsFit}
 use Rattle.method.proofs.Bounds.{below, wanted-child, after-step, consults}
 use Rattle.method.proofs.Inputs.{one, two}
-use Rattle.kinds.specs.Kinds.{PairsThere}
+use Rattle.kinds.specs.Kinds.{inMask, PairsThere}
 use Rattle.room.specs.Room.{setIn, SetsInOrder}
 use Rattle.room.specs.declared.Child.{Child}
 use Rattle.since.specs.Since.{heldIn}
 use Rattle.settling.specs.Inputs.{ChildInputs, ChildrenInputs, InputsStand, asked}
-use Rattle.node_step.specs.Figures.{CallReady, lowIn}
+use Rattle.node_step.specs.Figures.{CallReady, maskIn, lowIn}
 use Rattle.node_step.specs.Walks.{ChildStands, ChildrenStand}
-use Rattle.node_step.specs.Parts.{childIn, ChildSetsAre, ChildFigures}
+use Rattle.node_step.specs.Parts.{childIn, ChildSetsAre, FiguresThere}
 use Rattle.node_step.proofs.Arity.{as-many}
 use Rattle.node_step.proofs.Given.{sight, lower-turn, rows-at}
 use Rattle.node_step.proofs.Standing.{Reaches, ChildrenReach, point-asks}
-use Rattle.node_step.proofs.Numbers.{a, ok, base-is, child-figures}
+use Rattle.node_step.proofs.Numbers.{a, ok, base-is, figures-at}
 
 module _ {s : Stored} {w os ns vs stamps f : List ℕ} (g : CallReady s w os ns vs stamps f) (x : ℕ) (l : x < nodeCount (s .rule)) where
   -- children are lower
   lower : (y : ℕ) → List·Memᴰ y (childrenOf (nodeAt (s .rule) x)) → y < nodeCount (s .rule)
   lower y m = omega (arith, below (s .rule) (a g) (ok g) x l y m)
 
-  pub children-figures : {node : Node} → node ≡ nodeAt (s .rule) x → (y : ℕ) → List·Memᴰ y (childrenOf node) → ChildFigures f y
-  children-figures is y m = child-figures g y (lower y (rw is at m))
+  pub children-figures : {node : Node} → node ≡ nodeAt (s .rule) x → (y : ℕ) → List·Memᴰ y (childrenOf node) → FiguresThere f y
+  children-figures is y m = figures-at g y (lower y (rw is at m))
 
   module _ (rows at : List ℕ) (n : ℕ) where
     module _ (y : ℕ) (first : ℕ) (c : ChildStands s w rows at n y first) where
@@ -57,6 +59,7 @@ module _ {s : Stored} {w os ns vs stamps f : List ℕ} (g : CallReady s w os ns 
           let k = g .each y m in
           record {
             free = λ v u. sym (k .mask v u);
+            lowest = lowest-same (free (formulaAt (s .rule) y)) (inMask (maskIn f y)) (λ v u. sym (k .mask v u));
             counted = sym (k .after);
             sets = λ j u v.
                 let d : j .0 - lowIn f y < countAfter s w y - lowIn f y = omega (arith, k .after) in
@@ -90,7 +93,7 @@ module _ {s : Stored} {w os ns vs stamps f : List ℕ} (g : CallReady s w os ns 
           }
 
       pub asks : (oldAges oldValues : List ℕ) → PairsThere oldAges oldValues (length oldAges) → pairsFit (s .rule) x (viewOf (nodeAt (s .rule) x)) (heldIn oldAges oldValues) ≡ true → (m : ℕ) → n ≤ m → (i : Point) → countBefore s x ≤ i .0 → i .0 < countAfter s w x → (rows' at' : List ℕ) → SetsInOrder rows' at' m
-          → asked (s .rule) w rows' at' oldAges oldValues left right (point (countBefore s x)) i (nodeAt (s .rule) x)
+          → asked (s .rule) w rows' at' oldAges oldValues left right (lowestOf (free (formulaAt (s .rule) x))) (point (countBefore s x)) i (nodeAt (s .rule) x)
       asks oldAges oldValues h fit m o i u v rows' at' laid =
           point-asks (s .rule) w oldAges oldValues left right (point (countBefore s x)) i (countAfter s w) laid h (g .event) u x (nodeAt (s .rule) x) (as-many (s .rule) x (accepted (s .rule) (a g) (ok g) .each x l))
           (reach-all (childrenOf (nodeAt (s .rule) x)) (λ y k. k) p q left right e c m o)

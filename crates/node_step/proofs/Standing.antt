@@ -5,9 +5,10 @@ use mathlib.Core.Path.{_≡_}
 use mathlib.Core.Bool.{true}
 use mathlib.Core.List.{List, [], _∷_, List·Memᴰ}
 use lib.ListN.{length}
+use Rattle.meaning.specs.Formula.{free, lowestOf}
 use Rattle.meaning.specs.Log.{point, pointBefore}
 use Rattle.meaning.specs.View.{viewOf, childrenIn}
-use Rattle.meaning.specs.RuleFile.{arity, childrenOf}
+use Rattle.meaning.specs.RuleFile.{formulaAt, arity, childrenOf}
 use Rattle.meaning.specs.declared.Point.{Point}
 use Rattle.meaning.specs.declared.Terms.{Terms}
 use Rattle.meaning.specs.declared.Node.{Node}
@@ -67,5 +68,5 @@ module _ (b w : List ℕ) {rows at : List ℕ} (oldAges oldValues : List ℕ) (l
   children-there t (Two x y) s u = (child-there t (s .0) (u x one), child-there t (s .1) (u y two))
 
   pub point-asks : (x : ℕ) (node : Node) → ((r : ℕ) (t : Terms) → node ≡ Atom r t → arity b r ≡ t .count) → ChildrenReach n (firstWanted (viewOf node .times) (start .0) .0) counts (childrenOf node) left right → Consults counts i (viewOf node)
-      → pairsFit b x (viewOf node) (heldIn oldAges oldValues) ≡ true → asked b w rows at oldAges oldValues left right start i node
+      → pairsFit b x (viewOf node) (heldIn oldAges oldValues) ≡ true → asked b w rows at oldAges oldValues left right (lowestOf (free (formulaAt b x))) start i node
   point-asks x node a s u fit = record { event = event; terms = a; pairs = pairs; ascends = pairs-each b x (viewOf node) (heldIn oldAges oldValues) fit .0; children = children-there (viewOf node .times) (viewOf node .children) s u }

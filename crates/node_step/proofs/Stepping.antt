@@ -42,7 +42,7 @@ use Rattle.node_step.specs.Parts.{OwnFigures, ChildSetsAre, agesOf, Sees
 use Rattle.node_step.proofs.Laying.{set-few, run-few, sets-more}
 use Rattle.node_step.proofs.Given.{sight, turn-pairs, rows-at, rows-held, rows-new}
 use Rattle.node_step.proofs.Pairs.{part-there, held-part}
-use Rattle.node_step.proofs.Numbers.{Numbers, numbers, low-is, before-is, after-is, want-is, entries-here, room-here}
+use Rattle.node_step.proofs.Numbers.{Numbers, numbers, lowest-is, low-is, before-is, after-is, want-is, entries-here, room-here}
 use Rattle.node_step.proofs.Seeing.{sees, asks}
 
 -- no point of a run passes
@@ -121,13 +121,13 @@ module _ {s : Stored} {w os ns vs stamps f : List ℕ} {x : ℕ} {o : Own} {spot
   held-at : (q : ℕ) → q < o .before - o .low .0 → held (s .entries) x (point (o .low .0 + q)) ≡ turnSet s w x q
   held-at q u = rw (low-is g x l h) (sym (rows-held s w x l q (rw (before-is g x l h, low-is g x l h) at u)))
 
-  new-at : (q : ℕ) → q < o .after - o .before → settle (sight s w x) (heldIn oldAges oldValues) (point (o .before)) (point (o .before + q)) (nodeAt (s .rule) x) ≡ turnSet s w x (o .before - o .low .0 + q)
-  new-at q u = rw (held-is, before-is g x l h, low-is g x l h) (sym (rows-new s w x l q (rw (after-is g x l h, before-is g x l h) at u)))
+  new-at : (q : ℕ) → q < o .after - o .before → settle (sight s w x) (o .lowest) (heldIn oldAges oldValues) (point (o .before)) (point (o .before + q)) (nodeAt (s .rule) x) ≡ turnSet s w x (o .before - o .low .0 + q)
+  new-at q u = rw (lowest-is g x l h, held-is, before-is g x l h, low-is g x l h) (sym (rows-new s w x l q (rw (after-is g x l h, before-is g x l h) at u)))
 
   point-rows : (j : Point) → rowsOfTurn (turn s w x) j ≡ turnSet s w x (j .0 - o .low .0)
   point-rows j = rw (low-is g x l h) (rows-at s w x l j)
 
-  new-rows : (j : Point) → o .before ≤ j .0 → j .0 < o .after → settle (sight s w x) (heldIn oldAges oldValues) (point (o .before)) j (nodeAt (s .rule) x) ≡ rowsOfTurn (turn s w x) j
+  new-rows : (j : Point) → o .before ≤ j .0 → j .0 < o .after → settle (sight s w x) (o .lowest) (heldIn oldAges oldValues) (point (o .before)) j (nodeAt (s .rule) x) ≡ rowsOfTurn (turn s w x) j
   new-rows j u v =
       let a = nums .low-before in
       let d : o .before + (j .0 - o .before) ≡ j .0 = omega arith in
@@ -146,16 +146,16 @@ module _ {s : Stored} {w os ns vs stamps f : List ℕ} {x : ℕ} {o : Own} {spot
   loaded-end : getD at₁ (spot .sets + (o .before - o .low .0)) 0 ≤ getD at (spot .sets) 0 + (o .pairs - o .begin)
   loaded-end = k .read .end
 
-  pub seen : SeesFirst (s .rule) w rows₁ at₁ stamps base oldAges oldValues left right (spot .sets + (o .before - o .low .0)) (point (o .before)) (point (o .after)) node (sight s w x)
+  pub seen : SeesFirst (s .rule) w rows₁ at₁ stamps base oldAges oldValues left right (spot .sets + (o .before - o .low .0)) (o .lowest) (point (o .before)) (point (o .after)) node (sight s w x)
   seen rows' at' e = rw is (sees g x l rows at (spot .sets) (spot .left) (spot .right) left right (rw is at (k .children)) (k .stand) rows' at' (λ k u. e k (omega arith) ∙ loaded .earlier k u))
 
   point-asks : (i : Point) → o .before ≤ i .0 → i .0 < o .after → (rows' at' : List ℕ) → SetsInOrder rows' at' (spot .sets + (o .before - o .low .0))
-      → asked (s .rule) w rows' at' oldAges oldValues left right (point (o .before)) i node
+      → asked (s .rule) w rows' at' oldAges oldValues left right (o .lowest) (point (o .before)) i node
   point-asks i u v rows' at' laid =
-      rw (is, before-is g x l h)
+      rw (is, lowest-is g x l h, before-is g x l h)
       (asks g x l rows at (spot .sets) (spot .left) (spot .right) left right (rw is at (k .children)) (k .stand) oldAges oldValues old-there pairs-fit (spot .sets + (o .before - o .low .0)) (omega arith) i (omega (arith, before-is g x l h)) (omega (arith, after-is g x l h)) rows' at' laid)
 
-  pub points-ready : PointsReady (s .rule) w rows₁ at₁ stamps base oldAges oldValues left right (spot .sets + (o .before - o .low .0)) (point (o .before)) (point (o .after)) node
+  pub points-ready : PointsReady (s .rule) w rows₁ at₁ stamps base oldAges oldValues left right (spot .sets + (o .before - o .low .0)) (o .lowest) (point (o .before)) (point (o .after)) node
   points-ready =
       let q = room-here g x l h (k .room) in
       let a = nums .low-before in
@@ -175,12 +175,12 @@ module _ {s : Stored} {w os ns vs stamps f : List ℕ} {x : ℕ} {o : Own} {spot
       }
 
   module _ {rows₂ at₂ : List ℕ} {done : Bool}
-      (p : PointsSettled (s .rule) w rows₁ at₁ stamps base oldAges oldValues left right (spot .sets + (o .before - o .low .0)) (point (o .before)) (point (o .after)) node rows₂ at₂ done) where
+      (p : PointsSettled (s .rule) w rows₁ at₁ stamps base oldAges oldValues left right (spot .sets + (o .before - o .low .0)) (o .lowest) (point (o .before)) (point (o .after)) node rows₂ at₂ done) where
     -- a crowded point, and what stays then
-    crowds-at : (i : Point) → o .before ≤ i .0 → i .0 < o .after → mostRows < length (settle (sight s w x) (heldIn oldAges oldValues) (point (o .before)) i node) → crowdedNow s w x ≡ true
+    crowds-at : (i : Point) → o .before ≤ i .0 → i .0 < o .after → mostRows < length (settle (sight s w x) (o .lowest) (heldIn oldAges oldValues) (point (o .before)) i node) → crowdedNow s w x ≡ true
     unfolding crowdedNow
     crowds-at i u v many =
-        let e : settle (sight s w x) (heldIn oldAges oldValues) (point (o .before)) i node ≡ rowsOfTurn (turn s w x) i = rw is (new-rows i u v) in
+        let e : settle (sight s w x) (o .lowest) (heldIn oldAges oldValues) (point (o .before)) i node ≡ rowsOfTurn (turn s w x) i = rw is (new-rows i u v) in
         let few : mostRows < length (rowsOfTurn (turn s w x) i) = rw e at many in
         any-of (λ j. ltb mostRows (length (rowsOfTurn (turn s w x) j))) (points-of {j = i} (countBefore s x) (countAfter s w x - countBefore s x) (omega (arith, before-is g x l h)) (omega (arith, before-is g x l h, after-is g x l h)))
         (lt-ltb mostRows (length (rowsOfTurn (turn s w x) i)) few)
@@ -239,11 +239,11 @@ module _ {s : Stored} {w os ns vs stamps f : List ℕ} {x : ℕ} {o : Own} {spot
           le-ltb mostRows (length (rowsOfTurn (turn s w x) j)) (rw (set-there j (omega arith) b) at (set-few whole-sets (spot .sets + (j .0 - o .low .0)) (omega arith))))
 
       -- its block
-      pub entries-now : setEntries x (setAt rows₂ at₂ (spot .sets) (o .low)) (o .want) (o .after - o .want .0) ++ agedEntries x (newPairs (sight s w x) node (point (o .before)) (o .after - o .before) (heldIn oldAges oldValues)) ≡ entriesNow s w x
+      pub entries-now : setEntries x (setAt rows₂ at₂ (spot .sets) (o .low)) (o .want) (o .after - o .want .0) ++ agedEntries x (newPairs (sight s w x) (o .lowest) node (point (o .before)) (o .after - o .before) (heldIn oldAges oldValues)) ≡ entriesNow s w x
       unfolding entriesNow
       entries-now =
           let a = nums .low-want in
-          let pairs : newPairs (sight s w x) node (point (o .before)) (o .after - o .before) (heldIn oldAges oldValues) ≡ turn s w x .pairs = rw (is, held-is, before-is g x l h, after-is g x l h) (sym (turn-pairs s w x l)) in
+          let pairs : newPairs (sight s w x) (o .lowest) node (point (o .before)) (o .after - o .before) (heldIn oldAges oldValues) ≡ turn s w x .pairs = rw (is, lowest-is g x l h, held-is, before-is g x l h, after-is g x l h) (sym (turn-pairs s w x l)) in
           let rows : setEntries x (setAt rows₂ at₂ (spot .sets) (o .low)) (o .want) (o .after - o .want .0) ≡ gather (λ j. map (entryOf x 0 (j .0)) (rowsOfTurn (turn s w x) j)) (pointsFrom (o .want) (o .after - o .want .0))
           = gather-over (λ j. map (entryOf x 0 (j .0)) (setAt rows₂ at₂ (spot .sets) (o .low) j)) (λ j. map (entryOf x 0 (j .0)) (rowsOfTurn (turn s w x) j)) (o .want .0) (o .after - o .want .0) (λ j u v. ap (map (entryOf x 0 (j .0))) (set-there j (omega arith) (omega arith))) in
           let many : o .after - o .want .0 ≡ countAfter s w x - wantedFrom (s .rule) (countAfter s w) x .0 = rw (want-is g x l h, after-is g x l h) in

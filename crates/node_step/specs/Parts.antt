@@ -6,6 +6,7 @@ use mathlib.Core.List.{List, [], _∷_, _++_}
 use lib.ListN.{length, getD, take, drop}
 use Rattle.meaning.specs.Log.{point}
 use Rattle.meaning.specs.Outcome.{mostRows}
+use Rattle.meaning.specs.Formula.{lowestOf}
 use Rattle.meaning.specs.RuleFile.{nodeCount, nodeAt, childrenOf}
 use Rattle.meaning.specs.Kept.{Entry}
 use Rattle.meaning.specs.declared.Point.{Point}
@@ -13,7 +14,7 @@ use Rattle.meaning.specs.declared.Node.{Node}
 use Rattle.method.specs.Settle.{Inputs, settle}
 use Rattle.method.specs.Step.{newPairs, pointsAdded}
 use Rattle.rowset.specs.Rows.{rowsFrom}
-use Rattle.kinds.specs.Kinds.{EventThere}
+use Rattle.kinds.specs.Kinds.{inMask, EventThere}
 use Rattle.room.specs.Room.{setIn, setAt, SetsInOrder, Sets}
 use Rattle.room.specs.declared.Child.{Child}
 use Rattle.entries.specs.Appended.{Space, Extended, Pushed}
@@ -30,10 +31,10 @@ use Rattle.node_step.specs.Walks.{setWords, blockWord, blockIn}
 
 -- the sets of node y, which begin at set first
 abbrev pub childIn : List ℕ → ℕ → ℕ → Child
-childIn f y first = record { first = first; low = point (lowIn f y); count = afterIn f y; mask = maskIn f y }
+childIn f y first = record { first = first; low = point (lowIn f y); count = afterIn f y; mask = maskIn f y; lowest = lowestOf (inMask (maskIn f y)) }
 
 -- node y's figures are there, and its mask fits a byte
-pub record ChildFigures (f : List ℕ) (y : ℕ) : Type 0 where
+pub record FiguresThere (f : List ℕ) (y : ℕ) : Type 0 where
   pub there : y * nodeWords + nodeWords ≤ length f
   pub mask : maskIn f y < 256
 
@@ -45,6 +46,7 @@ ChildSetsAre f (y ∷ z ∷ zs) first second left right = (left ≡ childIn f y 
 
 -- a node's own figures
 pub record OwnFigures (f : List ℕ) (x : ℕ) (o : Own) : Type 0 where
+  pub lowest : o .lowest ≡ lowestOf (inMask (maskIn f x))
   pub low : o .low .0 ≡ lowIn f x
   pub before : o .before ≡ beforeIn f x
   pub after : o .after ≡ afterIn f x
@@ -65,10 +67,10 @@ pub record SetPushed (out : List ℕ) (k : ℕ) (rows at : List ℕ) (n : ℕ) (
   pub few : done ≡ true → (k ≤ mostRows) × Pushed rows at rows' at' n (k - 0) (rowsFrom out 0 (k - 0))
   pub many : done ≡ false → mostRows < k
 
-module _ (b w rows at times : List ℕ) (base : Point) (oldAges oldValues : List ℕ) (left right : Child) (n : ℕ) (start i : Point) (node : Node) where
+module _ (b w rows at times : List ℕ) (base : Point) (oldAges oldValues : List ℕ) (left right : Child) (n lowest : ℕ) (start i : Point) (node : Node) where
   -- what must stand for point i: n sets, in which it finds what its kind asks for, and room for its set
   pub record NextReady : Type 0 where
-    pub asks : asked b w rows at oldAges oldValues left right start i node
+    pub asks : asked b w rows at oldAges oldValues left right lowest start i node
     pub space : Space rows at n mostRows
 
   -- the point's set stands behind the others, or it has too many rows
@@ -76,8 +78,8 @@ module _ (b w rows at times : List ℕ) (base : Point) (oldAges oldValues : List
     pub stay : Extended rows at rows' at' n 0 (λ q. [])
     pub more : done ≡ true → Extended rows at rows' at' n 1 (λ q. setIn rows' at' n)
     pub few : done ≡ true → length (setIn rows' at' n) ≤ mostRows
-    pub there : done ≡ true → (v : Inputs) → InputsStand v b w rows at times base left right node → setIn rows' at' n ≡ settle v (heldIn oldAges oldValues) start i node
-    pub crowded : done ≡ false → (v : Inputs) → InputsStand v b w rows at times base left right node → mostRows < length (settle v (heldIn oldAges oldValues) start i node)
+    pub there : done ≡ true → (v : Inputs) → InputsStand v b w rows at times base left right node → setIn rows' at' n ≡ settle v lowest (heldIn oldAges oldValues) start i node
+    pub crowded : done ≡ false → (v : Inputs) → InputsStand v b w rows at times base left right node → mostRows < length (settle v lowest (heldIn oldAges oldValues) start i node)
 
 -- the same where node x has no children: it is an atom, to which the event is enough
 pub record LeafReady (b w rows at : List ℕ) (x n : ℕ) : Type 0 where
@@ -88,16 +90,16 @@ pub record LeafReady (b w rows at : List ℕ) (x n : ℕ) : Type 0 where
   pub space : pointsAdded w ≡ 1 → Space rows at n mostRows
 
 -- so that its set is the same whatever else stands, and at any point
-abbrev pub LeafSettled : List ℕ → List ℕ → List ℕ → List ℕ → ℕ → ℕ → List ℕ → List ℕ → Bool → Type 0
-LeafSettled b w rows at x n rows' at' done =
-    (times : List ℕ) (base : Point) (oldAges oldValues : List ℕ) (left right : Child) (start i : Point) → NextSettled b w rows at times base oldAges oldValues left right n start i (nodeAt b x) rows' at' done
+abbrev pub LeafSettled : ℕ → List ℕ → List ℕ → List ℕ → List ℕ → ℕ → ℕ → List ℕ → List ℕ → Bool → Type 0
+LeafSettled lowest b w rows at x n rows' at' done =
+    (times : List ℕ) (base : Point) (oldAges oldValues : List ℕ) (left right : Child) (start i : Point) → NextSettled b w rows at times base oldAges oldValues left right n lowest start i (nodeAt b x) rows' at' done
 
 -- where a point is added it is settled; where none is, nothing moves
-pub record LeafStep (b w rows at : List ℕ) (x n : ℕ) (rows' at' : List ℕ) (done : Bool) : Type 0 where
-  pub one : pointsAdded w ≡ 1 → LeafSettled b w rows at x n rows' at' done
+pub record LeafStep (lowest : ℕ) (b w rows at : List ℕ) (x n : ℕ) (rows' at' : List ℕ) (done : Bool) : Type 0 where
+  pub one : pointsAdded w ≡ 1 → LeafSettled lowest b w rows at x n rows' at' done
   pub none : pointsAdded w ≡ 0 → (done ≡ true) × (rows' ≡ rows) × (at' ≡ at)
 
-module _ (b w rows at times : List ℕ) (base : Point) (oldAges oldValues : List ℕ) (left right : Child) (n : ℕ) (start end : Point) (node : Node) where
+module _ (b w rows at times : List ℕ) (base : Point) (oldAges oldValues : List ℕ) (left right : Child) (n lowest : ℕ) (start end : Point) (node : Node) where
   -- a Inputs that say of the node's children what stands in any words whose first n sets are these
   abbrev pub SeesFirst : Inputs → Type 0
   SeesFirst v = (rows' at' : List ℕ) → ((q : ℕ) → q < n → setIn rows' at' q ≡ setIn rows at q) → InputsStand v b w rows' at' times base left right node
@@ -107,7 +109,7 @@ module _ (b w rows at times : List ℕ) (base : Point) (oldAges oldValues : List
     pub sets : Sets rows at n
     pub ordered : start .0 ≤ end .0
     pub small : n + (end .0 - start .0) < 4294967296
-    pub asks : (i : Point) → start .0 ≤ i .0 → i .0 < end .0 → (rows' at' : List ℕ) → SetsInOrder rows' at' n → asked b w rows' at' oldAges oldValues left right start i node
+    pub asks : (i : Point) → start .0 ≤ i .0 → i .0 < end .0 → (rows' at' : List ℕ) → SetsInOrder rows' at' n → asked b w rows' at' oldAges oldValues left right lowest start i node
     pub space : Spaces rows at n (end .0 - start .0) (mostRows * (end .0 - start .0))
 
   -- the points' sets stand behind the others, or one of the points has too many rows
@@ -115,16 +117,16 @@ module _ (b w rows at times : List ℕ) (base : Point) (oldAges oldValues : List
     pub stay : Extended rows at rows' at' n 0 (λ q. [])
     pub more : done ≡ true → Extended rows at rows' at' n (end .0 - start .0) (λ q. setIn rows' at' (n + q))
     pub sets : done ≡ true → Sets rows' at' (n + (end .0 - start .0))
-    pub there : done ≡ true → (v : Inputs) → SeesFirst v → (q : ℕ) → q < end .0 - start .0 → setIn rows' at' (n + q) ≡ settle v (heldIn oldAges oldValues) start (point (start .0 + q)) node
-    pub crowded : done ≡ false → (v : Inputs) → SeesFirst v → (i : Point) × (start .0 ≤ i .0) × (i .0 < end .0) × (mostRows < length (settle v (heldIn oldAges oldValues) start i node))
+    pub there : done ≡ true → (v : Inputs) → SeesFirst v → (q : ℕ) → q < end .0 - start .0 → setIn rows' at' (n + q) ≡ settle v lowest (heldIn oldAges oldValues) start (point (start .0 + q)) node
+    pub crowded : done ≡ false → (v : Inputs) → SeesFirst v → (i : Point) × (start .0 ≤ i .0) × (i .0 < end .0) × (mostRows < length (settle v lowest (heldIn oldAges oldValues) start i node))
 
 -- ---- what is kept
 
-module _ (b w rows at times : List ℕ) (base : Point) (oldAges oldValues : List ℕ) (left right : Child) (start end : Point) (node : Node) (on ov : List ℕ) (kept : ℕ) where
+module _ (b w rows at times : List ℕ) (base : Point) (oldAges oldValues : List ℕ) (left right : Child) (lowest : ℕ) (start end : Point) (node : Node) (on ov : List ℕ) (kept : ℕ) where
   -- what must stand for the pairs at the last of the points from start on before end, or where there is none for the old pairs; by a Inputs that say what stands, they can be counted
   pub record PairsReady : Type 0 where
     pub ordered : start .0 ≤ end .0
-    pub asks : start .0 < end .0 → asked b w rows at oldAges oldValues left right start (point (end .0 - 1)) node
+    pub asks : start .0 < end .0 → asked b w rows at oldAges oldValues left right lowest start (point (end .0 - 1)) node
     pub sight : Inputs
     pub sees : InputsStand sight b w rows at times base left right node
     pub held : length oldAges * 4 ≤ length oldValues
@@ -132,7 +134,7 @@ module _ (b w rows at times : List ℕ) (base : Point) (oldAges oldValues : List
 
   -- the pairs are put behind what is kept
   pub record PairsKept (on' ov' : List ℕ) (kept' : ℕ) : Type 0 where
-    pub gives : (v : Inputs) → InputsStand v b w rows at times base left right node → (x : ℕ) → EntriesPut x 1 on ov on' ov' kept kept' (agedEntries x (newPairs v node start (end .0 - start .0) (heldIn oldAges oldValues)))
+    pub gives : (v : Inputs) → InputsStand v b w rows at times base left right node → (x : ℕ) → EntriesPut x 1 on ov on' ov' kept kept' (agedEntries x (newPairs v lowest node start (end .0 - start .0) (heldIn oldAges oldValues)))
 
 -- node x's entries es are put behind kept others, where there is room, and its words in the table say where
 pub record BlockPut (x : ℕ) (on ov bl on' ov' bl' : List ℕ) (kept kept' : ℕ) (es : List Entry) : Type 0 where
@@ -157,10 +159,10 @@ pub record BlockReady (b w rows at times : List ℕ) (base : Point) (ns oldValue
   pub numbered : Numbered at first (o .before - o .low .0) (o .low .0) ns (o .begin)
   pub pairs-end : o .pairs ≤ o .end
   pub end-there : o .end ≤ length ns
-  pub pairs : PairsReady b w rows at times base (agesOf ns o) oldValues left right (point (o .before)) (point (o .after)) node on ov kept
+  pub pairs : PairsReady b w rows at times base (agesOf ns o) oldValues left right (o .lowest) (point (o .before)) (point (o .after)) node on ov kept
   pub table : setWords + x * 3 + 3 ≤ length bl
 
 -- its rows at the points that are wanted, and then its pairs, are its block
 pub record BlockKept (b w rows at times : List ℕ) (base : Point) (oldAges oldValues : List ℕ) (left right : Child) (first : ℕ) (o : Own) (node : Node) (on ov bl : List ℕ) (x kept : ℕ) (on' ov' bl' : List ℕ) (kept' : ℕ) : Type 0 where
   pub gives : (v : Inputs) → InputsStand v b w rows at times base left right node
-      → BlockPut x on ov bl on' ov' bl' kept kept' (setEntries x (setAt rows at first (o .low)) (o .want) (o .after - o .want .0) ++ agedEntries x (newPairs v node (point (o .before)) (o .after - o .before) (heldIn oldAges oldValues)))
+      → BlockPut x on ov bl on' ov' bl' kept kept' (setEntries x (setAt rows at first (o .low)) (o .want) (o .after - o .want .0) ++ agedEntries x (newPairs v (o .lowest) node (point (o .before)) (o .after - o .before) (heldIn oldAges oldValues)))

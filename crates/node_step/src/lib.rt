@@ -16,9 +16,9 @@ ghost use Rattle.method.specs.Step.{entriesNow};
 ghost use Rattle.method.specs.Room.{rowsMost, setsMost};
 ghost use Rattle.rowset.specs.Sets.{SetRoom};
 ghost use Rattle.entries.specs.Appended.{Space};
-ghost use Rattle.node_step.specs.Figures.{called, CallReady, nodeWords};
+ghost use Rattle.node_step.specs.Figures.{called, CallReady};
 ghost use Rattle.node_step.specs.Walks.{setWords, RoomFor, ChildrenStand, OutThere, Walks};
-ghost use Rattle.node_step.specs.Parts.{childIn, ChildFigures, ChildSetsAre, OwnFigures, agesOf, SetPushed, NextReady, NextSettled, LeafReady, LeafStep, PointsReady, PointsSettled, PairsReady, PairsKept, BlockReady, BlockKept};
+ghost use Rattle.node_step.specs.Parts.{childIn, FiguresThere, ChildSetsAre, OwnFigures, agesOf, SetPushed, NextReady, NextSettled, LeafReady, LeafStep, PointsReady, PointsSettled, PairsReady, PairsKept, BlockReady, BlockKept};
 
 // Where a node's step begins: so many sets are below its children's, so many stand in all, left's and right's begin at these sets, and so many entries are kept.
 pub struct Spot {
@@ -47,8 +47,9 @@ pub struct Place {
     pub low: u8,
 }
 
-// A node's own figures: the point of its first set, how many points it had settled and has settled now, the point from which on its rows are kept; and where its entries begin, its pairs among them, and the entry behind them.
+// A node's own figures: its lowest free variable; the point of its first set, how many points it had settled and has settled now, the point from which on its rows are kept; and where its entries begin, its pairs among them, and the entry behind them.
 struct Own {
+    lowest: u32,
     low: Point,
     before: u32,
     after: u32,
@@ -66,11 +67,12 @@ struct ChildSets {
 
 // The figures of node x.
 fn own_figures(figures: &[u32], x: u8) -> Own
-    requires { ⌜ x * nodeWords + nodeWords ≤ length (now figures) ⌝ }
+    requires { ⌜ FiguresThere (now figures) x ⌝ }
     ensures { λ r. ⌜ OwnFigures (now (figures .entry)) x r ⌝ }
 {
     let k = x as usize * NODE_WORDS;
     Own {
+        lowest: kinds::lowest_of(figures[k] as u8),
         low: Point(figures[k + 1]),
         before: figures[k + 2],
         after: figures[k + 3],
@@ -83,21 +85,23 @@ fn own_figures(figures: &[u32], x: u8) -> Own
 
 // The sets of node y, which begin at set `first`.
 fn child_at(figures: &[u32], y: u8, first: usize) -> Child
-    requires { ⌜ ChildFigures (now figures) y ⌝ }
+    requires { ⌜ FiguresThere (now figures) y ⌝ }
     ensures { λ r. ⌜ r ≡ childIn (now (figures .entry)) y first ⌝ }
 {
     let k = y as usize * NODE_WORDS;
+    let mask = figures[k] as u8;
     Child {
         first,
         low: Point(figures[k + 1]),
         count: figures[k + 3],
-        mask: figures[k] as u8,
+        mask,
+        lowest: kinds::lowest_of(mask),
     }
 }
 
 // The sets of the node's children, left's from set `first` on and right's from set `second` on.
 fn children_at(figures: &[u32], node: Node, first: usize, second: usize) -> ChildSets
-    requires { ⌜ ((y : ℕ) → List·Memᴰ y (childrenOf node) → ChildFigures (now figures) y) ⌝ }
+    requires { ⌜ ((y : ℕ) → List·Memᴰ y (childrenOf node) → FiguresThere (now figures) y) ⌝ }
     ensures { λ r. ⌜ ChildSetsAre (now (figures .entry)) (childrenOf node) first second (r .left) (r .right) ⌝ }
 {
     let children = rulenodes::children_of(node);
@@ -108,6 +112,7 @@ fn children_at(figures: &[u32], node: Node, first: usize, second: usize) -> Chil
                 low: Point(0),
                 count: 0,
                 mask: 0,
+                lowest: 0,
             };
             ChildSets {
                 left: none,
@@ -142,6 +147,7 @@ fn push_set(out: &[u32], k: usize, rows: &mut [u32], at: &mut [u32], n: usize) -
 // Settles the node's point i, and puts its set behind n others; false where it has more than 32 rows. The node's pairs before point start are held in the old slices. The set is made in `out`.
 fn settle_next(
     node: Node,
+    lowest: u32,
     rule: &[u8],
     rows: &mut [u32],
     at: &mut [u32],
@@ -157,12 +163,13 @@ fn settle_next(
     i: Point,
     out: &mut [u32],
 ) -> bool
-    requires { ⌜ NextReady (now rule) (now event) (now rows) (now at) (now times) base (now «old_ages») (now «old_values») left right n start i node ⌝ }
+    requires { ⌜ NextReady (now rule) (now event) (now rows) (now at) (now times) base (now «old_ages») (now «old_values») left right n lowest start i node ⌝ }
     requires { ⌜ SetRoom (now out) 0 ⌝ }
-    ensures { λ r. ⌜ NextSettled (now (rule .entry)) (now (event .entry)) (now (rows .entry)) (now (at .entry)) (now (times .entry)) base (now («old_ages» .entry)) (now («old_values» .entry)) left right n start i node (now (rows .exit)) (now (at .exit)) r ⌝ }
+    ensures { λ r. ⌜ NextSettled (now (rule .entry)) (now (event .entry)) (now (rows .entry)) (now (at .entry)) (now (times .entry)) base (now («old_ages» .entry)) (now («old_values» .entry)) left right n lowest start i node (now (rows .exit)) (now (at .exit)) r ⌝ }
 {
     let k = settling::settle_point(
         node,
+        lowest,
         rule,
         rows,
         at,
@@ -183,6 +190,7 @@ fn settle_next(
 // Settles the node's points from start on before end, and puts their sets behind `sets` others; false where a point has more than 32 rows. The node's pairs before these points are held in the old slices. Each set is made in `out`.
 fn settle_points(
     node: Node,
+    lowest: u32,
     rule: &[u8],
     rows: &mut [u32],
     at: &mut [u32],
@@ -198,14 +206,15 @@ fn settle_points(
     end: Point,
     out: &mut [u32],
 ) -> bool
-    requires { ⌜ PointsReady (now rule) (now event) (now rows) (now at) (now times) base (now «old_ages») (now «old_values») left right sets start end node ⌝ }
+    requires { ⌜ PointsReady (now rule) (now event) (now rows) (now at) (now times) base (now «old_ages») (now «old_values») left right sets lowest start end node ⌝ }
     requires { ⌜ SetRoom (now out) 0 ⌝ }
-    ensures { λ r. ⌜ PointsSettled (now (rule .entry)) (now (event .entry)) (now (rows .entry)) (now (at .entry)) (now (times .entry)) base (now («old_ages» .entry)) (now («old_values» .entry)) left right sets start end node (now (rows .exit)) (now (at .exit)) r ⌝ }
+    ensures { λ r. ⌜ PointsSettled (now (rule .entry)) (now (event .entry)) (now (rows .entry)) (now (at .entry)) (now (times .entry)) base (now («old_ages» .entry)) (now («old_values» .entry)) left right sets lowest start end node (now (rows .exit)) (now (at .exit)) r ⌝ }
 {
     let mut i = start.0;
     while i < end.0 {
         let done = settle_next(
             node,
+            lowest,
             rule,
             rows,
             at,
@@ -232,6 +241,7 @@ fn settle_points(
 // Puts the node's pairs behind the kept entries: those at the last point before end, or the old ones where no point is new; how many entries are then kept, or one more than there is room for.
 fn keep_pairs_at(
     node: Node,
+    lowest: u32,
     rule: &[u8],
     rows: &[u32],
     at: &[u32],
@@ -247,8 +257,8 @@ fn keep_pairs_at(
     out_values: &mut [u32],
     kept: usize,
 ) -> usize
-    requires { ⌜ PairsReady (now rule) (now event) (now rows) (now at) (now times) base (now «old_ages») (now «old_values») (children .left) (children .right) start end node (now «out_numbers») (now «out_values») kept ⌝ }
-    ensures { λ r. ⌜ PairsKept (now (rule .entry)) (now (event .entry)) (now (rows .entry)) (now (at .entry)) (now (times .entry)) base (now («old_ages» .entry)) (now («old_values» .entry)) (children .left) (children .right) start end node (now («out_numbers» .entry)) (now («out_values» .entry)) kept (now («out_numbers» .exit)) (now («out_values» .exit)) r ⌝ }
+    requires { ⌜ PairsReady (now rule) (now event) (now rows) (now at) (now times) base (now «old_ages») (now «old_values») (children .left) (children .right) lowest start end node (now «out_numbers») (now «out_values») kept ⌝ }
+    ensures { λ r. ⌜ PairsKept (now (rule .entry)) (now (event .entry)) (now (rows .entry)) (now (at .entry)) (now (times .entry)) base (now («old_ages» .entry)) (now («old_values» .entry)) (children .left) (children .right) lowest start end node (now («out_numbers» .entry)) (now («out_values» .entry)) kept (now («out_numbers» .exit)) (now («out_values» .exit)) r ⌝ }
 {
     if end.0 <= start.0 {
         return node_sets::keep_pairs(old_ages, old_values, out_numbers, out_values, kept);
@@ -258,6 +268,7 @@ fn keep_pairs_at(
     }
     let n = settling::settle_pairs(
         node,
+        lowest,
         rule,
         rows,
         at,
@@ -328,6 +339,7 @@ fn keep_node(
     let to = own.end;
     let kept = keep_pairs_at(
         node,
+        own.lowest,
         rule,
         rows,
         at,
@@ -395,6 +407,7 @@ pub fn own_step(
     );
     let done = settle_points(
         node,
+        own.lowest,
         rule,
         rows,
         at,
@@ -440,6 +453,7 @@ pub fn own_step(
 
 // Settles the point that is added, of node x, which has no children, and puts its set behind n others; false where it has more than 32 rows. A notice adds none, and then nothing is done. The set is made in `out`.
 fn settle_leaf(
+    lowest: u32,
     rule: &[u8],
     event: &[u32],
     rows: &mut [u32],
@@ -450,14 +464,14 @@ fn settle_leaf(
 ) -> bool
     requires { ⌜ LeafReady (now rule) (now event) (now rows) (now at) x n ⌝ }
     requires { ⌜ SetRoom (now out) 0 ⌝ }
-    ensures { λ r. ⌜ LeafStep (now (rule .entry)) (now (event .entry)) (now (rows .entry)) (now (at .entry)) x n (now (rows .exit)) (now (at .exit)) r ⌝ }
+    ensures { λ r. ⌜ LeafStep lowest (now (rule .entry)) (now (event .entry)) (now (rows .entry)) (now (at .entry)) x n (now (rows .exit)) (now (at .exit)) r ⌝ }
 {
     if progress::points_added(event) == 0 {
         return true;
     }
     let atom = rulenodes::atom_at(rule, x);
     let terms = atom.terms;
-    let k = kinds::atom(atom.relation as u32, terms, event, out, 0);
+    let k = kinds::atom(lowest, atom.relation as u32, terms, event, out, 0);
     push_set(out, k, rows, at, n)
 }
 
@@ -500,6 +514,7 @@ pub fn leaf_step(
         h,
     );
     let done = settle_leaf(
+        own.lowest,
         rule,
         event,
         rows,

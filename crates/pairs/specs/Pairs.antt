@@ -1,5 +1,5 @@
 -- Pairs of an age and a row in two parallel runs of words, as a set that may be too large for the words; ages that don't fall, and pairs grown older.
-use Prim.Native.Nat.{ℕ, _+_, _-_, _*_, _≤_, _<_, min}
+use Prim.Native.Nat.{ℕ, suc, _+_, _-_, _*_, _≤_, _<_, min}
 use mathlib.Core.Path.{_≡_}
 use mathlib.Core.List.{List, _∷_, map}
 use lib.ListN.{length, getD, drop}
@@ -8,11 +8,11 @@ use Rattle.rowset.specs.Sets.{Led}
 use Rattle.rowset.specs.declared.Gathered.{Gathered}
 use Rattle.kinds.specs.Kinds.{pairAt, pairsFrom}
 
--- a set of pairs at the front of the words; or its count is one more than these have room for, and says only that the pairs are too many. The next pair is looked for near one that those before it lead up to
-pub record PairRoom (ages values : List ℕ) (set : Gathered) : Type 0 where
+-- a set of pairs of a node with this lowest free variable at the front of the words; or its count is one more than these have room for, and says only that the pairs are too many. The next pair is looked for near one that those before it lead up to
+pub record PairRoom (lowest : ℕ) (ages values : List ℕ) (set : Gathered) : Type 0 where
   pub most : set .count ≤ length ages + 1
   pub valuesThere : length ages * 4 ≤ length values
-  pub led : Led (pairAt ages values) (set .near)
+  pub led : Led (suc lowest) (pairAt ages values) (set .near)
 
 -- the first n pairs are this set, or n says that it is too large for the words
 pub record PairsStand (ages values : List ℕ) (n : ℕ) (pairs : List (List ℕ)) : Type 0 where
@@ -20,11 +20,11 @@ pub record PairsStand (ages values : List ℕ) (n : ℕ) (pairs : List (List ℕ
   pub set : n ≤ length ages → pairsFrom ages values 0 n ≡ pairs
 
 -- the set that stood in the old words stands in the new ones with pairs put in
-pub record PairsAdded (ages values : List ℕ) (set : Gathered) (ages' values' : List ℕ) (set' : Gathered) (pairs : List (List ℕ)) : Type 0 where
+pub record PairsAdded (lowest : ℕ) (ages values : List ℕ) (set : Gathered) (ages' values' : List ℕ) (set' : Gathered) (pairs : List (List ℕ)) : Type 0 where
   pub agesLong : length ages' ≡ length ages
   pub valuesLong : length values' ≡ length values
-  pub room : PairRoom ages' values' set'
-  pub put : (whole : List (List ℕ)) → PairsStand ages values (set .count) whole → PairsStand ages' values' (set' .count) (insertAll whole pairs)
+  pub room : PairRoom lowest ages' values' set'
+  pub put : (whole : List (List ℕ)) → PairsStand ages values (set .count) whole → PairsStand ages' values' (set' .count) (insertAll (suc lowest) whole pairs)
 
 -- none of the first n ages is below one before it
 abbrev pub Rising : List ℕ → ℕ → Type 0

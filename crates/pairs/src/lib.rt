@@ -3,7 +3,7 @@ use meaning::Sought;
 use rowset::Compared;
 use rowset::Gathered;
 use rowset::Row;
-ghost use Prim.Native.Nat.{ℕ, _+_, _-_, _*_, _≤_, _<_, min};
+ghost use Prim.Native.Nat.{ℕ, suc, _+_, _-_, _*_, _≤_, _<_, min};
 ghost use mathlib.Core.Path.{_≡_};
 ghost use mathlib.Core.Bool.{true, cond};
 ghost use mathlib.Core.List.{[], _∷_, _++_, map};
@@ -11,21 +11,21 @@ ghost use lib.ListN.{length, getD};
 ghost use Rattle.meaning.specs.Order.{before, ascending};
 ghost use Rattle.meaning.specs.LookUp.{onward, lookUp};
 ghost use Rattle.rowset.specs.Rows.{wordsOf, rowsFrom, compared};
-ghost use Rattle.rowset.specs.Sets.{Run, AllBefore, Led};
+ghost use Rattle.rowset.specs.Sets.{Run, Led, Begins};
 ghost use Rattle.kinds.specs.Kinds.{pairAt, pairsFrom, PairsThere};
 ghost use Rattle.entries.specs.Appended.{WordsPut};
 ghost use Rattle.pairs.specs.Pairs.{PairRoom, PairsAdded, Rising, Below, grownPairs, Behind};
 
 // Two words as one number: it orders by the first, and then by the second.
-fn joint(a: u32, v: u32) -> u64
+pub fn joint(a: u32, v: u32) -> u64
     ensures { λ r. ⌜ r ≡ a * 4294967296 + v ⌝ }
 {
     a as u64 * 4294967296 + v as u64
 }
 
-// The order of pairs: the age first, then the row. The age and the row's first word are compared at once, so that pairs that ascend nearly always take the first way.
-fn compare(a: u32, x: Row, b: u32, y: Row) -> Compared
-    ensures { λ t. ⌜ t ≡ compared (a ∷ wordsOf x) (b ∷ wordsOf y) ⌝ }
+// The order of pairs: the age first, then the row. Both the age and the row's first word ascend, and they are compared at once, so that pairs that ascend nearly always take the first way.
+fn compare(lowest: u32, a: u32, x: Row, b: u32, y: Row) -> Compared
+    ensures { λ t. ⌜ t ≡ compared (suc lowest) (a ∷ wordsOf x) (b ∷ wordsOf y) ⌝ }
 {
     let p = joint(a, x.v0);
     let q = joint(b, y.v0);
@@ -35,14 +35,14 @@ fn compare(a: u32, x: Row, b: u32, y: Row) -> Compared
     if q < p {
         return Compared::After;
     }
-    rowset::compare(x, y)
+    rowset::compare(lowest, x, y)
 }
 
 // The first pair stands before the second.
-pub fn pair_before(a: u32, x: Row, b: u32, y: Row) -> bool
-    ensures { λ t. ⌜ t ≡ before (a ∷ wordsOf x) (b ∷ wordsOf y) ⌝ }
+pub fn pair_before(lowest: u32, a: u32, x: Row, b: u32, y: Row) -> bool
+    ensures { λ t. ⌜ t ≡ before (suc lowest) (a ∷ wordsOf x) (b ∷ wordsOf y) ⌝ }
 {
-    let told = compare(a, x, b, y);
+    let told = compare(lowest, a, x, b, y);
     match told {
         Compared::Before => true,
         Compared::Same => false,
@@ -51,13 +51,21 @@ pub fn pair_before(a: u32, x: Row, b: u32, y: Row) -> bool
 }
 
 // Looks for the pair in pairs from..n, from the front, one after another: it stops at the first that isn't before it, which is equal or larger.
-fn seek(ages: &[u32], values: &[u32], from: usize, n: usize, age: u32, r: Row) -> Sought
+fn seek(
+    lowest: u32,
+    ages: &[u32],
+    values: &[u32],
+    from: usize,
+    n: usize,
+    age: u32,
+    r: Row,
+) -> Sought
     requires { ⌜ PairsThere (now ages) (now values) n × (from ≤ n) ⌝ }
-    ensures { λ s. ⌜ s ≡ onward from (lookUp (age ∷ wordsOf r) (pairsFrom (now (ages .entry)) (now (values .entry)) from (n - from))) ⌝ }
+    ensures { λ s. ⌜ s ≡ onward from (lookUp (suc lowest) (age ∷ wordsOf r) (pairsFrom (now (ages .entry)) (now (values .entry)) from (n - from))) ⌝ }
 {
     let mut i = from;
     while i < n {
-        let told = compare(ages[i], rowset::row_at(values, i), age, r);
+        let told = compare(lowest, ages[i], rowset::row_at(values, i), age, r);
         match told {
             Compared::Before => {
                 i += 1;
@@ -74,28 +82,47 @@ fn seek(ages: &[u32], values: &[u32], from: usize, n: usize, age: u32, r: Row) -
 }
 
 // Where a search for a pair among the first n may begin, if those before pair p all stand before it: as for rows.
-fn start_at(ages: &[u32], values: &[u32], n: usize, p: usize, age: u32, r: Row) -> usize
-    requires { ⌜ PairsThere (now ages) (now values) n × Led (pairAt (now ages) (now values)) p ⌝ }
-    ensures { λ s. ⌜ (s ≤ n) × AllBefore (pairAt (now (ages .entry)) (now (values .entry))) s (age ∷ wordsOf r) ⌝ }
+fn start_at(
+    lowest: u32,
+    ages: &[u32],
+    values: &[u32],
+    n: usize,
+    p: usize,
+    age: u32,
+    r: Row,
+) -> Sought
+    requires { ⌜ PairsThere (now ages) (now values) n × Led (suc lowest) (pairAt (now ages) (now values)) p ⌝ }
+    ensures { λ s. ⌜ Begins (suc lowest) (pairAt (now (ages .entry)) (now (values .entry))) n (age ∷ wordsOf r) s ⌝ }
 {
     if n <= p {
-        return 0;
+        return Sought::Absent(0);
     }
-    let told = compare(ages[p], rowset::row_at(values, p), age, r);
+    let told = compare(lowest, ages[p], rowset::row_at(values, p), age, r);
     match told {
-        Compared::Before => p + 1,
-        Compared::Same => p,
-        Compared::After => 0,
+        Compared::Before => Sought::Absent(p + 1),
+        Compared::Same => Sought::There(p),
+        Compared::After => Sought::Absent(0),
     }
 }
 
 // Looks for the pair among the first n. The answer is that from the front, whatever stands behind pair p.
-fn seek_near(ages: &[u32], values: &[u32], n: usize, p: usize, age: u32, r: Row) -> Sought
-    requires { ⌜ PairsThere (now ages) (now values) n × Led (pairAt (now ages) (now values)) p ⌝ }
-    ensures { λ s. ⌜ s ≡ lookUp (age ∷ wordsOf r) (pairsFrom (now (ages .entry)) (now (values .entry)) 0 n) ⌝ }
+fn seek_near(
+    lowest: u32,
+    ages: &[u32],
+    values: &[u32],
+    n: usize,
+    p: usize,
+    age: u32,
+    r: Row,
+) -> Sought
+    requires { ⌜ PairsThere (now ages) (now values) n × Led (suc lowest) (pairAt (now ages) (now values)) p ⌝ }
+    ensures { λ s. ⌜ s ≡ lookUp (suc lowest) (age ∷ wordsOf r) (pairsFrom (now (ages .entry)) (now (values .entry)) 0 n) ⌝ }
 {
-    let start = start_at(ages, values, n, p, age, r);
-    seek(ages, values, start, n, age, r)
+    let start = start_at(lowest, ages, values, n, p, age, r);
+    match start {
+        Sought::There(q) => Sought::There(q),
+        Sought::Absent(q) => seek(lowest, ages, values, q, n, age, r),
+    }
 }
 
 // Puts a pair at place p, with the pairs from there to place n moved up by one.
@@ -120,15 +147,22 @@ fn put_in(ages: &mut [u32], values: &mut [u32], n: usize, p: usize, age: u32, r:
 }
 
 // Puts a pair into a set, unless it is there or the pairs are too many already. Where there is no room for it, it is counted alone.
-pub fn add(ages: &mut [u32], values: &mut [u32], set: Gathered, age: u32, r: Row) -> Gathered
-    requires { ⌜ PairRoom (now ages) (now values) set ⌝ }
-    ensures { λ g. ⌜ PairsAdded (now (ages .entry)) (now (values .entry)) set (now (ages .exit)) (now (values .exit)) g ((age ∷ wordsOf r) ∷ []) ⌝ }
+pub fn add(
+    lowest: u32,
+    ages: &mut [u32],
+    values: &mut [u32],
+    set: Gathered,
+    age: u32,
+    r: Row,
+) -> Gathered
+    requires { ⌜ PairRoom lowest (now ages) (now values) set ⌝ }
+    ensures { λ g. ⌜ PairsAdded lowest (now (ages .entry)) (now (values .entry)) set (now (ages .exit)) (now (values .exit)) g ((age ∷ wordsOf r) ∷ []) ⌝ }
 {
     let n = set.count;
     if ages.len() < n {
         return set;
     }
-    let sought = seek_near(ages, values, n, set.near, age, r);
+    let sought = seek_near(lowest, ages, values, n, set.near, age, r);
     match sought {
         Sought::There(p) => Gathered { count: n, near: p },
         Sought::Absent(p) => {
@@ -150,23 +184,25 @@ pub fn add(ages: &mut [u32], values: &mut [u32], set: Gathered, age: u32, r: Row
 // Puts a pair in where the test passed.
 pub fn add_if(
     ok: bool,
+    lowest: u32,
     ages: &mut [u32],
     values: &mut [u32],
     set: Gathered,
     age: u32,
     r: Row,
 ) -> Gathered
-    requires { ⌜ PairRoom (now ages) (now values) set ⌝ }
-    ensures { λ g. ⌜ PairsAdded (now (ages .entry)) (now (values .entry)) set (now (ages .exit)) (now (values .exit)) g (cond ok ((age ∷ wordsOf r) ∷ []) []) ⌝ }
+    requires { ⌜ PairRoom lowest (now ages) (now values) set ⌝ }
+    ensures { λ g. ⌜ PairsAdded lowest (now (ages .entry)) (now (values .entry)) set (now (ages .exit)) (now (values .exit)) g (cond ok ((age ∷ wordsOf r) ∷ []) []) ⌝ }
 {
     if ok {
-        return add(ages, values, set, age, r);
+        return add(lowest, ages, values, set, age, r);
     }
     set
 }
 
 // Puts in a pair at the age for each of the rows from..to. It is a loop of its own, since nothing is looked up in it.
 pub fn add_young(
+    lowest: u32,
     rows: &[u32],
     from: usize,
     to: usize,
@@ -176,14 +212,14 @@ pub fn add_young(
     set: Gathered,
 ) -> Gathered
     requires { ⌜ Run (now rows) from to ⌝ }
-    requires { ⌜ PairRoom (now ages) (now values) set ⌝ }
-    ensures { λ g. ⌜ PairsAdded (now (ages .entry)) (now (values .entry)) set (now (ages .exit)) (now (values .exit)) g (map (λ u. age ∷ u) (rowsFrom (now (rows .entry)) from (to - from))) ⌝ }
+    requires { ⌜ PairRoom lowest (now ages) (now values) set ⌝ }
+    ensures { λ g. ⌜ PairsAdded lowest (now (ages .entry)) (now (values .entry)) set (now (ages .exit)) (now (values .exit)) g (map (λ u. age ∷ u) (rowsFrom (now (rows .entry)) from (to - from))) ⌝ }
 {
     let mut g = set;
     let mut x = from;
     while x < to {
         let r = rowset::row_at(rows, x);
-        g = add(ages, values, g, age, r);
+        g = add(lowest, ages, values, g, age, r);
         x += 1;
     }
     g
@@ -220,6 +256,7 @@ pub fn at_most(most: u32, age: u64) -> u32
 
 // Puts in the first m pairs of others, each grown older, one by one.
 fn add_each_grown(
+    lowest: u32,
     old_ages: &[u32],
     old_values: &[u32],
     m: usize,
@@ -230,15 +267,15 @@ fn add_each_grown(
     set: Gathered,
 ) -> Gathered
     requires { ⌜ PairsThere (now «old_ages») (now «old_values») m ⌝ }
-    requires { ⌜ PairRoom (now ages) (now values) set ⌝ }
-    ensures { λ g. ⌜ PairsAdded (now (ages .entry)) (now (values .entry)) set (now (ages .exit)) (now (values .exit)) g (grownPairs by most (pairsFrom (now («old_ages» .entry)) (now («old_values» .entry)) 0 m)) ⌝ }
+    requires { ⌜ PairRoom lowest (now ages) (now values) set ⌝ }
+    ensures { λ g. ⌜ PairsAdded lowest (now (ages .entry)) (now (values .entry)) set (now (ages .exit)) (now (values .exit)) g (grownPairs by most (pairsFrom (now («old_ages» .entry)) (now («old_values» .entry)) 0 m)) ⌝ }
 {
     let mut g = set;
     let mut x = 0;
     while x < m {
         let r = rowset::row_at(old_values, x);
         let age = at_most(most, old_ages[x] as u64 + by as u64);
-        g = add(ages, values, g, age, r);
+        g = add(lowest, ages, values, g, age, r);
         x += 1;
     }
     g
@@ -283,6 +320,7 @@ fn put_grown(old_ages: &[u32], m: usize, by: u32, ages: &mut [u32], n: usize)
 
 // Puts in the first m pairs of others, each grown older: at once where they all belong behind the n pairs that are there, as they mostly do.
 pub fn add_grown(
+    lowest: u32,
     old_ages: &[u32],
     old_values: &[u32],
     m: usize,
@@ -292,9 +330,9 @@ pub fn add_grown(
     values: &mut [u32],
     set: Gathered,
 ) -> Gathered
-    requires { ⌜ PairsThere (now «old_ages») (now «old_values») m × (ascending (pairsFrom (now «old_ages») (now «old_values») 0 m) ≡ true) ⌝ }
-    requires { ⌜ PairRoom (now ages) (now values) set ⌝ }
-    ensures { λ g. ⌜ PairsAdded (now (ages .entry)) (now (values .entry)) set (now (ages .exit)) (now (values .exit)) g (grownPairs by most (pairsFrom (now («old_ages» .entry)) (now («old_values» .entry)) 0 m)) ⌝ }
+    requires { ⌜ PairsThere (now «old_ages») (now «old_values») m × (ascending (suc lowest) (pairsFrom (now «old_ages») (now «old_values») 0 m) ≡ true) ⌝ }
+    requires { ⌜ PairRoom lowest (now ages) (now values) set ⌝ }
+    ensures { λ g. ⌜ PairsAdded lowest (now (ages .entry)) (now (values .entry)) set (now (ages .exit)) (now (values .exit)) g (grownPairs by most (pairsFrom (now («old_ages» .entry)) (now («old_values» .entry)) 0 m)) ⌝ }
 {
     if fits_behind(old_ages, m, by, most, ages, set) {
         let n = set.count;
@@ -305,5 +343,5 @@ pub fn add_grown(
             near: 0,
         };
     }
-    add_each_grown(old_ages, old_values, m, by, most, ages, values, set)
+    add_each_grown(lowest, old_ages, old_values, m, by, most, ages, values, set)
 }

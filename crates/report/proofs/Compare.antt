@@ -10,10 +10,10 @@ use Rattle.meaning.specs.Order.{before}
 use Rattle.report.specs.Form.{four}
 
 -- a row of no words stands before none
-pub none-before : (ys : List ℕ) → before [] ys ≡ false
+pub none-before : (ys : List ℕ) → before 0 [] ys ≡ false
 none-before ys = refl
 
-pub four-before : (xs ys : List ℕ) → length xs ≡ length ys → length xs ≤ 4 → before (four xs) (four ys) ≡ before xs ys
+pub four-before : (xs ys : List ℕ) → length xs ≡ length ys → length xs ≤ 4 → before 0 (four xs) (four ys) ≡ before 0 xs ys
 four-before [] [] e h = refl
 four-before [] (y ∷ ys) e h = absurd (omega arith)
 four-before (x ∷ xs) [] e h = absurd (omega arith)
@@ -35,11 +35,11 @@ pub row-length : (w : List ℕ) (i n : ℕ) → i + n ≤ length w → length (t
 row-length w i n h = length-take-le n (drop i w) (simp length-drop (omega arith))
 
 -- two such rows
-pub rows-before : (w : List ℕ) (i j n : ℕ) → i + n ≤ length w → j + n ≤ length w → n ≤ 4 → {x y : List ℕ} → x ≡ four (take n (drop i w)) → y ≡ four (take n (drop j w)) → {r : Bool} → r ≡ before x y → r ≡ before (take n (drop i w)) (take n (drop j w))
+pub rows-before : (w : List ℕ) (i j n : ℕ) → i + n ≤ length w → j + n ≤ length w → n ≤ 4 → {x y : List ℕ} → x ≡ four (take n (drop i w)) → y ≡ four (take n (drop j w)) → {r : Bool} → r ≡ before 0 x y → r ≡ before 0 (take n (drop i w)) (take n (drop j w))
 rows-before w i j n a b c p q e =
     let u : length (take n (drop i w)) ≡ n = row-length w i n a in
     let v : length (take n (drop j w)) ≡ n = row-length w j n b in
-    e ∙ ap₂ before p q ∙ four-before (take n (drop i w)) (take n (drop j w)) (u ∙ sym v) (omega arith)
+    e ∙ ap₂ (before 0) p q ∙ four-before (take n (drop i w)) (take n (drop j w)) (u ∙ sym v) (omega arith)
 
 -- a word of a row, and past its end
 pub word-in : (w : List ℕ) (i n c : ℕ) → c < n → getD w (i + c) 0 ≡ getD (take n (drop i w)) c 0

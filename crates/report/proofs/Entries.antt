@@ -18,7 +18,7 @@ use Rattle.report.proofs.Sums.{rows-room, next-rows, all-next, all-none
 pub record Passed (r : List ℕ) (at k : ℕ) : Type 0 where
   pub within : k ≤ pointsIn r
   pub place : at ≡ 3 + 3 * pointsIn r + freeIn r * rowsBefore r k
-  pub same : rowsTest r ≡ all (λ (j : ℕ). ascending (rowsIn r j)) (range k (pointsIn r - k))
+  pub same : rowsTest r ≡ all (λ (j : ℕ). ascending 0 (rowsIn r j)) (range k (pointsIn r - k))
 
 pub passed-none : (r : List ℕ) (points : ℕ) → points ≡ pointsIn r → Passed r (3 + 3 * points) 0
 unfolding rowsBefore
@@ -27,18 +27,18 @@ passed-none r points e =
     record { within = omega arith; place = omega (arith, mul-zero (freeIn r)); same = rw n }
 
 pub passed-all : {r : List ℕ} {at k : ℕ} → Passed r at k → pointsIn r ≤ k → true ≡ rowsTest r
-passed-all {r} {at} {k} p h = sym (p .same ∙ all-none (λ (j : ℕ). ascending (rowsIn r j)) k (pointsIn r) h)
+passed-all {r} {at} {k} p h = sym (p .same ∙ all-none (λ (j : ℕ). ascending 0 (rowsIn r j)) k (pointsIn r) h)
 
 module _ {r : List ℕ} {at k free count : ℕ} (p : Passed r at k) (l : k < pointsIn r) (f : free ≡ freeIn r) (n : count ≡ countIn r k) where
   pub entry-room : Summed r → at + free * count ≤ length r
   entry-room s = rw (f, n, p .place) (rows-room s k l)
 
-  module _ {b : Bool} (e : b ≡ ascending (rowsFrom r at free free count)) where
-    entry-is : b ≡ ascending (rowsIn r k)
+  module _ {b : Bool} (e : b ≡ ascending 0 (rowsFrom r at free free count)) where
+    entry-is : b ≡ ascending 0 (rowsIn r k)
     entry-is = e ∙ rw (f, n, p .place, ← rows-run r k)
 
-    opened : rowsTest r ≡ (b && all (λ (j : ℕ). ascending (rowsIn r j)) (range (k + 1) (pointsIn r - (k + 1))))
-    opened = p .same ∙ (all-next (λ (j : ℕ). ascending (rowsIn r j)) k (pointsIn r) l ∙ rw (← entry-is))
+    opened : rowsTest r ≡ (b && all (λ (j : ℕ). ascending 0 (rowsIn r j)) (range (k + 1) (pointsIn r - (k + 1))))
+    opened = p .same ∙ (all-next (λ (j : ℕ). ascending 0 (rowsIn r j)) k (pointsIn r) l ∙ rw (← entry-is))
 
     pub passed-broken : b ≡ false → false ≡ rowsTest r
     passed-broken w = sym (opened ∙ rw w)

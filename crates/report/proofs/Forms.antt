@@ -57,10 +57,10 @@ module _ (r : List ℕ) where
   sumTest = eqb (rowsBefore r (pointsIn r)) (totalIn r)
 
   abbrev pub pointsTest : Bool
-  pointsTest = ascending (map (λ (k : ℕ). pointIn r k ∷ []) (range 0 (pointsIn r)))
+  pointsTest = ascending 0 (map (λ (k : ℕ). pointIn r k ∷ []) (range 0 (pointsIn r)))
 
   abbrev pub rowsTest : Bool
-  rowsTest = all (λ (k : ℕ). ascending (rowsIn r k)) (range 0 (pointsIn r))
+  rowsTest = all (λ (k : ℕ). ascending 0 (rowsIn r k)) (range 0 (pointsIn r))
 
   form-is : inForm r ≡ (sizesFit r && sumTest && pointsTest && rowsTest)
   unfolding inForm sizesFit

@@ -32,8 +32,8 @@ pub record WellMade (f : ℕ) (es : List Reported) : Type 0 where
   pub few-points : length es ≤ 33
   pub few-free : f ≤ 4
   pub widths : all (rowsFit f) es ≡ true
-  pub points-ascend : ascending (map (λ (e : Reported). e .at .0 ∷ []) es) ≡ true
-  pub rows-ascend : all (λ (e : Reported). ascending (e .rows)) es ≡ true
+  pub points-ascend : ascending 0 (map (λ (e : Reported). e .at .0 ∷ []) es) ≡ true
+  pub rows-ascend : all (λ (e : Reported). ascending 0 (e .rows)) es ≡ true
 
 abbrev pub rowTotal : List Reported → ℕ
 rowTotal es = total (map (λ (e : Reported). length (e .rows)) es)
@@ -165,20 +165,20 @@ module _ (f : ℕ) (es : List Reported) (trailing : List ℕ) (w : WellMade f es
 
   points : pointsTest words ≡ true
   points =
-      ap ascending
+      ap (ascending 0)
       (map-range (λ (k : ℕ). pointIn words k ∷ []) (λ (e : Reported). e .at .0 ∷ []) nothing es 0
       (λ k l. ap (λ (n : ℕ). n ∷ []) (field k 0 (3 + 3 * (0 + k)) (omega arith) (omega arith) l)))
       ∙ w .points-ascend
 
   rows : rowsTest words ≡ true
   rows =
-      all-map (λ (k : ℕ). ascending (rowsIn words k)) (range 0 (length es))
+      all-map (λ (k : ℕ). ascending 0 (rowsIn words k)) (range 0 (length es))
       ∙ (ap (all (λ (b : Bool). b))
-      (map-range (λ (k : ℕ). ascending (rowsIn words k)) (λ (e : Reported). ascending (e .rows)) nothing es 0
+      (map-range (λ (k : ℕ). ascending 0 (rowsIn words k)) (λ (e : Reported). ascending 0 (e .rows)) nothing es 0
       (λ k l.
       let z : 0 + k ≡ k = omega arith in
-      ap ascending (ap (rowsIn words) z ∙ rows-at k l)))
-      ∙ (sym (all-map (λ (e : Reported). ascending (e .rows)) es) ∙ w .rows-ascend))
+      ap (ascending 0) (ap (rowsIn words) z ∙ rows-at k l)))
+      ∙ (sym (all-map (λ (e : Reported). ascending 0 (e .rows)) es) ∙ w .rows-ascend))
 
   formed : inForm words ≡ true
   formed = sym (rows-decide words sizes-fit sums points) ∙ rows

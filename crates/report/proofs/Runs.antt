@@ -18,20 +18,20 @@ use Rattle.report.proofs.Compare.{none-before}
 -- what is left to compare: `left` rows from word `at` on
 pub record Rising (w : List ℕ) (start stride width count at left : ℕ) : Type 0 where
   pub room : at + stride * left ≤ length w
-  pub same : ascending (rowsFrom w start stride width count) ≡ ascending (rowsFrom w at stride width left)
+  pub same : ascending 0 (rowsFrom w start stride width count) ≡ ascending 0 (rowsFrom w at stride width left)
 
 pub rising-none : (w : List ℕ) (start stride width count : ℕ) → start + stride * count ≤ length w → Rising w start stride width count start count
 rising-none w start stride width count h = record { room = h; same = refl }
 
 pair : (w : List ℕ) (stride width at left : ℕ) → 1 < left
-    → ascending (rowsFrom w at stride width left) ≡ (before (take width (drop at w)) (take width (drop (at + stride) w)) && ascending (rowsFrom w (at + stride) stride width (left - 1)))
+    → ascending 0 (rowsFrom w at stride width left) ≡ (before 0 (take width (drop at w)) (take width (drop (at + stride) w)) && ascending 0 (rowsFrom w (at + stride) stride width (left - 1)))
 pair w stride width at zero h = absurd (omega arith)
 pair w stride width at (suc zero) h = absurd (omega arith)
 pair w stride width at (suc (suc m)) h =
     let e : suc (suc m) - 1 ≡ suc m = omega arith in
     rw e
 
-single : (w : List ℕ) (stride width at left : ℕ) → left ≤ 1 → ascending (rowsFrom w at stride width left) ≡ true
+single : (w : List ℕ) (stride width at left : ℕ) → left ≤ 1 → ascending 0 (rowsFrom w at stride width left) ≡ true
 single w stride width at zero h = refl
 single w stride width at (suc zero) h = refl
 single w stride width at (suc (suc m)) h = absurd (omega arith)
@@ -50,14 +50,14 @@ two-rows stride width at left len h room l =
     omega arith
 
 module _ {w : List ℕ} {start stride width count at left : ℕ} (r : Rising w start stride width count at left) where
-  pub rising-all : left ≤ 1 → true ≡ ascending (rowsFrom w start stride width count)
+  pub rising-all : left ≤ 1 → true ≡ ascending 0 (rowsFrom w start stride width count)
   rising-all h = sym (r .same ∙ single w stride width at left h)
 
-  module _ (h : 1 < left) {b : Bool} (e : b ≡ before (take width (drop at w)) (take width (drop (at + stride) w))) where
-    opened : ascending (rowsFrom w start stride width count) ≡ (b && ascending (rowsFrom w (at + stride) stride width (left - 1)))
+  module _ (h : 1 < left) {b : Bool} (e : b ≡ before 0 (take width (drop at w)) (take width (drop (at + stride) w))) where
+    opened : ascending 0 (rowsFrom w start stride width count) ≡ (b && ascending 0 (rowsFrom w (at + stride) stride width (left - 1)))
     opened = r .same ∙ (pair w stride width at left h ∙ rw e)
 
-    pub rising-broken : b ≡ false → false ≡ ascending (rowsFrom w start stride width count)
+    pub rising-broken : b ≡ false → false ≡ ascending 0 (rowsFrom w start stride width count)
     rising-broken f = sym (opened ∙ rw f)
 
     pub rising-more : b ≡ true → Rising w start stride width count (at + stride) (left - 1)
@@ -88,9 +88,9 @@ points-from r first (suc n) h =
     rw (drop-cons r (3 + 3 * first) 0 l) (ap (λ (rows : List (List ℕ)). (pointIn r first ∷ []) ∷ rows) (points-from r (suc first) n (omega arith)))
 
 pub points-run : (r : List ℕ) (n : ℕ) → n ≡ pointsIn r → 3 + 3 * pointsIn r ≤ length r
-    → ascending (rowsFrom r 3 3 1 n) ≡ ascending (map (λ (k : ℕ). pointIn r k ∷ []) (range 0 (pointsIn r)))
-points-run r n e h = rw e (sym (ap ascending (points-from r 0 (pointsIn r) (omega arith) ∙ run-of r 3 3 1 0 (pointsIn r))))
+    → ascending 0 (rowsFrom r 3 3 1 n) ≡ ascending 0 (map (λ (k : ℕ). pointIn r k ∷ []) (range 0 (pointsIn r)))
+points-run r n e h = rw e (sym (ap (ascending 0) (points-from r 0 (pointsIn r) (omega arith) ∙ run-of r 3 3 1 0 (pointsIn r))))
 
 -- with no free variable a count above 1 is a fault of ascent, whatever the count: the first pair shows it
-pub no-words : (r : List ℕ) (k : ℕ) → freeIn r ≡ 0 → 1 < countIn r k → ascending (rowsIn r k) ≡ false
-no-words r k e h = ap ascending (rows-run r k) ∙ rw e (pair r 0 0 _ (countIn r k) h ∙ rw (none-before []))
+pub no-words : (r : List ℕ) (k : ℕ) → freeIn r ≡ 0 → 1 < countIn r k → ascending 0 (rowsIn r k) ≡ false
+no-words r k e h = ap (ascending 0) (rows-run r k) ∙ rw e (pair r 0 0 _ (countIn r k) h ∙ rw (none-before []))

@@ -51,19 +51,20 @@ fn row_of(words: &[u32], i: usize, width: usize) -> Row
     }
 }
 
-// Whether the row of `width` words at `i` stands before the row at `j`: rows are compared in one place, that of the sets of valuations.
+// Whether the row of `width` words at `i` stands before the row at `j`: column 0 ascends and the others descend. Rows are compared
+// in one place, that of the sets of valuations.
 fn row_before(words: &[u32], i: usize, j: usize, width: usize) -> bool
     requires { ⌜ (i + width ≤ length (now words)) × (j + width ≤ length (now words)) × (width ≤ 4) ⌝ }
-    ensures { λ r. ⌜ r ≡ before (take width (drop i (now (words .entry)))) (take width (drop j (now (words .entry)))) ⌝ }
+    ensures { λ r. ⌜ r ≡ before 0 (take width (drop i (now (words .entry)))) (take width (drop j (now (words .entry)))) ⌝ }
 {
-    rowset::is_before(row_of(words, i, width), row_of(words, j, width))
+    rowset::is_before(0, row_of(words, i, width), row_of(words, j, width))
 }
 
 // Whether `count` rows of `width` words, `stride` words apart, ascend. Rows of no words are refused at the first pair, so that no
 // count, however large, is counted out.
 fn run_ascends(words: &[u32], start: usize, stride: usize, width: usize, count: usize) -> bool
     requires { ⌜ (width ≤ stride) × (width ≤ 4) × (start + stride * count ≤ length (now words)) ⌝ }
-    ensures { λ r. ⌜ r ≡ ascending (rowsFrom (now (words .entry)) start stride width count) ⌝ }
+    ensures { λ r. ⌜ r ≡ ascending 0 (rowsFrom (now (words .entry)) start stride width count) ⌝ }
 {
     let mut at = start;
     let mut left = count;
@@ -133,7 +134,7 @@ fn counts_add(report: &[u32]) -> bool
 // A point is a row of one word.
 fn points_ascend(report: &[u32]) -> bool
     requires { ⌜ Sized (now report) ⌝ }
-    ensures { λ r. ⌜ r ≡ ascending (map (λ k. pointIn (now (report .entry)) k ∷ []) (range 0 (pointsIn (now (report .entry))))) ⌝ }
+    ensures { λ r. ⌜ r ≡ ascending 0 (map (λ k. pointIn (now (report .entry)) k ∷ []) (range 0 (pointsIn (now (report .entry))))) ⌝ }
 {
     let points = word(report, 0);
     run_ascends(report, 3, 3, 1, points)
@@ -142,7 +143,7 @@ fn points_ascend(report: &[u32]) -> bool
 // One pass over the entries, with the place of each entry's first row.
 fn rows_ascend(report: &[u32]) -> bool
     requires { ⌜ Summed (now report) ⌝ }
-    ensures { λ r. ⌜ r ≡ all (λ k. ascending (rowsIn (now (report .entry)) k)) (range 0 (pointsIn (now (report .entry)))) ⌝ }
+    ensures { λ r. ⌜ r ≡ all (λ k. ascending 0 (rowsIn (now (report .entry)) k)) (range 0 (pointsIn (now (report .entry)))) ⌝ }
 {
     let points = word(report, 0);
     let free = word(report, 1);

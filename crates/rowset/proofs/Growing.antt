@@ -54,117 +54,117 @@ module _ {A : Type 0} {at : ℕ → A} {gives : List A → List (List ℕ)} {to 
     ended none l = subst Put (sym (append-nil (t .done)) ∙ ap (λ us. t .done ++ us) (sym (ap gives (run-end at to i l) ∙ none)) ∙ t .parts) (t .put)
 
 -- rows put into a set: none, and one list after another
-pub added-none : {ws : List ℕ} {n : ℕ} → SetRoom ws n → Added ws n ws n []
+pub added-none : {lowest : ℕ} {ws : List ℕ} {n : ℕ} → SetRoom ws n → Added lowest ws n ws n []
 added-none h = record { most = h .most; long = refl; set = refl }
 
-pub added-then : {old : List ℕ} {n : ℕ} {mid : List ℕ} {m : ℕ} {new : List ℕ} {k : ℕ} {xs ys : List (List ℕ)} → Added old n mid m xs → Added mid m new k ys → Added old n new k (xs ++ ys)
-added-then {old} {n} {xs = xs} {ys = ys} g h =
-    record { most = h .most; long = h .long ∙ g .long; set = h .set ∙ ap (λ s. addAllCapped s ys) (g .set) ∙ sym (in-turn addAllCapped addCapped (λ s. refl) (λ s x xs. refl) (rowsFrom old 0 n) xs ys) }
+pub added-then : {lowest : ℕ} {old : List ℕ} {n : ℕ} {mid : List ℕ} {m : ℕ} {new : List ℕ} {k : ℕ} {xs ys : List (List ℕ)} → Added lowest old n mid m xs → Added lowest mid m new k ys → Added lowest old n new k (xs ++ ys)
+added-then {lowest} {old} {n} {xs = xs} {ys = ys} g h =
+    record { most = h .most; long = h .long ∙ g .long; set = h .set ∙ ap (λ s. addAllCapped lowest s ys) (g .set) ∙ sym (in-turn (addAllCapped lowest) (addCapped lowest) (λ s. refl) (λ s x xs. refl) (rowsFrom old 0 n) xs ys) }
 
 -- a loop that puts rows into a set of n, which now has k
-abbrev pub Through : {A : Type 0} → (ℕ → A) → (List A → List (List ℕ)) → ℕ → List ℕ → ℕ → List (List ℕ) → List ℕ → ℕ → ℕ → Type 0
-Through at gives to old n all new k i = Turns at gives to all (Added old n new k) i
+abbrev pub Through : ℕ → {A : Type 0} → (ℕ → A) → (List A → List (List ℕ)) → ℕ → List ℕ → ℕ → List (List ℕ) → List ℕ → ℕ → ℕ → Type 0
+Through lowest at gives to old n all new k i = Turns at gives to all (Added lowest old n new k) i
 
-module _ {A : Type 0} {at : ℕ → A} {gives : List A → List (List ℕ)} {to : ℕ} {old : List ℕ} {n : ℕ} where
-  pub begun : {i : ℕ} → i ≤ to → SetRoom old n → Through at gives to old n (gives (map at (range i (to - i)))) old n i
+module _ {A : Type 0} {lowest : ℕ} {at : ℕ → A} {gives : List A → List (List ℕ)} {to : ℕ} {old : List ℕ} {n : ℕ} where
+  pub begun : {i : ℕ} → i ≤ to → SetRoom old n → Through lowest at gives to old n (gives (map at (range i (to - i)))) old n i
   begun l h = starts l (added-none h)
 
-  pub begun-all : SetRoom old n → Through at gives to old n (gives (map at (range 0 to))) old n 0
+  pub begun-all : SetRoom old n → Through lowest at gives to old n (gives (map at (range 0 to))) old n 0
   begun-all h = starts-all (added-none h)
 
-  pub turned : {all : List (List ℕ)} {new : List ℕ} {k i : ℕ} → Through at gives to old n all new k i → (one : A → List (List ℕ)) → ((x : A) (xs : List A) → gives (x ∷ xs) ≡ one x ++ gives xs) → i < to
-      → {new' : List ℕ} {k' : ℕ} {rows : List (List ℕ)} → Added new k new' k' rows → rows ≡ one (at i) → Through at gives to old n all new' k' (i + 1)
+  pub turned : {all : List (List ℕ)} {new : List ℕ} {k i : ℕ} → Through lowest at gives to old n all new k i → (one : A → List (List ℕ)) → ((x : A) (xs : List A) → gives (x ∷ xs) ≡ one x ++ gives xs) → i < to
+      → {new' : List ℕ} {k' : ℕ} {rows : List (List ℕ)} → Added lowest new k new' k' rows → rows ≡ one (at i) → Through lowest at gives to old n all new' k' (i + 1)
   turned t one splits l h r = goes-on t one splits l (λ xs g. added-then g h) r
 
 -- the rows put in, written in another way
-pub added-as : {old : List ℕ} {n : ℕ} {new : List ℕ} {k : ℕ} {rows rows' : List (List ℕ)} → Added old n new k rows → rows ≡ rows' → Added old n new k rows'
-added-as {old} {n} h e = record { most = h .most; long = h .long; set = h .set ∙ ap (addAllCapped (rowsFrom old 0 n)) e }
+pub added-as : {lowest : ℕ} {old : List ℕ} {n : ℕ} {new : List ℕ} {k : ℕ} {rows rows' : List (List ℕ)} → Added lowest old n new k rows → rows ≡ rows' → Added lowest old n new k rows'
+added-as {lowest} {old} {n} h e = record { most = h .most; long = h .long; set = h .set ∙ ap (addAllCapped lowest (rowsFrom old 0 n)) e }
 
 -- a set with rows put in has room still
-pub room-after : {old : List ℕ} {n : ℕ} {new : List ℕ} {k : ℕ} {rows : List (List ℕ)} → SetRoom old n → Added old n new k rows → SetRoom new k
+pub room-after : {lowest : ℕ} {old : List ℕ} {n : ℕ} {new : List ℕ} {k : ℕ} {rows : List (List ℕ)} → SetRoom old n → Added lowest old n new k rows → SetRoom new k
 room-after h g = record { most = g .most; there = omega (arith, h .there, g .long) }
 
 -- a loop that gathers rows in a set, which is now this one
-abbrev pub Gathering : {A : Type 0} → (ℕ → A) → (List A → List (List ℕ)) → ℕ → List ℕ → Gathered → List (List ℕ) → List ℕ → Gathered → ℕ → Type 0
-Gathering at gives to old set all new set' i = Turns at gives to all (Gathers old set new set') i
+abbrev pub Gathering : ℕ → {A : Type 0} → (ℕ → A) → (List A → List (List ℕ)) → ℕ → List ℕ → Gathered → List (List ℕ) → List ℕ → Gathered → ℕ → Type 0
+Gathering lowest at gives to old set all new set' i = Turns at gives to all (Gathers lowest old set new set') i
 
-pub gathered-none : {ws : List ℕ} {set : Gathered} → GatherRoom ws set → Gathers ws set ws set []
+pub gathered-none : {lowest : ℕ} {ws : List ℕ} {set : Gathered} → GatherRoom lowest ws set → Gathers lowest ws set ws set []
 gathered-none h = record { added = added-none (h .room); led = h .led }
 
 -- a set of n rows, in which the first is looked for from the front
-pub gather-from : {ws : List ℕ} {n : ℕ} → SetRoom ws n → GatherRoom ws (fromFront n)
+pub gather-from : {lowest : ℕ} {ws : List ℕ} {n : ℕ} → SetRoom ws n → GatherRoom lowest ws (fromFront n)
 gather-from h = record { room = h; led = λ k l. absurd (omega arith) }
 
-pub gather-room : {old : List ℕ} {set : Gathered} {new : List ℕ} {set' : Gathered} {rows : List (List ℕ)} → mostHeld * 4 ≤ length old → Gathers old set new set' rows → GatherRoom new set'
+pub gather-room : {lowest : ℕ} {old : List ℕ} {set : Gathered} {new : List ℕ} {set' : Gathered} {rows : List (List ℕ)} → mostHeld * 4 ≤ length old → Gathers lowest old set new set' rows → GatherRoom lowest new set'
 gather-room l g = record { room = record { most = g .added .most; there = omega (arith, g .added .long) }; led = g .led }
 
-module _ {A : Type 0} {at : ℕ → A} {gives : List A → List (List ℕ)} {to : ℕ} {old : List ℕ} {set : Gathered} where
-  pub gathers-from : {i : ℕ} → i ≤ to → GatherRoom old set → Gathering at gives to old set (gives (map at (range i (to - i)))) old set i
+module _ {A : Type 0} {lowest : ℕ} {at : ℕ → A} {gives : List A → List (List ℕ)} {to : ℕ} {old : List ℕ} {set : Gathered} where
+  pub gathers-from : {i : ℕ} → i ≤ to → GatherRoom lowest old set → Gathering lowest at gives to old set (gives (map at (range i (to - i)))) old set i
   gathers-from l h = starts l (gathered-none h)
 
-  pub gathers-all : GatherRoom old set → Gathering at gives to old set (gives (map at (range 0 to))) old set 0
+  pub gathers-all : GatherRoom lowest old set → Gathering lowest at gives to old set (gives (map at (range 0 to))) old set 0
   gathers-all h = starts-all (gathered-none h)
 
-  pub gathers-on : {all : List (List ℕ)} {new : List ℕ} {set' : Gathered} {i : ℕ} → Gathering at gives to old set all new set' i → (one : A → List (List ℕ)) → ((x : A) (xs : List A) → gives (x ∷ xs) ≡ one x ++ gives xs) → i < to
-      → {new' : List ℕ} {set'' : Gathered} {rows : List (List ℕ)} → Gathers new set' new' set'' rows → rows ≡ one (at i) → Gathering at gives to old set all new' set'' (i + 1)
+  pub gathers-on : {all : List (List ℕ)} {new : List ℕ} {set' : Gathered} {i : ℕ} → Gathering lowest at gives to old set all new set' i → (one : A → List (List ℕ)) → ((x : A) (xs : List A) → gives (x ∷ xs) ≡ one x ++ gives xs) → i < to
+      → {new' : List ℕ} {set'' : Gathered} {rows : List (List ℕ)} → Gathers lowest new set' new' set'' rows → rows ≡ one (at i) → Gathering lowest at gives to old set all new' set'' (i + 1)
   gathers-on t one splits l h r = goes-on t one splits l (λ xs g. record { added = added-then (g .added) (h .added); led = h .led }) r
 
 -- rows put into a set: up to 32 rows it is the set of them all, and a count of 33 says that they are more
-module _ {old : List ℕ} {n : ℕ} {new : List ℕ} {k : ℕ} {set rows : List (List ℕ)} (s : SetMade old n set) (h : Added old n new k rows) where
-  counted : length (addAllCapped (rowsFrom old 0 n) rows) ≡ k
+module _ {lowest : ℕ} {old : List ℕ} {n : ℕ} {new : List ℕ} {k : ℕ} {set rows : List (List ℕ)} (s : SetMade old n set) (h : Added lowest old n new k rows) where
+  counted : length (addAllCapped lowest (rowsFrom old 0 n) rows) ≡ k
   counted = ap length (sym (h .set)) ∙ rows-length new 0 k
 
   -- a set that is too large stays so
   stays-full : 32 < n → k ≡ n
-  stays-full l = sym counted ∙ ap length (full-stays (rowsFrom old 0 n) rows (omega (arith, rows-length old 0 n))) ∙ rows-length old 0 n
+  stays-full l = sym counted ∙ ap length (full-stays lowest (rowsFrom old 0 n) rows (omega (arith, rows-length old 0 n))) ∙ rows-length old 0 n
 
-  few-then : n ≤ 32 → length (insertAll set rows) ≤ 32 → rowsFrom new 0 k ≡ insertAll set rows
-  few-then l m = h .set ∙ ap (λ us. addAllCapped us rows) (s .few l) ∙ exact-from set rows (omega arith)
+  few-then : n ≤ 32 → length (insertAll lowest set rows) ≤ 32 → rowsFrom new 0 k ≡ insertAll lowest set rows
+  few-then l m = h .set ∙ ap (λ us. addAllCapped lowest us rows) (s .few l) ∙ exact-from lowest set rows (omega arith)
 
-  many-then : n ≤ 32 → 32 < length (insertAll set rows) → k ≡ 33
+  many-then : n ≤ 32 → 32 < length (insertAll lowest set rows) → k ≡ 33
   many-then l m =
       let e : length set ≡ n = ap length (sym (s .few l)) ∙ rows-length old 0 n in
-      sym counted ∙ ap (λ us. length (addAllCapped us rows)) (s .few l) ∙ full-from set rows (omega arith) (omega arith)
+      sym counted ∙ ap (λ us. length (addAllCapped lowest us rows)) (s .few l) ∙ full-from lowest set rows (omega arith) (omega arith)
 
-  pub made-more : SetMade new k (insertAll set rows)
+  pub made-more : SetMade new k (insertAll lowest set rows)
   made-more =
       record {
         most = h .most;
-        few = λ l. few (tested (leb n 32)) (tested (leb (length (insertAll set rows)) 32)) l;
-        many = λ l. many (tested (leb n 32)) (tested (leb (length (insertAll set rows)) 32)) l;
+        few = λ l. few (tested (leb n 32)) (tested (leb (length (insertAll lowest set rows)) 32)) l;
+        many = λ l. many (tested (leb n 32)) (tested (leb (length (insertAll lowest set rows)) 32)) l;
       }
     where
-      few : Tested (leb n 32) → Tested (leb (length (insertAll set rows)) 32) → k ≤ 32 → rowsFrom new 0 k ≡ insertAll set rows
-      few (passed d) (passed e) l = few-then (leb-true n 32 d) (leb-true (length (insertAll set rows)) 32 e)
-      few (passed d) (failed e) l = absurd (omega (arith, many-then (leb-true n 32 d) (leb-false (length (insertAll set rows)) 32 e)))
+      few : Tested (leb n 32) → Tested (leb (length (insertAll lowest set rows)) 32) → k ≤ 32 → rowsFrom new 0 k ≡ insertAll lowest set rows
+      few (passed d) (passed e) l = few-then (leb-true n 32 d) (leb-true (length (insertAll lowest set rows)) 32 e)
+      few (passed d) (failed e) l = absurd (omega (arith, many-then (leb-true n 32 d) (leb-false (length (insertAll lowest set rows)) 32 e)))
       few (failed d) e l = absurd (omega (arith, leb-false n 32 d, stays-full (leb-false n 32 d)))
 
-      many : Tested (leb n 32) → Tested (leb (length (insertAll set rows)) 32) → 32 < k → 32 < length (insertAll set rows)
-      many d (failed e) l = leb-false (length (insertAll set rows)) 32 e
+      many : Tested (leb n 32) → Tested (leb (length (insertAll lowest set rows)) 32) → 32 < k → 32 < length (insertAll lowest set rows)
+      many d (failed e) l = leb-false (length (insertAll lowest set rows)) 32 e
       many (passed d) (passed e) l =
-          let m = leb-true (length (insertAll set rows)) 32 e in
+          let m = leb-true (length (insertAll lowest set rows)) 32 e in
           absurd (omega (arith, rows-length new 0 k, ap length (few-then (leb-true n 32 d) m)))
-      many (failed d) (passed e) l = absurd (omega (arith, s .many (leb-false n 32 d), insertAll-longer set rows, leb-true (length (insertAll set rows)) 32 e))
+      many (failed d) (passed e) l = absurd (omega (arith, s .many (leb-false n 32 d), insertAll-longer lowest set rows, leb-true (length (insertAll lowest set rows)) 32 e))
 
 none-made : (ws : List ℕ) → SetMade ws 0 []
 none-made ws = record { most = omega arith; few = λ l. rows-none ws; many = λ l. absurd (omega arith) }
 
 -- rows put into nothing
-pub set-made : {old new : List ℕ} {k : ℕ} {rows : List (List ℕ)} → Added old 0 new k rows → SetMade new k (setOf rows)
+pub set-made : {lowest : ℕ} {old new : List ℕ} {k : ℕ} {rows : List (List ℕ)} → Added lowest old 0 new k rows → SetMade new k (setOf lowest rows)
 set-made {old} h = made-more (none-made old) h
 
 -- rows put in in another order
-pub made-same : {old : List ℕ} {n : ℕ} {new : List ℕ} {k : ℕ} {set order : List (List ℕ)} (rows : List (List ℕ)) → ascending set ≡ true → OfLength 4 order → ((u : List ℕ) → List·Memᴰ u order ↔ List·Memᴰ u rows) → SetMade old n set → Added old n new k order
-    → SetMade new k (insertAll set rows)
-made-same {old} {n} {new} {k} {set} {order} rows up wide same s h = go (tested (leb n 32))
+pub made-same : {lowest : ℕ} {old : List ℕ} {n : ℕ} {new : List ℕ} {k : ℕ} {set order : List (List ℕ)} (rows : List (List ℕ)) → ascending lowest set ≡ true → OfLength 4 order → ((u : List ℕ) → List·Memᴰ u order ↔ List·Memᴰ u rows) → SetMade old n set → Added lowest old n new k order
+    → SetMade new k (insertAll lowest set rows)
+made-same {lowest} {old} {n} {new} {k} {set} {order} rows up wide same s h = go (tested (leb n 32))
   where
-    go : Tested (leb n 32) → SetMade new k (insertAll set rows)
+    go : Tested (leb n 32) → SetMade new k (insertAll lowest set rows)
     go (passed d) =
         let long : OfLength 4 set = subst (OfLength 4) (s .few (leb-true n 32 d)) (rows-of-length old 0 n) in
-        subst (SetMade new k) (insertAll-same 4 set order rows up long wide same) (made-more s h)
+        subst (SetMade new k) (insertAll-same lowest 4 set order rows up long wide same) (made-more s h)
     go (failed d) =
         let l = leb-false n 32 d in
-        record { most = h .most; few = λ m. absurd (omega (arith, stays-full s h l)); many = λ m. omega (arith, s .many l, insertAll-longer set rows) }
+        record { most = h .most; few = λ m. absurd (omega (arith, stays-full s h l)); many = λ m. omega (arith, s .many l, insertAll-longer lowest set rows) }
 
 -- what one item gives where some are chosen
 module _ {A : Type 0} (p : A → Bool) where

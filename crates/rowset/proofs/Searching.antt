@@ -49,15 +49,15 @@ told-after true same d = absurd (true≢false (ap isBefore d))
 told-after false true d = absurd (true≢false (ap isSame d))
 told-after false false d = (refl, refl)
 
-module _ (x y : List ℕ) where
-  pub by-before : compared x y ≡ Before → before x y ≡ true
-  by-before e = told-before (before x y) (sameRow x y) e
+module _ (lowest : ℕ) (x y : List ℕ) where
+  pub by-before : compared lowest x y ≡ Before → before lowest x y ≡ true
+  by-before e = told-before (before lowest x y) (sameRow x y) e
 
-  pub by-same : compared x y ≡ Same → (before x y ≡ false) × (sameRow x y ≡ true)
-  by-same e = told-same (before x y) (sameRow x y) e
+  pub by-same : compared lowest x y ≡ Same → (before lowest x y ≡ false) × (sameRow x y ≡ true)
+  by-same e = told-same (before lowest x y) (sameRow x y) e
 
-  pub by-after : compared x y ≡ After → (before x y ≡ false) × (sameRow x y ≡ false)
-  by-after e = told-after (before x y) (sameRow x y) e
+  pub by-after : compared lowest x y ≡ After → (before lowest x y ≡ false) × (sameRow x y ≡ false)
+  by-after e = told-after (before lowest x y) (sameRow x y) e
 
 -- a run up to item q, the item, and the rest
 run-around : (at : ℕ → List ℕ) (from to q : ℕ) → from ≤ q → q < to → map at (range from (to - from)) ≡ map at (range from (q - from)) ++ at q ∷ map at (range (q + 1) (to - (q + 1)))
@@ -67,107 +67,111 @@ run-around at from to q l m =
     (rw (y, z) at (run-append at from (q - from) (to - q))) ∙ ap (λ us. map at (range from (q - from)) ++ us) (run-first at to q m)
 
 pub answered-alike : AnsweredAlike
-answered-alike at at' x from to to' q l m m' same larger =
-    ap (lookUp x) (run-around at from to q l m)
-    ∙ looks-up .alike x (map at (range from (q - from))) (at q) (map at (range (q + 1) (to - (q + 1)))) (map at' (range (q + 1) (to' - (q + 1)))) larger
-    ∙ ap (lookUp x)
+answered-alike lowest at at' x from to to' q l m m' same larger =
+    ap (lookUp lowest x) (run-around at from to q l m)
+    ∙ looks-up .alike lowest x (map at (range from (q - from))) (at q) (map at (range (q + 1) (to - (q + 1)))) (map at' (range (q + 1) (to' - (q + 1)))) larger
+    ∙ ap (lookUp lowest x)
     (sym
     (run-around at' from to' q l m'
     ∙ ap₂ (λ us u. us ++ u ∷ map at' (range (q + 1) (to' - (q + 1)))) (run-same at' at from (q - from) (λ k a b. sym (same k a (omega arith)))) (sym (same q l (omega arith)))))
 
-module _ (at : ℕ → List ℕ) (x : List ℕ) (long : (k : ℕ) → length (at k) ≡ length x) where
+module _ (lowest : ℕ) (at : ℕ → List ℕ) (x : List ℕ) (long : (k : ℕ) → length (at k) ≡ length x) where
   -- a search at item i of those up to to
   module _ (to i : ℕ) where
-    pub seek-on : i < to → compared (at i) x ≡ Before → onward i (lookUp x (map at (range i (to - i)))) ≡ onward (i + 1) (lookUp x (map at (range (i + 1) (to - (i + 1)))))
+    pub seek-on : i < to → compared lowest (at i) x ≡ Before → onward i (lookUp lowest x (map at (range i (to - i)))) ≡ onward (i + 1) (lookUp lowest x (map at (range (i + 1) (to - (i + 1)))))
     seek-on l e =
-        ap (λ us. onward i (lookUp x us)) (run-first at to i l)
-        ∙ ap (onward i) (look-on x (at i) (map at (range (i + 1) (to - (i + 1)))) (by-before (at i) x e))
-        ∙ onward-twice i 1 (lookUp x (map at (range (i + 1) (to - (i + 1)))))
+        ap (λ us. onward i (lookUp lowest x us)) (run-first at to i l)
+        ∙ ap (onward i) (look-on lowest x (at i) (map at (range (i + 1) (to - (i + 1)))) (by-before lowest (at i) x e))
+        ∙ onward-twice i 1 (lookUp lowest x (map at (range (i + 1) (to - (i + 1)))))
 
-    pub seek-there : i < to → compared (at i) x ≡ Same → onward i (lookUp x (map at (range i (to - i)))) ≡ There i
+    pub seek-there : i < to → compared lowest (at i) x ≡ Same → onward i (lookUp lowest x (map at (range i (to - i)))) ≡ There i
     seek-there l e =
         let z : i + 0 ≡ i = omega arith in
-        ap (λ us. onward i (lookUp x us)) (run-first at to i l)
-        ∙ ap (onward i) (look-there x (at i) (map at (range (i + 1) (to - (i + 1)))) (by-same (at i) x e .1))
+        ap (λ us. onward i (lookUp lowest x us)) (run-first at to i l)
+        ∙ ap (onward i) (look-there lowest x (at i) (map at (range (i + 1) (to - (i + 1)))) (by-same lowest (at i) x e .1))
         ∙ ap There z
 
-    larger : compared (at i) x ≡ After → before x (at i) ≡ true
-    larger e = go (tested (before x (at i)))
+    larger : compared lowest (at i) x ≡ After → before lowest x (at i) ≡ true
+    larger e = go (tested (before lowest x (at i)))
       where
-        go : Tested (before x (at i)) → before x (at i) ≡ true
+        go : Tested (before lowest x (at i)) → before lowest x (at i) ≡ true
         go (passed p) = p
-        go (failed p) = absurd (true≢false (sym (total (at i) x (long i) (by-after (at i) x e .0) p) ∙ by-after (at i) x e .1))
+        go (failed p) = absurd (true≢false (sym (total lowest (at i) x (long i) (by-after lowest (at i) x e .0) p) ∙ by-after lowest (at i) x e .1))
 
-    pub seek-absent : i < to → compared (at i) x ≡ After → onward i (lookUp x (map at (range i (to - i)))) ≡ Absent i
+    pub seek-absent : i < to → compared lowest (at i) x ≡ After → onward i (lookUp lowest x (map at (range i (to - i)))) ≡ Absent i
     seek-absent l e =
         let z : i + 0 ≡ i = omega arith in
-        ap (λ us. onward i (lookUp x us)) (run-first at to i l)
-        ∙ ap (onward i) (look-absent x (at i) (map at (range (i + 1) (to - (i + 1)))) (larger e))
+        ap (λ us. onward i (lookUp lowest x us)) (run-first at to i l)
+        ∙ ap (onward i) (look-absent lowest x (at i) (map at (range (i + 1) (to - (i + 1)))) (larger e))
         ∙ ap Absent z
 
-    pub seek-end : to ≤ i → onward i (lookUp x (map at (range i (to - i)))) ≡ Absent i
+    pub seek-end : to ≤ i → onward i (lookUp lowest x (map at (range i (to - i)))) ≡ Absent i
     seek-end l =
         let z : i + 0 ≡ i = omega arith in
-        ap (λ us. onward i (lookUp x us)) (run-end at to i l) ∙ ap Absent z
+        ap (λ us. onward i (lookUp lowest x us)) (run-end at to i l) ∙ ap Absent z
 
   -- where a search may begin, by the item p that those before it lead up to
-  module _ (p : ℕ) (led : Led at p) where
-    pub start-behind : compared (at p) x ≡ Before → AllBefore at (p + 1) x
+  module _ (p : ℕ) (led : Led lowest at p) where
+    pub start-behind : compared lowest (at p) x ≡ Before → AllBefore lowest at (p + 1) x
     start-behind e k l = go (eq-or-lt-of-le (omega arith))
       where
-        go : (k ≡ p) ⊎ (k < p) → before (at k) x ≡ true
-        go (inl q) = rw q (by-before (at p) x e)
-        go (inr v) = before-transitive (at k) (at p) x (led k v) (by-before (at p) x e)
+        go : (k ≡ p) ⊎ (k < p) → before lowest (at k) x ≡ true
+        go (inl q) = rw q (by-before lowest (at p) x e)
+        go (inr v) = before-transitive lowest (at k) (at p) x (led k v) (by-before lowest (at p) x e)
 
-    pub start-there : compared (at p) x ≡ Same → AllBefore at p x
-    start-there e k l = sym (ap (before (at k)) (same-row (at p) x .0 (by-same (at p) x e .1))) ∙ led k l
+    start-there : compared lowest (at p) x ≡ Same → AllBefore lowest at p x
+    start-there e k l = sym (ap (before lowest (at k)) (same-row (at p) x .0 (by-same lowest (at p) x e .1))) ∙ led k l
 
   -- a search that begins there answers as one from the front
-  pub from-start : (n s : ℕ) → s ≤ n → AllBefore at s x → onward s (lookUp x (map at (range s (n - s)))) ≡ lookUp x (map at (range 0 n))
+  pub from-start : (n s : ℕ) → s ≤ n → AllBefore lowest at s x → onward s (lookUp lowest x (map at (range s (n - s)))) ≡ lookUp lowest x (map at (range 0 n))
   from-start n s l h =
       let front : List (List ℕ) = map at (range 0 s) in
       let rest : List (List ℕ) = map at (range s (n - s)) in
       sym
-      (ap (lookUp x) (run-split at n s l)
-      ∙ looks-up .behind x front rest (λ k m. passed-by k (omega (arith, run-length at 0 s)))
-      ∙ ap (λ j. onward j (lookUp x rest)) (run-length at 0 s))
+      (ap (lookUp lowest x) (run-split at n s l)
+      ∙ looks-up .behind lowest x front rest (λ k m. passed-by k (omega (arith, run-length at 0 s)))
+      ∙ ap (λ j. onward j (lookUp lowest x rest)) (run-length at 0 s))
     where
-      passed-by : (k : ℕ) → k < s → (before x (getD (map at (range 0 s)) k []) ≡ false) × (sameRow x (getD (map at (range 0 s)) k []) ≡ false)
+      passed-by : (k : ℕ) → k < s → (before lowest x (getD (map at (range 0 s)) k []) ≡ false) × (sameRow x (getD (map at (range 0 s)) k []) ≡ false)
       passed-by k m =
           let z : 0 + k ≡ k = omega arith in
-          rw (run-at at [] 0 s k m, z) (asymmetric (at k) x (h k m), after-other x (at k) (h k m))
+          rw (run-at at [] 0 s k m, z) (asymmetric lowest (at k) x (h k m), after-other lowest x (at k) (h k m))
+
+  -- and where it begins at the item itself, it is there
+  pub start-found : (n p : ℕ) → p < n → Led lowest at p → compared lowest (at p) x ≡ Same → lookUp lowest x (map at (range 0 n)) ≡ There p
+  start-found n p l led e = sym (from-start n p (omega arith) (start-there p led e)) ∙ seek-there n p l e
 
   -- what the answer says of the first n items
   module _ (n p : ℕ) where
-    all-passed : p ≤ n → Passes x (map at (range 0 n)) p → AllBefore at p x
-    all-passed l h k m = go (tested (before (at k) x)) (rw (run-at at [] 0 n k (omega arith), zero-add) at (h k m))
+    all-passed : p ≤ n → Passes lowest x (map at (range 0 n)) p → AllBefore lowest at p x
+    all-passed l h k m = go (tested (before lowest (at k) x)) (rw (run-at at [] 0 n k (omega arith), zero-add) at (h k m))
       where
-        go : Tested (before (at k) x) → (before x (at k) ≡ false) × (sameRow x (at k) ≡ false) → before (at k) x ≡ true
+        go : Tested (before lowest (at k) x) → (before lowest x (at k) ≡ false) × (sameRow x (at k) ≡ false) → before lowest (at k) x ≡ true
         go (passed b) f = b
-        go (failed b) f = absurd (true≢false (sym (total x (at k) (sym (long k)) (f .0) b) ∙ f .1))
+        go (failed b) f = absurd (true≢false (sym (total lowest x (at k) (sym (long k)) (f .0) b) ∙ f .1))
 
-    module _ (e : lookUp x (map at (range 0 n)) ≡ There p) where
+    module _ (e : lookUp lowest x (map at (range 0 n)) ≡ There p) where
       there-within : p < n
-      there-within = omega (arith, looks-up .there x (map at (range 0 n)) p e .0, run-length at 0 n)
+      there-within = omega (arith, looks-up .there lowest x (map at (range 0 n)) p e .0, run-length at 0 n)
 
-      pub there-led : Led at p
+      pub there-led : Led lowest at p
       there-led k l =
           let z : 0 + p ≡ p = omega arith in
-          let q : at p ≡ x = sym (ap at z) ∙ sym (run-at at [] 0 n p there-within) ∙ looks-up .there x (map at (range 0 n)) p e .1 in
-          ap (before (at k)) q ∙ all-passed (omega (arith, there-within)) (looks-up .there x (map at (range 0 n)) p e .2) k l
+          let q : at p ≡ x = sym (ap at z) ∙ sym (run-at at [] 0 n p there-within) ∙ looks-up .there lowest x (map at (range 0 n)) p e .1 in
+          ap (before lowest (at k)) q ∙ all-passed (omega (arith, there-within)) (looks-up .there lowest x (map at (range 0 n)) p e .2) k l
 
-    module _ (e : lookUp x (map at (range 0 n)) ≡ Absent p) where
+    module _ (e : lookUp lowest x (map at (range 0 n)) ≡ Absent p) where
       pub absent-within : p ≤ n
-      absent-within = omega (arith, looks-up .absent x (map at (range 0 n)) p e .0, run-length at 0 n)
+      absent-within = omega (arith, looks-up .absent lowest x (map at (range 0 n)) p e .0, run-length at 0 n)
 
-      pub absent-goes : insert x (map at (range 0 n)) ≡ map at (range 0 p) ++ x ∷ map at (range p (n - p))
+      pub absent-goes : insert lowest x (map at (range 0 n)) ≡ map at (range 0 p) ++ x ∷ map at (range p (n - p))
       absent-goes =
-          insert-absent x (map at (range 0 n)) p (run-of-length at (length x) long 0 n) e
+          insert-absent lowest x (map at (range 0 n)) p (run-of-length at (length x) long 0 n) e
           ∙ ap₂ (λ us vs. us ++ x ∷ vs) (run-take at n p absent-within) (run-drop at n p absent-within)
 
       -- and once it is put in there
-      pub put-led : (at' : ℕ → List ℕ) → map at' (range 0 (n + 1)) ≡ map at (range 0 p) ++ x ∷ map at (range p (n - p)) → Led at' p
-      put-led at' h k l = ap₂ before (below k l) here ∙ all-passed absent-within (looks-up .absent x (map at (range 0 n)) p e .2) k l
+      pub put-led : (at' : ℕ → List ℕ) → map at' (range 0 (n + 1)) ≡ map at (range 0 p) ++ x ∷ map at (range p (n - p)) → Led lowest at' p
+      put-led at' h k l = ap₂ (before lowest) (below k l) here ∙ all-passed absent-within (looks-up .absent lowest x (map at (range 0 n)) p e .2) k l
         where
           item : (j : ℕ) → j < n + 1 → at' j ≡ getD (map at (range 0 p) ++ x ∷ map at (range p (n - p))) j []
           item j m =

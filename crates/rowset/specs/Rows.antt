@@ -31,16 +31,16 @@ rowsFrom ws from count = map (rowAt ws) (range from count)
 abbrev pub comparedBy : Bool → Bool → Compared
 comparedBy less same = cond less Before (cond same Same After)
 
-abbrev pub compared : List ℕ → List ℕ → Compared
-compared x y = comparedBy (before x y) (sameRow x y)
+abbrev pub compared : ℕ → List ℕ → List ℕ → Compared
+compared lowest x y = comparedBy (before lowest x y) (sameRow x y)
 
 -- rows at most that a set takes: one more than a node may have, so that too many shows
 abbrev pub mostHeld : ℕ
 mostHeld = mostRows + 1
 
-abbrev pub addCapped : List (List ℕ) → List ℕ → List (List ℕ)
-addCapped set r = cond (ltb (length set) mostHeld) (insert r set) set
+abbrev pub addCapped : ℕ → List (List ℕ) → List ℕ → List (List ℕ)
+addCapped lowest set r = cond (ltb (length set) mostHeld) (insert lowest r set) set
 
-abbrev pub addAllCapped : List (List ℕ) → List (List ℕ) → List (List ℕ)
-addAllCapped set [] = set
-addAllCapped set (r ∷ rows) = addAllCapped (addCapped set r) rows
+abbrev pub addAllCapped : ℕ → List (List ℕ) → List (List ℕ) → List (List ℕ)
+addAllCapped lowest set [] = set
+addAllCapped lowest set (r ∷ rows) = addAllCapped lowest (addCapped lowest set r) rows

@@ -10,7 +10,7 @@ ghost use lib.Dec.{ltb, eqb};
 ghost use Rattle.meaning.specs.Order.{before};
 ghost use Rattle.meaning.specs.LookUp.{onward, lookUp, isThere};
 ghost use Rattle.rowset.specs.Rows.{wordsOf, rowAt, setRow, rowsFrom, comparedBy, compared};
-ghost use Rattle.rowset.specs.Sets.{Run, AllBefore, Led, GatherRoom, Gathers};
+ghost use Rattle.rowset.specs.Sets.{Run, Led, Begins, GatherRoom, Gathers};
 
 // Rows at most that a set takes: one more than a node may have, so that too many shows.
 const MOST_HELD: usize = MOST_ROWS as usize + 1;
@@ -66,27 +66,40 @@ fn compare_words(a: u32, b: u32) -> Compared
     Compared::After
 }
 
-// The order of rows: by the first word in which they differ.
-pub fn compare(x: Row, y: Row) -> Compared
-    ensures { λ t. ⌜ t ≡ compared (wordsOf x) (wordsOf y) ⌝ }
+// Word k of two rows: it descends behind that of the lowest free variable, else it ascends.
+fn compare_at(lowest: u32, k: u32, a: u32, b: u32) -> Compared
+    ensures { λ t. ⌜ t ≡ cond (ltb lowest k) (comparedBy (ltb b a) (eqb b a)) (comparedBy (ltb a b) (eqb a b)) ⌝ }
+{
+    if lowest < k {
+        return compare_words(b, a);
+    }
+    compare_words(a, b)
+}
+
+// The order of rows of a node with this lowest free variable: the first word in which they differ decides.
+pub fn compare(lowest: u32, x: Row, y: Row) -> Compared
+    ensures { λ t. ⌜ t ≡ compared lowest (wordsOf x) (wordsOf y) ⌝ }
 {
     if x.v0 != y.v0 {
-        return compare_words(x.v0, y.v0);
+        return compare_at(lowest, 0, x.v0, y.v0);
     }
     if x.v1 != y.v1 {
-        return compare_words(x.v1, y.v1);
+        return compare_at(lowest, 1, x.v1, y.v1);
     }
     if x.v2 != y.v2 {
-        return compare_words(x.v2, y.v2);
+        return compare_at(lowest, 2, x.v2, y.v2);
     }
-    compare_words(x.v3, y.v3)
+    if x.v3 != y.v3 {
+        return compare_at(lowest, 3, x.v3, y.v3);
+    }
+    Compared::Same
 }
 
 // The first row stands before the second.
-pub fn is_before(x: Row, y: Row) -> bool
-    ensures { λ t. ⌜ t ≡ before (wordsOf x) (wordsOf y) ⌝ }
+pub fn is_before(lowest: u32, x: Row, y: Row) -> bool
+    ensures { λ t. ⌜ t ≡ before lowest (wordsOf x) (wordsOf y) ⌝ }
 {
-    let told = compare(x, y);
+    let told = compare(lowest, x, y);
     match told {
         Compared::Before => true,
         Compared::Same => false,
@@ -95,13 +108,13 @@ pub fn is_before(x: Row, y: Row) -> bool
 }
 
 // Looks for the row in a run, from its front, one row after another: it stops at the first that isn't before it, which is equal or larger.
-fn seek(ws: &[u32], from: usize, to: usize, r: Row) -> Sought
+fn seek(lowest: u32, ws: &[u32], from: usize, to: usize, r: Row) -> Sought
     requires { ⌜ Run (now ws) from to ⌝ }
-    ensures { λ s. ⌜ s ≡ onward from (lookUp (wordsOf r) (rowsFrom (now (ws .entry)) from (to - from))) ⌝ }
+    ensures { λ s. ⌜ s ≡ onward from (lookUp lowest (wordsOf r) (rowsFrom (now (ws .entry)) from (to - from))) ⌝ }
 {
     let mut i = from;
     while i < to {
-        let told = compare(row_at(ws, i), r);
+        let told = compare(lowest, row_at(ws, i), r);
         match told {
             Compared::Before => {
                 i += 1;
@@ -118,40 +131,43 @@ fn seek(ws: &[u32], from: usize, to: usize, r: Row) -> Sought
 }
 
 // The row is in the run.
-pub fn contains(ws: &[u32], from: usize, to: usize, r: Row) -> bool
+pub fn contains(lowest: u32, ws: &[u32], from: usize, to: usize, r: Row) -> bool
     requires { ⌜ Run (now ws) from to ⌝ }
-    ensures { λ t. ⌜ t ≡ isThere (lookUp (wordsOf r) (rowsFrom (now (ws .entry)) from (to - from))) ⌝ }
+    ensures { λ t. ⌜ t ≡ isThere (lookUp lowest (wordsOf r) (rowsFrom (now (ws .entry)) from (to - from))) ⌝ }
 {
-    let sought = seek(ws, from, to, r);
+    let sought = seek(lowest, ws, from, to, r);
     match sought {
         Sought::There(_) => true,
         Sought::Absent(_) => false,
     }
 }
 
-// Where a search for r among the first n rows may begin, if those before row p all stand before it: behind row p where that is before r, at it where it is r, else at the front.
-fn start_at(ws: &[u32], n: usize, p: usize, r: Row) -> usize
-    requires { ⌜ (n * 4 ≤ length (now ws)) × Led (rowAt (now ws)) p ⌝ }
-    ensures { λ s. ⌜ (s ≤ n) × AllBefore (rowAt (now (ws .entry))) s (wordsOf r) ⌝ }
+// Where a search for r among the first n rows may begin, if those before row p all stand before it: behind row p where that is before r, else at the front; or it is there.
+fn start_at(lowest: u32, ws: &[u32], n: usize, p: usize, r: Row) -> Sought
+    requires { ⌜ (n * 4 ≤ length (now ws)) × Led lowest (rowAt (now ws)) p ⌝ }
+    ensures { λ s. ⌜ Begins lowest (rowAt (now (ws .entry))) n (wordsOf r) s ⌝ }
 {
     if n <= p {
-        return 0;
+        return Sought::Absent(0);
     }
-    let told = compare(row_at(ws, p), r);
+    let told = compare(lowest, row_at(ws, p), r);
     match told {
-        Compared::Before => p + 1,
-        Compared::Same => p,
-        Compared::After => 0,
+        Compared::Before => Sought::Absent(p + 1),
+        Compared::Same => Sought::There(p),
+        Compared::After => Sought::Absent(0),
     }
 }
 
 // Looks for the row among the first n rows. The answer is that from the front, whatever stands behind row p.
-fn seek_near(ws: &[u32], n: usize, p: usize, r: Row) -> Sought
-    requires { ⌜ (n * 4 ≤ length (now ws)) × Led (rowAt (now ws)) p ⌝ }
-    ensures { λ s. ⌜ s ≡ lookUp (wordsOf r) (rowsFrom (now (ws .entry)) 0 n) ⌝ }
+fn seek_near(lowest: u32, ws: &[u32], n: usize, p: usize, r: Row) -> Sought
+    requires { ⌜ (n * 4 ≤ length (now ws)) × Led lowest (rowAt (now ws)) p ⌝ }
+    ensures { λ s. ⌜ s ≡ lookUp lowest (wordsOf r) (rowsFrom (now (ws .entry)) 0 n) ⌝ }
 {
-    let start = start_at(ws, n, p, r);
-    seek(ws, start, n, r)
+    let start = start_at(lowest, ws, n, p, r);
+    match start {
+        Sought::There(q) => Sought::There(q),
+        Sought::Absent(q) => seek(lowest, ws, q, n, r),
+    }
 }
 
 // Puts r at row p, with the rows from there to row n moved up by one.
@@ -177,15 +193,15 @@ pub struct Gathered {
 }
 
 // Puts a row into a set, unless it is there or the set is full.
-pub fn add(out: &mut [u32], set: Gathered, r: Row) -> Gathered
-    requires { ⌜ GatherRoom (now out) set ⌝ }
-    ensures { λ g. ⌜ Gathers (now (out .entry)) set (now (out .exit)) g (wordsOf r ∷ []) ⌝ }
+pub fn add(lowest: u32, out: &mut [u32], set: Gathered, r: Row) -> Gathered
+    requires { ⌜ GatherRoom lowest (now out) set ⌝ }
+    ensures { λ g. ⌜ Gathers lowest (now (out .entry)) set (now (out .exit)) g (wordsOf r ∷ []) ⌝ }
 {
     let n = set.count;
     if MOST_HELD <= n {
         return set;
     }
-    let sought = seek_near(out, n, set.near, r);
+    let sought = seek_near(lowest, out, n, set.near, r);
     match sought {
         Sought::There(p) => Gathered { count: n, near: p },
         Sought::Absent(p) => {
@@ -199,26 +215,33 @@ pub fn add(out: &mut [u32], set: Gathered, r: Row) -> Gathered
 }
 
 // Puts a row into a set where the test passed.
-pub fn add_if(ok: bool, out: &mut [u32], set: Gathered, r: Row) -> Gathered
-    requires { ⌜ GatherRoom (now out) set ⌝ }
-    ensures { λ g. ⌜ Gathers (now (out .entry)) set (now (out .exit)) g (cond ok (wordsOf r ∷ []) []) ⌝ }
+pub fn add_if(ok: bool, lowest: u32, out: &mut [u32], set: Gathered, r: Row) -> Gathered
+    requires { ⌜ GatherRoom lowest (now out) set ⌝ }
+    ensures { λ g. ⌜ Gathers lowest (now (out .entry)) set (now (out .exit)) g (cond ok (wordsOf r ∷ []) []) ⌝ }
 {
     if ok {
-        return add(out, set, r);
+        return add(lowest, out, set, r);
     }
     set
 }
 
 // Puts the rows from..to into a set.
-pub fn add_rows(rows: &[u32], from: usize, to: usize, out: &mut [u32], set: Gathered) -> Gathered
+pub fn add_rows(
+    lowest: u32,
+    rows: &[u32],
+    from: usize,
+    to: usize,
+    out: &mut [u32],
+    set: Gathered,
+) -> Gathered
     requires { ⌜ Run (now rows) from to ⌝ }
-    requires { ⌜ GatherRoom (now out) set ⌝ }
-    ensures { λ g. ⌜ Gathers (now (out .entry)) set (now (out .exit)) g (rowsFrom (now (rows .entry)) from (to - from)) ⌝ }
+    requires { ⌜ GatherRoom lowest (now out) set ⌝ }
+    ensures { λ g. ⌜ Gathers lowest (now (out .entry)) set (now (out .exit)) g (rowsFrom (now (rows .entry)) from (to - from)) ⌝ }
 {
     let mut g = set;
     let mut i = from;
     while i < to {
-        g = add(out, g, row_at(rows, i));
+        g = add(lowest, out, g, row_at(rows, i));
         i += 1;
     }
     g

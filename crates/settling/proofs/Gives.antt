@@ -1,5 +1,5 @@
 -- What a node gives at a point over the words of its children's sets, kind by kind; that any Inputs that say what stands there gives the same; and what the count of rows says of it.
-use Prim.Native.Nat.{ℕ, _≤_, _<_, min}
+use Prim.Native.Nat.{ℕ, suc, _≤_, _<_, min}
 use native.Mathlib.Omega.{arith}
 use mathlib.Core.Path.{_≡_, refl, sym, ap, ap₂, subst, fun-ext, _∙_}
 use mathlib.Core.Bool.{true, false, not, cond, _&&_}
@@ -52,21 +52,23 @@ module _ {v : Inputs} {rows at : List ℕ} {y : ℕ} {c : Child} (s : ChildInput
   seen-set : (j : Point) → c .low .0 ≤ j .0 → j .0 < c .count → childSet rows at c j ≡ v .rows y j
   seen-set j l o = sym (s .sets j l o)
 
-  seen-found : (j : Point) → c .low .0 ≤ j .0 → j .0 < c .count → (u : List ℕ) → isThere (lookUp (cutTo (inMask (c .mask)) (valuationOf u)) (childSet rows at c j)) ≡ found v y u j
-  seen-found j l o u = ap₂ (λ r set. isThere (lookUp r set)) (cut-same (inMask (c .mask)) (v .free y) seen-free (valuationOf u)) (seen-set j l o)
+  seen-found : (j : Point) → c .low .0 ≤ j .0 → j .0 < c .count → (u : List ℕ) → isThere (lookUp (c .lowest) (cutTo (inMask (c .mask)) (valuationOf u)) (childSet rows at c j)) ≡ found v y u j
+  seen-found j l o u =
+      ap₂ (λ r set. isThere (lookUp (c .lowest) r set)) (cut-same (inMask (c .mask)) (v .free y) seen-free (valuationOf u)) (seen-set j l o)
+      ∙ ap (λ k. isThere (lookUp k (cutTo (v .free y) (valuationOf u)) (v .rows y j))) (sym (s .lowest))
 
-module _ (b w rows at times : List ℕ) (base : Point) (oldAges oldValues : List ℕ) (left right : Child) (start i : Point) where
+module _ (b w rows at times : List ℕ) (base : Point) (oldAges oldValues : List ℕ) (left right : Child) (lowest : ℕ) (start i : Point) where
   abbrev sinceIn : Left → Child → Window → List (List ℕ)
   sinceIn l d t = rowsIn l rows at times base t left d (heldIn oldAges oldValues) start i
 
   abbrev untilIn : Left → Child → Window → List (List ℕ)
-  untilIn l d t = untilRows (stampIn base times) (min (left .count) (d .count)) t (leftTest l (left .mask) (childSet rows at left)) (childSet rows at d) i
+  untilIn l d t = untilRows (stampIn base times) (min (left .count) (d .count)) t (leftTest l left (childSet rows at left)) (childSet rows at d) i
 
   -- the rows that node's kind gives
   abbrev pub given : Node → List (List ℕ)
   given (Atom r t) = atomRows (termsOf t) (relationIn r (map (rowOf b w) (range 0 (rowCount w))))
   given (And x y) = andRows (inMask (left .mask)) (inMask (right .mask)) (childSet rows at left i) (childSet rows at right i)
-  given (AndNot x y) = select (λ u. not (isThere (lookUp (cutTo (inMask (right .mask)) (valuationOf u)) (childSet rows at right i)))) (childSet rows at left i)
+  given (AndNot x y) = select (λ u. not (isThere (lookUp (right .lowest) (cutTo (inMask (right .mask)) (valuationOf u)) (childSet rows at right i)))) (childSet rows at left i)
   given (Keep x c s) = select (λ u. compares c (value (valuationOf u) (s .first)) (value (valuationOf u) (s .second))) (childSet rows at left i)
   given (Or x y) = childSet rows at left i ++ childSet rows at right i
   given (Exists x z) = map (λ u. cutTo (λ y. not (eqb y z)) (valuationOf u)) (childSet rows at left i)
@@ -83,7 +85,7 @@ module _ (b w rows at times : List ℕ) (base : Point) (oldAges oldValues : List
     -- since and until over a test of left, by what the Inputs says of the children c and d
     module _ (l : Left) {c d : Child} {x y : ℕ} (t : Window) where
       module _ (h : ChildThere rows at start i Past c) (k : ChildThere rows at start i Past d) (p : ChildInputs v rows at x c) (q : ChildInputs v rows at y d) where
-        since-test : (j : Point) → start .0 ≤ j .0 → j .0 ≤ i .0 → (u : List ℕ) → leftTest l (c .mask) (childSet rows at c) u j ≡ passes l (found v x u j)
+        since-test : (j : Point) → start .0 ≤ j .0 → j .0 ≤ i .0 → (u : List ℕ) → leftTest l c (childSet rows at c) u j ≡ passes l (found v x u j)
         since-test j m o u = ap (passes l) (seen-found p j (omega (arith, h .sets .low-most)) (omega (arith, h .settled)) u)
 
         since-right : (j : Point) → start .0 ≤ j .0 → j .0 ≤ i .0 → childSet rows at d j ≡ v .rows y j
@@ -91,25 +93,25 @@ module _ (b w rows at times : List ℕ) (base : Point) (oldAges oldValues : List
 
         since-rows : rowsIn l rows at times base t c d (heldIn oldAges oldValues) start i ≡ rowsSince (stampIn base times) t (λ u k. passes l (found v x u k)) (v .rows y) (heldIn oldAges oldValues) start i
         since-rows =
-            rows-same (stampIn base times) t (leftTest l (c .mask) (childSet rows at c)) (λ u k. passes l (found v x u k)) (childSet rows at d) (v .rows y) (heldIn oldAges oldValues) start i since-test since-right
+            rows-same (stampIn base times) t (leftTest l c (childSet rows at c)) (λ u k. passes l (found v x u k)) (childSet rows at d) (v .rows y) (heldIn oldAges oldValues) start i since-test since-right
 
         since-pairs : pairsIn l rows at times base t c d (heldIn oldAges oldValues) start i ≡ pairsSince (stampIn base times) t (λ u k. passes l (found v x u k)) (v .rows y) (heldIn oldAges oldValues) start i
         since-pairs =
-            pairs-same (stampIn base times) t (leftTest l (c .mask) (childSet rows at c)) (λ u k. passes l (found v x u k)) (childSet rows at d) (v .rows y) (heldIn oldAges oldValues) start i since-test since-right
+            pairs-same (stampIn base times) t (leftTest l c (childSet rows at c)) (λ u k. passes l (found v x u k)) (childSet rows at d) (v .rows y) (heldIn oldAges oldValues) start i since-test since-right
 
         -- the pairs of since put in
-        since-put : v .stamps ≡ stampIn base times → {ages values ages' values' : List ℕ} {k : ℕ} → PairsPut ages values ages' values' k (setOf (pairsIn l rows at times base t c d (heldIn oldAges oldValues) start i))
-            → PairsPut ages values ages' values' k (setOf (pairsSince (v .stamps) t (λ u k. passes l (found v x u k)) (v .rows y) (heldIn oldAges oldValues) start i))
+        since-put : v .stamps ≡ stampIn base times → {ages values ages' values' : List ℕ} {k : ℕ} → PairsPut ages values ages' values' k (setOf (suc lowest) (pairsIn l rows at times base t c d (heldIn oldAges oldValues) start i))
+            → PairsPut ages values ages' values' k (setOf (suc lowest) (pairsSince (v .stamps) t (λ u k. passes l (found v x u k)) (v .rows y) (heldIn oldAges oldValues) start i))
         since-put e put = rw e (rw since-pairs at put)
 
       until-rows : ChildThere rows at start i Future c → ChildThere rows at start i Future d → ChildInputs v rows at x c → ChildInputs v rows at y d
-          → untilRows (stampIn base times) (min (c .count) (d .count)) t (leftTest l (c .mask) (childSet rows at c)) (childSet rows at d) i ≡ untilRows (stampIn base times) (min (c .count) (d .count)) t (λ u k. passes l (found v x u k)) (v .rows y) i
+          → untilRows (stampIn base times) (min (c .count) (d .count)) t (leftTest l c (childSet rows at c)) (childSet rows at d) i ≡ untilRows (stampIn base times) (min (c .count) (d .count)) t (λ u k. passes l (found v x u k)) (v .rows y) i
       until-rows h k p q =
-          until-same (stampIn base times) (min (c .count) (d .count)) t (leftTest l (c .mask) (childSet rows at c)) (λ u k. passes l (found v x u k)) (childSet rows at d) (v .rows y) i
+          until-same (stampIn base times) (min (c .count) (d .count)) t (leftTest l c (childSet rows at c)) (λ u k. passes l (found v x u k)) (childSet rows at d) (v .rows y) i
           (λ j m o u. ap (passes l) (seen-found p j (omega (arith, h .sets .low-most)) (omega arith) u)) (λ j m o. seen-set q j (omega (arith, k .sets .low-most)) (omega arith))
 
     -- a Inputs that say what stands gives the same
-    given-same : (node : Node) → asked b w rows at oldAges oldValues left right start i node → InputsStand v b w rows at times base left right node → given node ≡ candidates v (heldIn oldAges oldValues) start i node
+    given-same : (node : Node) → asked b w rows at oldAges oldValues left right lowest start i node → InputsStand v b w rows at times base left right node → given node ≡ candidates v (heldIn oldAges oldValues) start i node
     given-same (Atom r t) d s = ap (atomRows (termsOf t)) (sym (s .event r))
     given-same (And x y) d s =
         let (p, q) = s .children in
@@ -150,10 +152,10 @@ module _ (b w rows at times : List ℕ) (base : Point) (oldAges oldValues : List
         rw (s .stamps, s .children .counted) (rw e at (until-rows Always t (d .children) (d .children) (s .children) (s .children)))
 
   -- the node's valuations, where the set of what its kind gives was made
-  pub point-settled : {node kind : Node} {out : List ℕ} {k : ℕ} → node ≡ kind → asked b w rows at oldAges oldValues left right start i kind → SetMade out k (setOf (given kind))
-      → PointSettled b w rows at times base oldAges oldValues left right start i node out k
+  pub point-settled : {node kind : Node} {out : List ℕ} {k : ℕ} → node ≡ kind → asked b w rows at oldAges oldValues left right lowest start i kind → SetMade out k (setOf lowest (given kind))
+      → PointSettled b w rows at times base oldAges oldValues left right lowest start i node out k
   unfolding settle
-  point-settled {kind = kind} {out = out} {k = k} e d h = rw e (record { gives = λ v s. subst (λ us. SetMade out k (setOf us)) (given-same v kind d s) h })
+  point-settled {kind = kind} {out = out} {k = k} e d h = rw e (record { gives = λ v s. subst (λ us. SetMade out k (setOf lowest us)) (given-same v kind d s) h })
 
   -- the sets of left and right of a since, and what Inputs say of them
   module _ (node : Node) (past : viewOf node .times ≡ Past) where
@@ -168,7 +170,7 @@ module _ (b w rows at times : List ℕ) (base : Point) (oldAges oldValues : List
         go (single a c) = cons≢nil (sym (ap childrenIn c) ∙ ap childrenIn e)
         go (double a c f t) = cons≢nil (sym (ap childrenIn f) ∙ ap childrenIn e)
 
-    pub past-there : asked b w rows at oldAges oldValues left right start i node → ChildThere rows at start i Past left × ChildThere rows at start i Past (rightIn cs left right)
+    pub past-there : asked b w rows at oldAges oldValues left right lowest start i node → ChildThere rows at start i Past left × ChildThere rows at start i Past (rightIn cs left right)
     past-there d = go cs has-child (rw past at (d .children))
       where
         go : (c : Children) → (c ≡ None → ⊥) → ChildrenThere rows at start i Past left right c → ChildThere rows at start i Past left × ChildThere rows at start i Past (rightIn c left right)
@@ -185,15 +187,15 @@ module _ (b w rows at times : List ℕ) (base : Point) (oldAges oldValues : List
         go (Two x y) n h = h
 
     -- its pairs, where they were put in
-    pub past-settled : asked b w rows at oldAges oldValues left right start i node → {ages values ages' values' : List ℕ} {k : ℕ}
-        → PairsPut ages values ages' values' k (setOf (pairsIn (viewOf node .left) rows at times base (viewOf node .window) left (rightIn cs left right) (heldIn oldAges oldValues) start i))
-        → PairsSettled rows at times base oldAges oldValues left right start i node ages values ages' values' k
+    pub past-settled : asked b w rows at oldAges oldValues left right lowest start i node → {ages values ages' values' : List ℕ} {k : ℕ}
+        → PairsPut ages values ages' values' k (setOf (suc lowest) (pairsIn (viewOf node .left) rows at times base (viewOf node .window) left (rightIn cs left right) (heldIn oldAges oldValues) start i))
+        → PairsSettled rows at times base oldAges oldValues left right lowest start i node ages values ages' values' k
     past-settled d put =
         let (h, k) = past-there d in
         record { gives = λ v b w s. let (p, q) = past-seen v (s .children) in rw past (since-put v (viewOf node .left) (viewOf node .window) h k p q (s .stamps) put) }
 
   -- a node that is no since has no pairs
-  pub no-pairs : (node : Node) {t : Times} → viewOf node .times ≡ t → hasPairs t ≡ false → {ages values : List ℕ} → PairsSettled rows at times base oldAges oldValues left right start i node ages values ages values 0
+  pub no-pairs : (node : Node) {t : Times} → viewOf node .times ≡ t → hasPairs t ≡ false → {ages values : List ℕ} → PairsSettled rows at times base oldAges oldValues left right lowest start i node ages values ages values 0
   no-pairs node e f = record { gives = λ v b w s. rw (e, f) none-put }
 
 -- the sets of until's children as far as both have settled

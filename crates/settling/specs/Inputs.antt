@@ -1,5 +1,5 @@
 -- What a node's evaluation at a newly settled point reads, as it stands in slices, what must stand there for the node, and what it gives.
-use Prim.Native.Nat.{ℕ, _+_, _≤_, _<_}
+use Prim.Native.Nat.{ℕ, suc, _+_, _≤_, _<_}
 use mathlib.Core.Path.{_≡_}
 use mathlib.Core.Bool.{true}
 use mathlib.Core.List.{List, [], _∷_, map}
@@ -7,6 +7,7 @@ use lib.ListN.{length}
 use Rattle.meaning.specs.Lists.{range}
 use Rattle.meaning.specs.Log.{relationIn, point, pointBefore}
 use Rattle.meaning.specs.Order.{ascending}
+use Rattle.meaning.specs.Formula.{lowestOf}
 use Rattle.meaning.specs.Event.{rowCount, rowOf}
 use Rattle.meaning.specs.View.{viewOf}
 use Rattle.meaning.specs.RuleFile.{arity, childrenOf}
@@ -31,6 +32,7 @@ use Rattle.since.specs.Since.{heldIn, PairsPut}
 -- Inputs say of node y what stands in the words of a child's sets
 pub record ChildInputs (v : Inputs) (rows at : List ℕ) (y : ℕ) (c : Child) : Type 0 where
   pub free : (x : ℕ) → x < 4 → v .free y x ≡ inMask (c .mask) x
+  pub lowest : lowestOf (v .free y) ≡ c .lowest
   pub counted : v .count y ≡ c .count
   pub sets : (j : Point) → c .low .0 ≤ j .0 → j .0 < c .count → v .rows y j ≡ setAt rows at (c .first) (c .low) j
 
@@ -66,12 +68,12 @@ module _ (rows at : List ℕ) (start i : Point) where
   ChildrenThere t left right (One x) = ChildThere t left
   ChildrenThere t left right (Two x y) = ChildThere t left × ChildThere t right
 
--- what must stand for a node at point i; its pairs before point start are held in the old words, and ascend strictly
-pub record asked (b w rows at oldAges oldValues : List ℕ) (left right : Child) (start i : Point) (node : Node) : Type 0 where
+-- what must stand for a node with this lowest free variable at point i; its pairs before point start are held in the old words, and ascend strictly
+pub record asked (b w rows at oldAges oldValues : List ℕ) (left right : Child) (lowest : ℕ) (start i : Point) (node : Node) : Type 0 where
   pub event : EventThere w
   pub terms : (r : ℕ) (t : Terms) → node ≡ Atom r t → arity b r ≡ t .count
   pub pairs : PairsThere oldAges oldValues (length oldAges)
-  pub ascends : ascending (heldIn oldAges oldValues) ≡ true
+  pub ascends : ascending (suc lowest) (heldIn oldAges oldValues) ≡ true
   pub children : ChildrenThere rows at start i (viewOf node .times) left right (viewOf node .children)
 
 -- the sets of right of since and until: those of the one child where there is one
@@ -81,9 +83,9 @@ rightIn (One x) left right = left
 rightIn (Two x y) left right = right
 
 -- the node's valuations at point i, for any Inputs that say what stands in the words
-pub record PointSettled (b w rows at times : List ℕ) (base : Point) (oldAges oldValues : List ℕ) (left right : Child) (start i : Point) (node : Node) (out : List ℕ) (k : ℕ) : Type 0 where
-  pub gives : (v : Inputs) → InputsStand v b w rows at times base left right node → SetMade out k (settle v (heldIn oldAges oldValues) start i node)
+pub record PointSettled (b w rows at times : List ℕ) (base : Point) (oldAges oldValues : List ℕ) (left right : Child) (lowest : ℕ) (start i : Point) (node : Node) (out : List ℕ) (k : ℕ) : Type 0 where
+  pub gives : (v : Inputs) → InputsStand v b w rows at times base left right node → SetMade out k (settle v lowest (heldIn oldAges oldValues) start i node)
 
 -- its pairs there, put into the words
-pub record PairsSettled (rows at times : List ℕ) (base : Point) (oldAges oldValues : List ℕ) (left right : Child) (start i : Point) (node : Node) (ages values ages' values' : List ℕ) (k : ℕ) : Type 0 where
-  pub gives : (v : Inputs) (b w : List ℕ) → InputsStand v b w rows at times base left right node → PairsPut ages values ages' values' k (pairsAfter v (heldIn oldAges oldValues) start i (viewOf node))
+pub record PairsSettled (rows at times : List ℕ) (base : Point) (oldAges oldValues : List ℕ) (left right : Child) (lowest : ℕ) (start i : Point) (node : Node) (ages values ages' values' : List ℕ) (k : ℕ) : Type 0 where
+  pub gives : (v : Inputs) (b w : List ℕ) → InputsStand v b w rows at times base left right node → PairsPut ages values ages' values' k (pairsAfter v lowest (heldIn oldAges oldValues) start i (viewOf node))

@@ -28,53 +28,108 @@ ghost use Rattle.settling.specs.Children.{childSet, SetStands};
 ghost use Rattle.settling.specs.Inputs.{asked, rightIn, PointSettled, PairsSettled};
 
 // Puts in a child's set at point j.
-fn copy_at(c: Child, rows: &[u32], at: &[u32], j: Point, out: &mut [u32], n: usize) -> usize
+fn copy_at(
+    lowest: u32,
+    c: Child,
+    rows: &[u32],
+    at: &[u32],
+    j: Point,
+    out: &mut [u32],
+    n: usize,
+) -> usize
     requires { ⌜ SetStands (now rows) (now at) c j ⌝ }
     requires { ⌜ SetRoom (now out) n ⌝ }
-    ensures { λ k. ⌜ Added (now (out .entry)) n (now (out .exit)) k (childSet (now (rows .entry)) (now (at .entry)) c j) ⌝ }
+    ensures { λ k. ⌜ Added lowest (now (out .entry)) n (now (out .exit)) k (childSet (now (rows .entry)) (now (at .entry)) c j) ⌝ }
 {
     let p = untils::set_part(at, c.first, c.low, j);
-    kinds::copy(rows, p.from, p.to, out, n)
+    kinds::copy(lowest, rows, p.from, p.to, out, n)
 }
 
 // The same where the test passed, into an empty set.
-fn copy_if(ok: bool, c: Child, rows: &[u32], at: &[u32], j: Point, out: &mut [u32]) -> usize
+fn copy_if(
+    ok: bool,
+    lowest: u32,
+    c: Child,
+    rows: &[u32],
+    at: &[u32],
+    j: Point,
+    out: &mut [u32],
+) -> usize
     requires { ⌜ SetStands (now rows) (now at) c j ⌝ }
     requires { ⌜ SetRoom (now out) 0 ⌝ }
-    ensures { λ k. ⌜ Added (now (out .entry)) 0 (now (out .exit)) k (cond ok (childSet (now (rows .entry)) (now (at .entry)) c j) []) ⌝ }
+    ensures { λ k. ⌜ Added lowest (now (out .entry)) 0 (now (out .exit)) k (cond ok (childSet (now (rows .entry)) (now (at .entry)) c j) []) ⌝ }
 {
     if ok {
-        return copy_at(c, rows, at, j, out, 0);
+        return copy_at(lowest, c, rows, at, j, out, 0);
     }
     0
 }
 
 // "and" at point i.
-fn and_at(a: Child, b: Child, rows: &[u32], at: &[u32], i: Point, out: &mut [u32]) -> usize
+fn and_at(
+    lowest: u32,
+    a: Child,
+    b: Child,
+    rows: &[u32],
+    at: &[u32],
+    i: Point,
+    out: &mut [u32],
+) -> usize
     requires { ⌜ SetStands (now rows) (now at) a i ⌝ }
     requires { ⌜ SetStands (now rows) (now at) b i ⌝ }
     requires { ⌜ SetRoom (now out) 0 ⌝ }
-    ensures { λ k. ⌜ Added (now (out .entry)) 0 (now (out .exit)) k (andRows (inMask (a .mask)) (inMask (b .mask)) (childSet (now (rows .entry)) (now (at .entry)) a i) (childSet (now (rows .entry)) (now (at .entry)) b i)) ⌝ }
+    ensures { λ k. ⌜ Added lowest (now (out .entry)) 0 (now (out .exit)) k (andRows (inMask (a .mask)) (inMask (b .mask)) (childSet (now (rows .entry)) (now (at .entry)) a i) (childSet (now (rows .entry)) (now (at .entry)) b i)) ⌝ }
 {
     let p = untils::set_part(at, a.first, a.low, i);
     let q = untils::set_part(at, b.first, b.low, i);
-    kinds::and(a.mask, b.mask, rows, p.from, p.to, q.from, q.to, out, 0)
+    kinds::and(
+        lowest,
+        a.mask,
+        b.mask,
+        rows,
+        p.from,
+        p.to,
+        q.from,
+        q.to,
+        out,
+        0,
+    )
 }
 
 // "and not" at point i.
-fn and_not_at(a: Child, b: Child, rows: &[u32], at: &[u32], i: Point, out: &mut [u32]) -> usize
+fn and_not_at(
+    lowest: u32,
+    a: Child,
+    b: Child,
+    rows: &[u32],
+    at: &[u32],
+    i: Point,
+    out: &mut [u32],
+) -> usize
     requires { ⌜ SetStands (now rows) (now at) a i ⌝ }
     requires { ⌜ SetStands (now rows) (now at) b i ⌝ }
     requires { ⌜ SetRoom (now out) 0 ⌝ }
-    ensures { λ k. ⌜ Added (now (out .entry)) 0 (now (out .exit)) k (select (λ u. not (isThere (lookUp (cutTo (inMask (b .mask)) (valuationOf u)) (childSet (now (rows .entry)) (now (at .entry)) b i)))) (childSet (now (rows .entry)) (now (at .entry)) a i)) ⌝ }
+    ensures { λ k. ⌜ Added lowest (now (out .entry)) 0 (now (out .exit)) k (select (λ u. not (isThere (lookUp (b .lowest) (cutTo (inMask (b .mask)) (valuationOf u)) (childSet (now (rows .entry)) (now (at .entry)) b i)))) (childSet (now (rows .entry)) (now (at .entry)) a i)) ⌝ }
 {
     let p = untils::set_part(at, a.first, a.low, i);
     let q = untils::set_part(at, b.first, b.low, i);
-    kinds::and_not(b.mask, rows, p.from, p.to, q.from, q.to, out, 0)
+    kinds::and_not(
+        lowest,
+        b.mask,
+        b.lowest,
+        rows,
+        p.from,
+        p.to,
+        q.from,
+        q.to,
+        out,
+        0,
+    )
 }
 
 // "keep" at point i.
 fn keep_at(
+    lowest: u32,
     a: Child,
     c: Comparison,
     s: Sides,
@@ -85,37 +140,54 @@ fn keep_at(
 ) -> usize
     requires { ⌜ SetStands (now rows) (now at) a i ⌝ }
     requires { ⌜ SetRoom (now out) 0 ⌝ }
-    ensures { λ k. ⌜ Added (now (out .entry)) 0 (now (out .exit)) k (select (λ u. compares c (value (valuationOf u) (s .first)) (value (valuationOf u) (s .second))) (childSet (now (rows .entry)) (now (at .entry)) a i)) ⌝ }
+    ensures { λ k. ⌜ Added lowest (now (out .entry)) 0 (now (out .exit)) k (select (λ u. compares c (value (valuationOf u) (s .first)) (value (valuationOf u) (s .second))) (childSet (now (rows .entry)) (now (at .entry)) a i)) ⌝ }
 {
     let p = untils::set_part(at, a.first, a.low, i);
     let first = s.first;
     let second = s.second;
-    kinds::keep(c, first, second, rows, p.from, p.to, out, 0)
+    kinds::keep(lowest, c, first, second, rows, p.from, p.to, out, 0)
 }
 
 // "or" at point i.
-fn or_at(a: Child, b: Child, rows: &[u32], at: &[u32], i: Point, out: &mut [u32]) -> usize
+fn or_at(
+    lowest: u32,
+    a: Child,
+    b: Child,
+    rows: &[u32],
+    at: &[u32],
+    i: Point,
+    out: &mut [u32],
+) -> usize
     requires { ⌜ SetStands (now rows) (now at) a i ⌝ }
     requires { ⌜ SetStands (now rows) (now at) b i ⌝ }
     requires { ⌜ SetRoom (now out) 0 ⌝ }
-    ensures { λ k. ⌜ Added (now (out .entry)) 0 (now (out .exit)) k (childSet (now (rows .entry)) (now (at .entry)) a i ++ childSet (now (rows .entry)) (now (at .entry)) b i) ⌝ }
+    ensures { λ k. ⌜ Added lowest (now (out .entry)) 0 (now (out .exit)) k (childSet (now (rows .entry)) (now (at .entry)) a i ++ childSet (now (rows .entry)) (now (at .entry)) b i) ⌝ }
 {
-    let k = copy_at(a, rows, at, i, out, 0);
-    copy_at(b, rows, at, i, out, k)
+    let k = copy_at(lowest, a, rows, at, i, out, 0);
+    copy_at(lowest, b, rows, at, i, out, k)
 }
 
 // "exists" at point i.
-fn exists_at(a: Child, x: u32, rows: &[u32], at: &[u32], i: Point, out: &mut [u32]) -> usize
+fn exists_at(
+    lowest: u32,
+    a: Child,
+    x: u32,
+    rows: &[u32],
+    at: &[u32],
+    i: Point,
+    out: &mut [u32],
+) -> usize
     requires { ⌜ SetStands (now rows) (now at) a i ⌝ }
     requires { ⌜ SetRoom (now out) 0 ⌝ }
-    ensures { λ k. ⌜ Added (now (out .entry)) 0 (now (out .exit)) k (map (λ u. cutTo (λ y. not (eqb y x)) (valuationOf u)) (childSet (now (rows .entry)) (now (at .entry)) a i)) ⌝ }
+    ensures { λ k. ⌜ Added lowest (now (out .entry)) 0 (now (out .exit)) k (map (λ u. cutTo (λ y. not (eqb y x)) (valuationOf u)) (childSet (now (rows .entry)) (now (at .entry)) a i)) ⌝ }
 {
     let p = untils::set_part(at, a.first, a.low, i);
-    kinds::exists(x, rows, p.from, p.to, out, 0)
+    kinds::exists(lowest, x, rows, p.from, p.to, out, 0)
 }
 
 // "previous" at point i: nothing at the first point.
 fn previous_at(
+    lowest: u32,
     a: Child,
     rows: &[u32],
     at: &[u32],
@@ -127,20 +199,21 @@ fn previous_at(
 ) -> usize
     requires { ⌜ (0 < i .0 → SetStands (now rows) (now at) a (pointBefore i)) ⌝ }
     requires { ⌜ SetRoom (now out) 0 ⌝ }
-    ensures { λ k. ⌜ Added (now (out .entry)) 0 (now (out .exit)) k (cond (ltb 0 (i .0) && inWindow w (elapsed (stampIn base (now (times .entry)) (pointBefore i)) (stampIn base (now (times .entry)) i))) (childSet (now (rows .entry)) (now (at .entry)) a (pointBefore i)) []) ⌝ }
+    ensures { λ k. ⌜ Added lowest (now (out .entry)) 0 (now (out .exit)) k (cond (ltb 0 (i .0) && inWindow w (elapsed (stampIn base (now (times .entry)) (pointBefore i)) (stampIn base (now (times .entry)) i))) (childSet (now (rows .entry)) (now (at .entry)) a (pointBefore i)) []) ⌝ }
 {
     if 0 < i.0 {
         let j = Point(i.0 - 1);
         let then = progress::time_in(times, base, j);
         let here = progress::time_in(times, base, i);
         let ok = untils::due(w, then, here);
-        return copy_if(ok, a, rows, at, j, out);
+        return copy_if(ok, lowest, a, rows, at, j, out);
     }
     0
 }
 
 // "next" at point i, where the child has settled the point after.
 fn next_at(
+    lowest: u32,
     a: Child,
     rows: &[u32],
     at: &[u32],
@@ -152,17 +225,18 @@ fn next_at(
 ) -> usize
     requires { ⌜ (i .0 + 1 < a .count) × SetStands (now rows) (now at) a (point (i .0 + 1)) ⌝ }
     requires { ⌜ SetRoom (now out) 0 ⌝ }
-    ensures { λ k. ⌜ Added (now (out .entry)) 0 (now (out .exit)) k (cond (inWindow w (elapsed (stampIn base (now (times .entry)) i) (stampIn base (now (times .entry)) (pointAfter i)))) (childSet (now (rows .entry)) (now (at .entry)) a (pointAfter i)) []) ⌝ }
+    ensures { λ k. ⌜ Added lowest (now (out .entry)) 0 (now (out .exit)) k (cond (inWindow w (elapsed (stampIn base (now (times .entry)) i) (stampIn base (now (times .entry)) (pointAfter i)))) (childSet (now (rows .entry)) (now (at .entry)) a (pointAfter i)) []) ⌝ }
 {
     let j = Point(i.0 + 1);
     let here = progress::time_in(times, base, i);
     let then = progress::time_in(times, base, j);
     let ok = untils::due(w, here, then);
-    copy_if(ok, a, rows, at, j, out)
+    copy_if(ok, lowest, a, rows, at, j, out)
 }
 
 // The until kinds of two children at point i, over the points that both have settled. Left is a and right is b.
 fn until_at(
+    lowest: u32,
     left: Left,
     a: Child,
     b: Child,
@@ -177,31 +251,16 @@ fn until_at(
     requires { ⌜ Stand (now rows) (now at) (a .first) (a .low) i (min (a .count) (b .count)) ⌝ }
     requires { ⌜ Stand (now rows) (now at) (b .first) (b .low) i (min (a .count) (b .count)) ⌝ }
     requires { ⌜ SetRoom (now out) 0 ⌝ }
-    ensures { λ k. ⌜ Added (now (out .entry)) 0 (now (out .exit)) k (untilRows (stampIn base (now (times .entry))) (min (a .count) (b .count)) w (leftTest left (a .mask) (childSet (now (rows .entry)) (now (at .entry)) a)) (childSet (now (rows .entry)) (now (at .entry)) b) i) ⌝ }
+    ensures { λ k. ⌜ Added lowest (now (out .entry)) 0 (now (out .exit)) k (untilRows (stampIn base (now (times .entry))) (min (a .count) (b .count)) w (leftTest left a (childSet (now (rows .entry)) (now (at .entry)) a)) (childSet (now (rows .entry)) (now (at .entry)) b) i) ⌝ }
 {
     let m = progress::lower(a.count, b.count);
-    untils::until(
-        left,
-        a.mask,
-        rows,
-        at,
-        a.first,
-        a.low,
-        b.first,
-        b.low,
-        times,
-        base,
-        w,
-        i,
-        m,
-        out,
-        0,
-    )
+    untils::until(lowest, left, a, b, rows, at, times, base, w, i, m, out, 0)
 }
 
 // The valuations of a node at point i, put into out; 33 where they are more than 32. The first newly settled point is start, and the node's pairs before it are held in the old slices. The rule is there for the contract, which reads the event by its arities. Where the node has one child it is left.
 pub fn settle_point(
     node: Node,
+    lowest: u32,
     rule: &[u8],
     rows: &[u32],
     at: &[u32],
@@ -216,20 +275,21 @@ pub fn settle_point(
     i: Point,
     out: &mut [u32],
 ) -> usize
-    requires { ⌜ asked (now rule) (now event) (now rows) (now at) (now «old_ages») (now «old_values») left right start i node ⌝ }
+    requires { ⌜ asked (now rule) (now event) (now rows) (now at) (now «old_ages») (now «old_values») left right lowest start i node ⌝ }
     requires { ⌜ SetRoom (now out) 0 ⌝ }
-    ensures { λ k. ⌜ PointSettled (now (rule .entry)) (now (event .entry)) (now (rows .entry)) (now (at .entry)) (now (times .entry)) base (now («old_ages» .entry)) (now («old_values» .entry)) left right start i node (now (out .exit)) k ⌝ }
+    ensures { λ k. ⌜ PointSettled (now (rule .entry)) (now (event .entry)) (now (rows .entry)) (now (at .entry)) (now (times .entry)) base (now («old_ages» .entry)) (now («old_values» .entry)) left right lowest start i node (now (out .exit)) k ⌝ }
 {
     match node {
-        Node::Atom(r, ts) => kinds::atom(r as u32, ts, event, out, 0),
-        Node::And(_, _) => and_at(left, right, rows, at, i, out),
-        Node::AndNot(_, _) => and_not_at(left, right, rows, at, i, out),
-        Node::Keep(_, c, s) => keep_at(left, c, s, rows, at, i, out),
-        Node::Or(_, _) => or_at(left, right, rows, at, i, out),
-        Node::Exists(_, x) => exists_at(left, x, rows, at, i, out),
-        Node::Previous(_, w) => previous_at(left, rows, at, times, base, w, i, out),
-        Node::Next(_, w) => next_at(left, rows, at, times, base, w, i, out),
+        Node::Atom(r, ts) => kinds::atom(lowest, r as u32, ts, event, out, 0),
+        Node::And(_, _) => and_at(lowest, left, right, rows, at, i, out),
+        Node::AndNot(_, _) => and_not_at(lowest, left, right, rows, at, i, out),
+        Node::Keep(_, c, s) => keep_at(lowest, left, c, s, rows, at, i, out),
+        Node::Or(_, _) => or_at(lowest, left, right, rows, at, i, out),
+        Node::Exists(_, x) => exists_at(lowest, left, x, rows, at, i, out),
+        Node::Previous(_, w) => previous_at(lowest, left, rows, at, times, base, w, i, out),
+        Node::Next(_, w) => next_at(lowest, left, rows, at, times, base, w, i, out),
         Node::Since(_, _, w) => since::rows_at(
+            lowest,
             Left::Holds,
             left,
             right,
@@ -245,6 +305,7 @@ pub fn settle_point(
             out,
         ),
         Node::NotSince(_, _, w) => since::rows_at(
+            lowest,
             Left::Denied,
             left,
             right,
@@ -260,12 +321,37 @@ pub fn settle_point(
             out,
         ),
         Node::Until(_, _, w) => {
-            until_at(Left::Holds, left, right, rows, at, times, base, w, i, out)
+            until_at(
+                lowest,
+                Left::Holds,
+                left,
+                right,
+                rows,
+                at,
+                times,
+                base,
+                w,
+                i,
+                out,
+            )
         }
         Node::NotUntil(_, _, w) => {
-            until_at(Left::Denied, left, right, rows, at, times, base, w, i, out)
+            until_at(
+                lowest,
+                Left::Denied,
+                left,
+                right,
+                rows,
+                at,
+                times,
+                base,
+                w,
+                i,
+                out,
+            )
         }
         Node::Once(_, w) => since::rows_at(
+            lowest,
             Left::Always,
             left,
             left,
@@ -281,6 +367,7 @@ pub fn settle_point(
             out,
         ),
         Node::Eventually(_, w) => untils::eventually(
+            lowest,
             rows,
             at,
             left.first,
@@ -310,6 +397,7 @@ fn right_of(children: Children, left: Child, right: Child) -> Child
 // The node's pairs at point i, put to the front of ages and values, as many as the ages have room for; one more than that where there are more. Only since has any. The rule and the event are there for the contract.
 pub fn settle_pairs(
     node: Node,
+    lowest: u32,
     rule: &[u8],
     rows: &[u32],
     at: &[u32],
@@ -325,9 +413,9 @@ pub fn settle_pairs(
     ages: &mut [u32],
     values: &mut [u32],
 ) -> usize
-    requires { ⌜ asked (now rule) (now event) (now rows) (now at) (now «old_ages») (now «old_values») left right start i node ⌝ }
+    requires { ⌜ asked (now rule) (now event) (now rows) (now at) (now «old_ages») (now «old_values») left right lowest start i node ⌝ }
     requires { ⌜ PairsThere (now ages) (now values) (length (now ages)) ⌝ }
-    ensures { λ k. ⌜ PairsSettled (now (rows .entry)) (now (at .entry)) (now (times .entry)) base (now («old_ages» .entry)) (now («old_values» .entry)) left right start i node (now (ages .entry)) (now (values .entry)) (now (ages .exit)) (now (values .exit)) k ⌝ }
+    ensures { λ k. ⌜ PairsSettled (now (rows .entry)) (now (at .entry)) (now (times .entry)) base (now («old_ages» .entry)) (now («old_values» .entry)) left right lowest start i node (now (ages .entry)) (now (values .entry)) (now (ages .exit)) (now (values .exit)) k ⌝ }
 {
     let view = rulenodes::view_of(node);
     let children = view.children;
@@ -338,6 +426,7 @@ pub fn settle_pairs(
         Times::Before => 0,
         Times::After => 0,
         Times::Past => since::pairs_at(
+            lowest,
             ask,
             left,
             right_of(children, left, right),

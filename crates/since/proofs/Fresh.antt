@@ -15,6 +15,7 @@ use Rattle.meaning.specs.declared.Stamp.{Stamp}
 use Rattle.meaning.specs.declared.Window.{Window}
 use Rattle.method.specs.Settle.{backFrom}
 use Rattle.meaning.specs.declared.Left.{Left}
+use Rattle.room.specs.declared.Child.{Child}
 use Rattle.untils.specs.Until.{leftTest, leads}
 use Rattle.untils.proofs.Passing.{gather-one}
 use Rattle.since.specs.Parts.{freshRows, freshPairs}
@@ -31,17 +32,17 @@ fresh-points start i =
     let f : i .0 - 0 ≡ i .0 = omega arith in
     sym (ap (λ k. backFrom (point k) (suc (i .0) - start .0)) (sym f) ∙ back-run (i .0) 0 (suc (i .0) - start .0) ∙ ap (λ n. map (λ y. point (i .0 - y)) (range 0 n)) (sym e))
 
-module _ (left : Left) (mask : ℕ) (sets right : Point → List (List ℕ)) where
+module _ (left : Left) (a : Child) (sets right : Point → List (List ℕ)) where
   -- right's rows at point j for which left passes at every point after j and before end
   abbrev pub lastingTo : Point → Point → List (List ℕ)
-  lastingTo end j = select (leads left mask sets (point (j .0 + 1)) end) (right j)
+  lastingTo end j = select (leads left a sets (point (j .0 + 1)) end) (right j)
 
-  lasting-is : (i : Point) → lastingTo (point (i .0 + 1)) ≡ lasting (leftTest left mask sets) right i
+  lasting-is : (i : Point) → lastingTo (point (i .0 + 1)) ≡ lasting (leftTest left a sets) right i
   lasting-is i =
       fun-ext
       (λ j.
       let e : i .0 + 1 - (j .0 + 1) ≡ i .0 - j .0 = omega arith in
-      ap₂ (λ from count. select (λ u. all (leftTest left mask sets u) (pointsFrom (point from) count)) (right j)) (add-one (j .0)) e)
+      ap₂ (λ from count. select (λ u. all (leftTest left a sets u) (pointsFrom (point from) count)) (right j)) (add-one (j .0)) e)
 
   module _ (τ : Point → Stamp) (w : Window) (here : Stamp) (end : Point) where
     -- the rows of some points, and of one
@@ -69,12 +70,12 @@ module _ (left : Left) (mask : ℕ) (sets right : Point → List (List ℕ)) whe
 
   -- over all points from start on, they are what the definitions say
   module _ (τ : Point → Stamp) (w : Window) (start i : Point) {here : Stamp} (is : here ≡ τ i) where
-    pub rows-fresh : rowsOver τ w here (point (i .0 + 1)) (map (λ x. point (i .0 - x)) (range 0 (i .0 + 1 - start .0))) ≡ freshRows τ w (leftTest left mask sets) right start i
+    pub rows-fresh : rowsOver τ w here (point (i .0 + 1)) (map (λ x. point (i .0 - x)) (range 0 (i .0 + 1 - start .0))) ≡ freshRows τ w (leftTest left a sets) right start i
     rows-fresh =
         ap (rowsOver τ w here (point (i .0 + 1))) (fresh-points start i)
         ∙ ap₂ (λ one s. gather one (select (λ j. inWindow w (elapsed (τ j) s)) (backFrom i (suc (i .0) - start .0)))) (lasting-is i) is
 
-    pub pairs-fresh : pairsOver τ w here (point (i .0 + 1)) (map (λ x. point (i .0 - x)) (range 0 (i .0 + 1 - start .0))) ≡ freshPairs τ w (leftTest left mask sets) right start i
+    pub pairs-fresh : pairsOver τ w here (point (i .0 + 1)) (map (λ x. point (i .0 - x)) (range 0 (i .0 + 1 - start .0))) ≡ freshPairs τ w (leftTest left a sets) right start i
     pairs-fresh =
         ap (pairsOver τ w here (point (i .0 + 1))) (fresh-points start i)
         ∙ ap₂ (λ (one : Point → List (List ℕ)) s. gather (λ j. map (λ u. countedAge w (elapsed (τ j) s) ∷ u) (one j)) (select (λ j. belowEnd w (elapsed (τ j) s)) (backFrom i (suc (i .0) - start .0)))) (lasting-is i) is

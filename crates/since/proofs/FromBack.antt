@@ -12,21 +12,21 @@ use Rattle.rowset.proofs.Growing.{added-then, gathered-none, gather-from, made-
 use Rattle.since.specs.Since.{RowsPut}
 
 -- the rows from x on up to `to` are put in, in some order
-pub record FromBack (values : List ℕ) (to : ℕ) (old : List ℕ) (set : Gathered) (new : List ℕ) (set' : Gathered) (x : ℕ) : Type 0 where
+pub record FromBack (lowest : ℕ) (values : List ℕ) (to : ℕ) (old : List ℕ) (set : Gathered) (new : List ℕ) (set' : Gathered) (x : ℕ) : Type 0 where
   pub reached : x ≤ to
   pub order : List (List ℕ)
-  pub put : Gathers old set new set' order
+  pub put : Gathers lowest old set new set' order
   pub same : (u : List ℕ) → List·Memᴰ u order ↔ List·Memᴰ u (rowsFrom values x (to - x))
 
-module _ {values : List ℕ} {to : ℕ} {old : List ℕ} where
-  pub none-yet : {n : ℕ} → SetRoom old n → FromBack values to old (fromFront n) old (fromFront n) to
+module _ {lowest : ℕ} {values : List ℕ} {to : ℕ} {old : List ℕ} where
+  pub none-yet : {n : ℕ} → SetRoom old n → FromBack lowest values to old (fromFront n) old (fromFront n) to
   unfolding rowsFrom
   none-yet h =
       let z : to - to ≡ 0 = omega arith in
       record { reached = omega arith; order = []; put = gathered-none (gather-from h); same = λ u. rw z (λ m. m, λ m. m) }
 
-  module _ {set : Gathered} {new : List ℕ} {set' : Gathered} {x : ℕ} (t : FromBack values to old set new set' x) where
-    pub run-more : (first : ℕ) → first ≤ x → {new' : List ℕ} {set'' : Gathered} → Gathers new set' new' set'' (rowsFrom values first (x - first)) → FromBack values to old set new' set'' first
+  module _ {set : Gathered} {new : List ℕ} {set' : Gathered} {x : ℕ} (t : FromBack lowest values to old set new set' x) where
+    pub run-more : (first : ℕ) → first ≤ x → {new' : List ℕ} {set'' : Gathered} → Gathers lowest new set' new' set'' (rowsFrom values first (x - first)) → FromBack lowest values to old set new' set'' first
     run-more first l g =
         let m = t .reached in
         let part : List (List ℕ) = rowsFrom values first (x - first) in
@@ -49,7 +49,7 @@ module _ {values : List ℕ} {to : ℕ} {old : List ℕ} where
         back u (inl i) = Memᴰ·append-right (t .order) i
         back u (inr i) = Memᴰ·append-left (rowsFrom values first (x - first)) (t .same u .1 i)
 
-    pub all-put : (from : ℕ) → from ≤ x → x ≤ from → RowsPut old (set .count) new (set' .count) (rowsFrom values from (to - from))
+    pub all-put : (from : ℕ) → from ≤ x → x ≤ from → RowsPut lowest old (set .count) new (set' .count) (rowsFrom values from (to - from))
     all-put from l m =
         let e : x ≡ from = omega arith in
         rw (← e)

@@ -23,6 +23,7 @@ use Rattle.rowset.proofs.Growing.{Turns, goes-on, Gathering, gathers-on, map-se
 use Rattle.kinds.specs.Kinds.{inMask, pairAt, pairsFrom}
 use Rattle.meaning.specs.declared.Left.{Left}
 use Rattle.meaning.specs.declared.Left.the-variants.{Always}
+use Rattle.room.specs.declared.Child.{Child}
 use Rattle.untils.proofs.Passing.{nothing-asked}
 use Rattle.untils.specs.Until.{leads}
 use Rattle.pairs.specs.Pairs.{PairsAdded, Below, grownPairs}
@@ -53,17 +54,17 @@ module _ (by : ℕ) (passed : List ℕ → Bool) where
   abbrev pub boundPairs : ℕ → ℕ → List (List ℕ) → List (List ℕ)
   boundPairs below most held = map (λ p. min (getD p 0 0 + by) most ∷ drop 1 p) (select (pairStays below) held)
 
-  module _ (ages values : List ℕ) {old : ℕ} {all : List (List ℕ)} {x : ℕ} where
-    pub row-turned : (from below : ℕ) {out₀ : List ℕ} {n : Gathered} {out : List ℕ} {k : Gathered} → Gathering (pairAt ages values) (boundRows from below) old out₀ n all out k x → x < old
-        → {out' : List ℕ} {k' : Gathered} {t : Bool} {u : List ℕ} → Gathers out k out' k' (cond t (u ∷ []) []) → t ≡ ((leb from (getD ages x 0 + by) && ltb (getD ages x 0 + by) below) && passed u) → u ≡ rowAt values x
-        → Gathering (pairAt ages values) (boundRows from below) old out₀ n all out' k' (x + 1)
+  module _ {lowest : ℕ} (ages values : List ℕ) {old : ℕ} {all : List (List ℕ)} {x : ℕ} where
+    pub row-turned : (from below : ℕ) {out₀ : List ℕ} {n : Gathered} {out : List ℕ} {k : Gathered} → Gathering lowest (pairAt ages values) (boundRows from below) old out₀ n all out k x → x < old
+        → {out' : List ℕ} {k' : Gathered} {t : Bool} {u : List ℕ} → Gathers lowest out k out' k' (cond t (u ∷ []) []) → t ≡ ((leb from (getD ages x 0 + by) && ltb (getD ages x 0 + by) below) && passed u) → u ≡ rowAt values x
+        → Gathering lowest (pairAt ages values) (boundRows from below) old out₀ n all out' k' (x + 1)
     row-turned from below t l {u = u} h e is =
         gathers-on t (λ p. cond (rowStays from below p) (drop 1 p ∷ []) []) (map-select-one (rowStays from below) (drop 1)) l h
         (ap (λ b. cond b (u ∷ []) []) e ∙ ap (λ v. cond (rowStays from below (getD ages x 0 ∷ v)) (v ∷ []) []) is)
 
-    pub pair-turned : (below most : ℕ) {ages₀ values₀ : List ℕ} {n : Gathered} {ages' values' : List ℕ} {k : Gathered} → Turns (pairAt ages values) (boundPairs below most) old all (PairsAdded ages₀ values₀ n ages' values' k) x → x < old
-        → {ages'' values'' : List ℕ} {k' : Gathered} {t : Bool} {u : List ℕ} → PairsAdded ages' values' k ages'' values'' k' (cond t ((min (getD ages x 0 + by) most ∷ u) ∷ []) []) → t ≡ (ltb (getD ages x 0 + by) below && passed u) → u ≡ rowAt values x
-        → Turns (pairAt ages values) (boundPairs below most) old all (PairsAdded ages₀ values₀ n ages'' values'' k') (x + 1)
+    pub pair-turned : (below most : ℕ) {ages₀ values₀ : List ℕ} {n : Gathered} {ages' values' : List ℕ} {k : Gathered} → Turns (pairAt ages values) (boundPairs below most) old all (PairsAdded lowest ages₀ values₀ n ages' values' k) x → x < old
+        → {ages'' values'' : List ℕ} {k' : Gathered} {t : Bool} {u : List ℕ} → PairsAdded lowest ages' values' k ages'' values'' k' (cond t ((min (getD ages x 0 + by) most ∷ u) ∷ []) []) → t ≡ (ltb (getD ages x 0 + by) below && passed u) → u ≡ rowAt values x
+        → Turns (pairAt ages values) (boundPairs below most) old all (PairsAdded lowest ages₀ values₀ n ages'' values'' k') (x + 1)
     pair-turned below most t l {u = u} h e is =
         let grown : List ℕ → List ℕ = λ p. min (getD p 0 0 + by) most ∷ drop 1 p in
         goes-on t (λ p. cond (pairStays below p) (grown p ∷ []) []) (map-select-one (pairStays below) grown) l (pairs-then h)
@@ -85,8 +86,8 @@ module _ (by : ℕ) (passed : List ℕ → Bool) where
         (λ k. counted-as w (getD ages k 0 + by) (omega (arith, words k)) (λ age. (age ∷ rowAt values k) ∷ []) (passed (rowAt values k)) e f) a n
 
 -- where nothing is asked of left, every row passes
-pub all-pass : {left : Left} → left ≡ Always → (mask : ℕ) (sets : Point → List (List ℕ)) (from end : Point) → (λ (u : List ℕ). true) ≡ leads left mask sets from end
-all-pass e mask sets from end = fun-ext (λ u. nothing-asked sets (cutTo (inMask mask) (valuationOf u)) (pointsFrom from (end .0 - from .0)) e)
+pub all-pass : {left : Left} → left ≡ Always → (a : Child) (sets : Point → List (List ℕ)) (from end : Point) → (λ (u : List ℕ). true) ≡ leads left a sets from end
+all-pass e a sets from end = fun-ext (λ u. nothing-asked (a .lowest) sets (cutTo (inMask (a .mask)) (valuationOf u)) (pointsFrom from (end .0 - from .0)) e)
 
 -- what is chosen of a run by a test on the numbers of its items
 run-chosen : {A : Type 0} (at : ℕ → A) (p : A → Bool) (n lo hi : ℕ) → lo ≤ hi → hi ≤ n → ((k : ℕ) → k < n → p (at k) ≡ (leb lo k && ltb k hi)) → select p (map at (range 0 n)) ≡ map at (range lo (hi - lo))
@@ -129,5 +130,5 @@ select-all : (us : List (List ℕ)) → us ≡ select (λ _. true) us
 select-all [] = refl
 select-all (u ∷ us) = ap (λ vs. u ∷ vs) (select-all us)
 
-pub every-row : {left : Left} → left ≡ Always → (mask : ℕ) (sets : Point → List (List ℕ)) (from end : Point) (us : List (List ℕ)) → us ≡ select (leads left mask sets from end) us
-every-row e mask sets from end us = select-all us ∙ ap (λ p. select p us) (all-pass e mask sets from end)
+pub every-row : {left : Left} → left ≡ Always → (a : Child) (sets : Point → List (List ℕ)) (from end : Point) (us : List (List ℕ)) → us ≡ select (leads left a sets from end) us
+every-row e a sets from end us = select-all us ∙ ap (λ p. select p us) (all-pass e a sets from end)

@@ -25,10 +25,10 @@ heldIn ages values = pairsFrom ages values 0 (length ages)
 module _ (left : Left) (rows at times : List ℕ) (base : Point) (w : Window) (a b : Child) (held : List (List ℕ)) (start i : Point) where
   -- a is left and b is right
   abbrev pub rowsIn : List (List ℕ)
-  rowsIn = rowsSince (stampIn base times) w (leftTest left (a .mask) (setAt rows at (a .first) (a .low))) (setAt rows at (b .first) (b .low)) held start i
+  rowsIn = rowsSince (stampIn base times) w (leftTest left a (setAt rows at (a .first) (a .low))) (setAt rows at (b .first) (b .low)) held start i
 
   abbrev pub pairsIn : List (List ℕ)
-  pairsIn = pairsSince (stampIn base times) w (leftTest left (a .mask) (setAt rows at (a .first) (a .low))) (setAt rows at (b .first) (b .low)) held start i
+  pairsIn = pairsSince (stampIn base times) w (leftTest left a (setAt rows at (a .first) (a .low))) (setAt rows at (b .first) (b .low)) held start i
 
 -- of the ages from..to, those from number f on are one age, and the one before f, if it is among them, is another
 pub record AgeRun (ages : List ℕ) (from to f : ℕ) : Type 0 where
@@ -38,9 +38,9 @@ pub record AgeRun (ages : List ℕ) (from to f : ℕ) : Type 0 where
   pub other : from < f → getD ages (f - 1) 0 ≢ getD ages (to - 1) 0
 
 -- rows put into a set, in whatever order: where it stood in the old words and ascends, it stands in the new ones with the rows put in
-pub record RowsPut (old : List ℕ) (n : ℕ) (new : List ℕ) (n' : ℕ) (rows : List (List ℕ)) : Type 0 where
+pub record RowsPut (lowest : ℕ) (old : List ℕ) (n : ℕ) (new : List ℕ) (n' : ℕ) (rows : List (List ℕ)) : Type 0 where
   pub long : length new ≡ length old
-  pub put : (set : List (List ℕ)) → ascending set ≡ true → SetMade old n set → SetMade new n' (insertAll set rows)
+  pub put : (set : List (List ℕ)) → ascending lowest set ≡ true → SetMade old n set → SetMade new n' (insertAll lowest set rows)
 
 -- so many pairs stand at the front of the new words, as many as the ages have room for; where they are more, their number is one more than that
 pub record PairsPut (ages values ages' values' : List ℕ) (n : ℕ) (pairs : List (List ℕ)) : Type 0 where

@@ -5,7 +5,7 @@ use meaning::Window;
 use room::Child;
 use rowset::Gathered;
 use rowset::Row;
-ghost use Prim.Native.Nat.{_+_, _-_, _≤_, _<_, min};
+ghost use Prim.Native.Nat.{suc, _+_, _-_, _≤_, _<_, min};
 ghost use mathlib.Core.Path.{_≡_};
 ghost use mathlib.Core.Bool.{true, cond, _&&_};
 ghost use mathlib.Core.List.{[], _∷_, map};
@@ -75,6 +75,7 @@ fn grown_by(times: &[u32], base: Point, start: Point, i: Point) -> u32
 
 // Puts in the rows from..to for which left passes at every point from `after` on before end. Until has such a loop too, which the compiler merges into its one caller.
 fn put_lasting(
+    lowest: u32,
     left: Left,
     a: Child,
     rows: &[u32],
@@ -89,14 +90,14 @@ fn put_lasting(
     requires { ⌜ Stand (now rows) (now at) (a .first) (a .low) after (end .0) ⌝ }
     requires { ⌜ Run (now rows) from to ⌝ }
     requires { ⌜ SetRoom (now out) n ⌝ }
-    ensures { λ k. ⌜ Added (now (out .entry)) n (now (out .exit)) k (select (leads left (a .mask) (setAt (now (rows .entry)) (now (at .entry)) (a .first) (a .low)) after end) (rowsFrom (now (rows .entry)) from (to - from))) ⌝ }
+    ensures { λ k. ⌜ Added lowest (now (out .entry)) n (now (out .exit)) k (select (leads left a (setAt (now (rows .entry)) (now (at .entry)) (a .first) (a .low)) after end) (rowsFrom (now (rows .entry)) from (to - from))) ⌝ }
 {
     let mut set = Gathered { count: n, near: 0 };
     let mut x = from;
     while x < to {
         let u = rowset::row_at(rows, x);
-        let ok = untils::leads(left, a.mask, u, rows, at, a.first, a.low, after, end);
-        set = rowset::add_if(ok, out, set, u);
+        let ok = untils::leads(left, a, u, rows, at, after, end);
+        set = rowset::add_if(ok, lowest, out, set, u);
         x += 1;
     }
     set.count
@@ -105,6 +106,7 @@ fn put_lasting(
 // Puts in right's rows at point j for which left passes at every point after j and before end, where the test passed.
 fn put_point_if(
     ok: bool,
+    lowest: u32,
     left: Left,
     a: Child,
     b: Child,
@@ -118,18 +120,31 @@ fn put_point_if(
     requires { ⌜ Stand (now rows) (now at) (a .first) (a .low) (point (j .0 + 1)) (end .0) ⌝ }
     requires { ⌜ Stand (now rows) (now at) (b .first) (b .low) j (j .0 + 1) ⌝ }
     requires { ⌜ SetRoom (now out) n ⌝ }
-    ensures { λ k. ⌜ Added (now (out .entry)) n (now (out .exit)) k (cond ok (select (leads left (a .mask) (setAt (now (rows .entry)) (now (at .entry)) (a .first) (a .low)) (point (j .0 + 1)) end) (setAt (now (rows .entry)) (now (at .entry)) (b .first) (b .low) j)) []) ⌝ }
+    ensures { λ k. ⌜ Added lowest (now (out .entry)) n (now (out .exit)) k (cond ok (select (leads left a (setAt (now (rows .entry)) (now (at .entry)) (a .first) (a .low)) (point (j .0 + 1)) end) (setAt (now (rows .entry)) (now (at .entry)) (b .first) (b .low) j)) []) ⌝ }
 {
     if ok {
         let set = untils::set_part(at, b.first, b.low, j);
         let after = Point(j.0 + 1);
-        return put_lasting(left, a, rows, at, set.from, set.to, after, end, out, n);
+        return put_lasting(
+            lowest,
+            left,
+            a,
+            rows,
+            at,
+            set.from,
+            set.to,
+            after,
+            end,
+            out,
+            n,
+        );
     }
     n
 }
 
 // The rows at point i that right's rows from point start on give, put into an empty set, the last point first.
 fn put_fresh(
+    lowest: u32,
     left: Left,
     a: Child,
     b: Child,
@@ -146,7 +161,7 @@ fn put_fresh(
     requires { ⌜ Stand (now rows) (now at) (a .first) (a .low) start (i .0 + 1) ⌝ }
     requires { ⌜ Stand (now rows) (now at) (b .first) (b .low) start (i .0 + 1) ⌝ }
     requires { ⌜ SetRoom (now out) 0 ⌝ }
-    ensures { λ k. ⌜ Added (now (out .entry)) 0 (now (out .exit)) k (freshRows (stampIn base (now (times .entry))) w (leftTest left (a .mask) (setAt (now (rows .entry)) (now (at .entry)) (a .first) (a .low))) (setAt (now (rows .entry)) (now (at .entry)) (b .first) (b .low)) start i) ⌝ }
+    ensures { λ k. ⌜ Added lowest (now (out .entry)) 0 (now (out .exit)) k (freshRows (stampIn base (now (times .entry))) w (leftTest left a (setAt (now (rows .entry)) (now (at .entry)) (a .first) (a .low))) (setAt (now (rows .entry)) (now (at .entry)) (b .first) (b .low)) start i) ⌝ }
 {
     let here = progress::time_in(times, base, i);
     let end = Point(i.0 + 1);
@@ -156,7 +171,7 @@ fn put_fresh(
     while x < count {
         let j = Point(i.0 - x);
         let ok = untils::due(w, progress::time_in(times, base, j), here);
-        k = put_point_if(ok, left, a, b, rows, at, j, end, out, k);
+        k = put_point_if(ok, lowest, left, a, b, rows, at, j, end, out, k);
         x += 1;
     }
     k
@@ -180,6 +195,7 @@ fn age_start(ages: &[u32], from: usize, to: usize) -> usize
 
 // Puts in the rows of pairs from..to, the oldest pairs first, those of one age in order: blocks that are read in turn then come in order, and so do those that are read at once, and each is looked for near the last.
 fn put_run(
+    lowest: u32,
     old_ages: &[u32],
     old_values: &[u32],
     from: usize,
@@ -189,13 +205,13 @@ fn put_run(
 ) -> usize
     requires { ⌜ Run (now «old_values») from to × (to ≤ length (now «old_ages»)) ⌝ }
     requires { ⌜ SetRoom (now out) n ⌝ }
-    ensures { λ k. ⌜ RowsPut (now (out .entry)) n (now (out .exit)) k (rowsFrom (now («old_values» .entry)) from (to - from)) ⌝ }
+    ensures { λ k. ⌜ RowsPut lowest (now (out .entry)) n (now (out .exit)) k (rowsFrom (now («old_values» .entry)) from (to - from)) ⌝ }
 {
     let mut set = Gathered { count: n, near: 0 };
     let mut x = to;
     while from < x {
         let first = age_start(old_ages, from, x);
-        set = rowset::add_rows(old_values, first, x, out, set);
+        set = rowset::add_rows(lowest, old_values, first, x, out, set);
         x = first;
     }
     set.count
@@ -203,6 +219,7 @@ fn put_run(
 
 // Puts in the rows of the held pairs whose ages are in the window, with what they have grown by: as ages don't fall, these pairs are a run.
 fn put_aged(
+    lowest: u32,
     w: Window,
     by: u32,
     old_ages: &[u32],
@@ -210,14 +227,14 @@ fn put_aged(
     out: &mut [u32],
     n: usize,
 ) -> usize
-    requires { ⌜ PairsThere (now «old_ages») (now «old_values») (length (now «old_ages»)) × (ascending (heldIn (now «old_ages») (now «old_values»)) ≡ true) ⌝ }
+    requires { ⌜ PairsThere (now «old_ages») (now «old_values») (length (now «old_ages»)) × (ascending (suc lowest) (heldIn (now «old_ages») (now «old_values»)) ≡ true) ⌝ }
     requires { ⌜ SetRoom (now out) n ⌝ }
-    ensures { λ k. ⌜ RowsPut (now (out .entry)) n (now (out .exit)) k (olderRows w by (λ _. true) (heldIn (now («old_ages» .entry)) (now («old_values» .entry)))) ⌝ }
+    ensures { λ k. ⌜ RowsPut lowest (now (out .entry)) n (now (out .exit)) k (olderRows w by (λ _. true) (heldIn (now («old_ages» .entry)) (now («old_values» .entry)))) ⌝ }
 {
     let bounds = bounds_of(w);
     let to = pairs::count_below(old_ages, old_ages.len(), by, bounds.below);
     let from = pairs::count_below(old_ages, to, by, bounds.from);
-    put_run(old_ages, old_values, from, to, out, n)
+    put_run(lowest, old_ages, old_values, from, to, out, n)
 }
 
 // The age is in the window, and left passes for the row at every point from `from` on before end.
@@ -233,16 +250,17 @@ fn stays(
     end: Point,
 ) -> bool
     requires { ⌜ Stand (now rows) (now at) (a .first) (a .low) from (end .0) ⌝ }
-    ensures { λ t. ⌜ t ≡ ((leb (b .from) age && ltb age (b .below)) && leads left (a .mask) (setAt (now (rows .entry)) (now (at .entry)) (a .first) (a .low)) from end (wordsOf u)) ⌝ }
+    ensures { λ t. ⌜ t ≡ ((leb (b .from) age && ltb age (b .below)) && leads left a (setAt (now (rows .entry)) (now (at .entry)) (a .first) (a .low)) from end (wordsOf u)) ⌝ }
 {
     if within(b, age) {
-        return untils::leads(left, a.mask, u, rows, at, a.first, a.low, from, end);
+        return untils::leads(left, a, u, rows, at, from, end);
     }
     false
 }
 
 // Puts in the rows of the held pairs as `put_aged` does, where left passes too at every point from start up to i.
 fn put_older(
+    lowest: u32,
     left: Left,
     a: Child,
     rows: &[u32],
@@ -260,7 +278,7 @@ fn put_older(
     requires { ⌜ Stand (now rows) (now at) (a .first) (a .low) start (i .0 + 1) ⌝ }
     requires { ⌜ PairsThere (now «old_ages») (now «old_values») (length (now «old_ages»)) ⌝ }
     requires { ⌜ SetRoom (now out) n ⌝ }
-    ensures { λ k. ⌜ RowsPut (now (out .entry)) n (now (out .exit)) k (olderRows w by (leads left (a .mask) (setAt (now (rows .entry)) (now (at .entry)) (a .first) (a .low)) start (point (i .0 + 1))) (heldIn (now («old_ages» .entry)) (now («old_values» .entry)))) ⌝ }
+    ensures { λ k. ⌜ RowsPut lowest (now (out .entry)) n (now (out .exit)) k (olderRows w by (leads left a (setAt (now (rows .entry)) (now (at .entry)) (a .first) (a .low)) start (point (i .0 + 1))) (heldIn (now («old_ages» .entry)) (now («old_values» .entry)))) ⌝ }
 {
     let bounds = bounds_of(w);
     let end = Point(i.0 + 1);
@@ -271,14 +289,15 @@ fn put_older(
         let r = rowset::row_at(old_values, x);
         let age = old_ages[x] as u64 + by as u64;
         let ok = stays(bounds, age, left, a, r, rows, at, start, end);
-        set = rowset::add_if(ok, out, set, r);
+        set = rowset::add_if(ok, lowest, out, set, r);
         x += 1;
     }
     set.count
 }
 
-// The rows at point i, put into an empty set. Left is a and right is b; where nothing is asked of left, right may be given for left. The first newly settled point is start; the pairs held before it are as many as the old ages.
+// The rows at point i of a node with this lowest free variable, put into an empty set. Left is a and right is b; where nothing is asked of left, right may be given for left. The first newly settled point is start; the pairs held before it are as many as the old ages.
 pub fn rows_at(
+    lowest: u32,
     left: Left,
     a: Child,
     b: Child,
@@ -296,15 +315,16 @@ pub fn rows_at(
     requires { ⌜ i .0 + 1 < 4294967296 ⌝ }
     requires { ⌜ Stand (now rows) (now at) (a .first) (a .low) start (i .0 + 1) ⌝ }
     requires { ⌜ Stand (now rows) (now at) (b .first) (b .low) start (i .0 + 1) ⌝ }
-    requires { ⌜ PairsThere (now «old_ages») (now «old_values») (length (now «old_ages»)) × (ascending (heldIn (now «old_ages») (now «old_values»)) ≡ true) ⌝ }
+    requires { ⌜ PairsThere (now «old_ages») (now «old_values») (length (now «old_ages»)) × (ascending (suc lowest) (heldIn (now «old_ages») (now «old_values»)) ≡ true) ⌝ }
     requires { ⌜ SetRoom (now out) 0 ⌝ }
-    ensures { λ k. ⌜ SetMade (now (out .exit)) k (setOf (rowsIn left (now (rows .entry)) (now (at .entry)) (now (times .entry)) base w a b (heldIn (now («old_ages» .entry)) (now («old_values» .entry))) start i)) ⌝ }
+    ensures { λ k. ⌜ SetMade (now (out .exit)) k (setOf lowest (rowsIn left (now (rows .entry)) (now (at .entry)) (now (times .entry)) base w a b (heldIn (now («old_ages» .entry)) (now («old_values» .entry))) start i)) ⌝ }
 {
     let by = grown_by(times, base, start, i);
-    let n = put_fresh(left, a, b, rows, at, times, base, w, start, i, out);
+    let n = put_fresh(lowest, left, a, b, rows, at, times, base, w, start, i, out);
     match left {
-        Left::Always => put_aged(w, by, old_ages, old_values, out, n),
+        Left::Always => put_aged(lowest, w, by, old_ages, old_values, out, n),
         _ => put_older(
+            lowest,
             left,
             a,
             rows,
@@ -323,6 +343,7 @@ pub fn rows_at(
 
 // Puts in a pair at the age for each of the rows from..to for which left passes at every point from `after` on before end.
 fn add_lasting(
+    lowest: u32,
     left: Left,
     a: Child,
     rows: &[u32],
@@ -338,15 +359,15 @@ fn add_lasting(
 ) -> Gathered
     requires { ⌜ Stand (now rows) (now at) (a .first) (a .low) after (end .0) ⌝ }
     requires { ⌜ Run (now rows) from to ⌝ }
-    requires { ⌜ PairRoom (now ages) (now values) set ⌝ }
-    ensures { λ g. ⌜ PairsAdded (now (ages .entry)) (now (values .entry)) set (now (ages .exit)) (now (values .exit)) g (map (λ u. age ∷ u) (select (leads left (a .mask) (setAt (now (rows .entry)) (now (at .entry)) (a .first) (a .low)) after end) (rowsFrom (now (rows .entry)) from (to - from)))) ⌝ }
+    requires { ⌜ PairRoom lowest (now ages) (now values) set ⌝ }
+    ensures { λ g. ⌜ PairsAdded lowest (now (ages .entry)) (now (values .entry)) set (now (ages .exit)) (now (values .exit)) g (map (λ u. age ∷ u) (select (leads left a (setAt (now (rows .entry)) (now (at .entry)) (a .first) (a .low)) after end) (rowsFrom (now (rows .entry)) from (to - from)))) ⌝ }
 {
     let mut g = set;
     let mut x = from;
     while x < to {
         let r = rowset::row_at(rows, x);
-        let ok = untils::leads(left, a.mask, r, rows, at, a.first, a.low, after, end);
-        g = pairs::add_if(ok, ages, values, g, age, r);
+        let ok = untils::leads(left, a, r, rows, at, after, end);
+        g = pairs::add_if(ok, lowest, ages, values, g, age, r);
         x += 1;
     }
     g
@@ -354,6 +375,7 @@ fn add_lasting(
 
 // Puts in right's rows at point j, at the age, for which left passes at every point after j and before end.
 fn add_point(
+    lowest: u32,
     left: Left,
     a: Child,
     b: Child,
@@ -368,16 +390,17 @@ fn add_point(
 ) -> Gathered
     requires { ⌜ Stand (now rows) (now at) (a .first) (a .low) (point (j .0 + 1)) (end .0) ⌝ }
     requires { ⌜ Stand (now rows) (now at) (b .first) (b .low) j (j .0 + 1) ⌝ }
-    requires { ⌜ PairRoom (now ages) (now values) set ⌝ }
-    ensures { λ g. ⌜ PairsAdded (now (ages .entry)) (now (values .entry)) set (now (ages .exit)) (now (values .exit)) g (map (λ u. age ∷ u) (select (leads left (a .mask) (setAt (now (rows .entry)) (now (at .entry)) (a .first) (a .low)) (point (j .0 + 1)) end) (setAt (now (rows .entry)) (now (at .entry)) (b .first) (b .low) j))) ⌝ }
+    requires { ⌜ PairRoom lowest (now ages) (now values) set ⌝ }
+    ensures { λ g. ⌜ PairsAdded lowest (now (ages .entry)) (now (values .entry)) set (now (ages .exit)) (now (values .exit)) g (map (λ u. age ∷ u) (select (leads left a (setAt (now (rows .entry)) (now (at .entry)) (a .first) (a .low)) (point (j .0 + 1)) end) (setAt (now (rows .entry)) (now (at .entry)) (b .first) (b .low) j))) ⌝ }
 {
     let part = untils::set_part(at, b.first, b.low, j);
     let from = part.from;
     let to = part.to;
     let after = Point(j.0 + 1);
     match left {
-        Left::Always => pairs::add_young(rows, from, to, age, ages, values, set),
+        Left::Always => pairs::add_young(lowest, rows, from, to, age, ages, values, set),
         _ => add_lasting(
+            lowest,
             left,
             a,
             rows,
@@ -396,6 +419,7 @@ fn add_point(
 
 // The same where the age is before the window's end, as it counts.
 fn add_point_below(
+    lowest: u32,
     w: Window,
     age: u32,
     left: Left,
@@ -411,19 +435,33 @@ fn add_point_below(
 ) -> Gathered
     requires { ⌜ Stand (now rows) (now at) (a .first) (a .low) (point (j .0 + 1)) (end .0) ⌝ }
     requires { ⌜ Stand (now rows) (now at) (b .first) (b .low) j (j .0 + 1) ⌝ }
-    requires { ⌜ PairRoom (now ages) (now values) set ⌝ }
-    ensures { λ g. ⌜ PairsAdded (now (ages .entry)) (now (values .entry)) set (now (ages .exit)) (now (values .exit)) g (cond (belowEnd w age) (map (λ u. countedAge w age ∷ u) (select (leads left (a .mask) (setAt (now (rows .entry)) (now (at .entry)) (a .first) (a .low)) (point (j .0 + 1)) end) (setAt (now (rows .entry)) (now (at .entry)) (b .first) (b .low) j))) []) ⌝ }
+    requires { ⌜ PairRoom lowest (now ages) (now values) set ⌝ }
+    ensures { λ g. ⌜ PairsAdded lowest (now (ages .entry)) (now (values .entry)) set (now (ages .exit)) (now (values .exit)) g (cond (belowEnd w age) (map (λ u. countedAge w age ∷ u) (select (leads left a (setAt (now (rows .entry)) (now (at .entry)) (a .first) (a .low)) (point (j .0 + 1)) end) (setAt (now (rows .entry)) (now (at .entry)) (b .first) (b .low) j))) []) ⌝ }
 {
     let bounds = bounds_of(w);
     if (age as u64) < bounds.below {
         let counted = pairs::at_most(bounds.most, age as u64);
-        return add_point(left, a, b, rows, at, j, end, counted, ages, values, set);
+        return add_point(
+            lowest,
+            left,
+            a,
+            b,
+            rows,
+            at,
+            j,
+            end,
+            counted,
+            ages,
+            values,
+            set,
+        );
     }
     set
 }
 
 // The pairs at point i that right's rows from point start on give, put into none, the last point first.
 fn add_fresh(
+    lowest: u32,
     left: Left,
     a: Child,
     b: Child,
@@ -440,8 +478,8 @@ fn add_fresh(
     requires { ⌜ i .0 + 1 < 4294967296 ⌝ }
     requires { ⌜ Stand (now rows) (now at) (a .first) (a .low) start (i .0 + 1) ⌝ }
     requires { ⌜ Stand (now rows) (now at) (b .first) (b .low) start (i .0 + 1) ⌝ }
-    requires { ⌜ PairRoom (now ages) (now values) (fromFront 0) ⌝ }
-    ensures { λ g. ⌜ PairsAdded (now (ages .entry)) (now (values .entry)) (fromFront 0) (now (ages .exit)) (now (values .exit)) g (freshPairs (stampIn base (now (times .entry))) w (leftTest left (a .mask) (setAt (now (rows .entry)) (now (at .entry)) (a .first) (a .low))) (setAt (now (rows .entry)) (now (at .entry)) (b .first) (b .low)) start i) ⌝ }
+    requires { ⌜ PairRoom lowest (now ages) (now values) (fromFront 0) ⌝ }
+    ensures { λ g. ⌜ PairsAdded lowest (now (ages .entry)) (now (values .entry)) (fromFront 0) (now (ages .exit)) (now (values .exit)) g (freshPairs (stampIn base (now (times .entry))) w (leftTest left a (setAt (now (rows .entry)) (now (at .entry)) (a .first) (a .low))) (setAt (now (rows .entry)) (now (at .entry)) (b .first) (b .low)) start i) ⌝ }
 {
     let here = progress::time_in(times, base, i);
     let end = Point(i.0 + 1);
@@ -451,7 +489,21 @@ fn add_fresh(
     while x < count {
         let j = Point(i.0 - x);
         let age = untils::elapsed(progress::time_in(times, base, j), here);
-        g = add_point_below(w, age, left, a, b, rows, at, j, end, ages, values, g);
+        g = add_point_below(
+            lowest,
+            w,
+            age,
+            left,
+            a,
+            b,
+            rows,
+            at,
+            j,
+            end,
+            ages,
+            values,
+            g,
+        );
         x += 1;
     }
     g
@@ -459,6 +511,7 @@ fn add_fresh(
 
 // Puts a held pair in at the age that it has now, where it is before the window's end.
 fn add_aged(
+    lowest: u32,
     bounds: Bounds,
     age: u64,
     r: Row,
@@ -466,17 +519,25 @@ fn add_aged(
     values: &mut [u32],
     set: Gathered,
 ) -> Gathered
-    requires { ⌜ PairRoom (now ages) (now values) set ⌝ }
-    ensures { λ g. ⌜ PairsAdded (now (ages .entry)) (now (values .entry)) set (now (ages .exit)) (now (values .exit)) g (cond (ltb age (bounds .below)) ((min age (bounds .most) ∷ wordsOf r) ∷ []) []) ⌝ }
+    requires { ⌜ PairRoom lowest (now ages) (now values) set ⌝ }
+    ensures { λ g. ⌜ PairsAdded lowest (now (ages .entry)) (now (values .entry)) set (now (ages .exit)) (now (values .exit)) g (cond (ltb age (bounds .below)) ((min age (bounds .most) ∷ wordsOf r) ∷ []) []) ⌝ }
 {
     if age < bounds.below {
-        return pairs::add(ages, values, set, pairs::at_most(bounds.most, age), r);
+        return pairs::add(
+            lowest,
+            ages,
+            values,
+            set,
+            pairs::at_most(bounds.most, age),
+            r,
+        );
     }
     set
 }
 
 // Puts the held pairs in, each grown older, where nothing is asked of left: as ages don't fall, those before the window's end are the first.
 fn add_all_aged(
+    lowest: u32,
     w: Window,
     by: u32,
     old_ages: &[u32],
@@ -485,17 +546,28 @@ fn add_all_aged(
     values: &mut [u32],
     set: Gathered,
 ) -> Gathered
-    requires { ⌜ PairsThere (now «old_ages») (now «old_values») (length (now «old_ages»)) × (ascending (heldIn (now «old_ages») (now «old_values»)) ≡ true) ⌝ }
-    requires { ⌜ PairRoom (now ages) (now values) set ⌝ }
-    ensures { λ g. ⌜ PairsAdded (now (ages .entry)) (now (values .entry)) set (now (ages .exit)) (now (values .exit)) g (olderPairs w by (λ _. true) (heldIn (now («old_ages» .entry)) (now («old_values» .entry)))) ⌝ }
+    requires { ⌜ PairsThere (now «old_ages») (now «old_values») (length (now «old_ages»)) × (ascending (suc lowest) (heldIn (now «old_ages») (now «old_values»)) ≡ true) ⌝ }
+    requires { ⌜ PairRoom lowest (now ages) (now values) set ⌝ }
+    ensures { λ g. ⌜ PairsAdded lowest (now (ages .entry)) (now (values .entry)) set (now (ages .exit)) (now (values .exit)) g (olderPairs w by (λ _. true) (heldIn (now («old_ages» .entry)) (now («old_values» .entry)))) ⌝ }
 {
     let bounds = bounds_of(w);
     let m = pairs::count_below(old_ages, old_ages.len(), by, bounds.below);
-    pairs::add_grown(old_ages, old_values, m, by, bounds.most, ages, values, set)
+    pairs::add_grown(
+        lowest,
+        old_ages,
+        old_values,
+        m,
+        by,
+        bounds.most,
+        ages,
+        values,
+        set,
+    )
 }
 
 // Puts a held pair in as `add_aged` does, where left passes too for its row at every point from `from` on before end.
 fn add_older(
+    lowest: u32,
     bounds: Bounds,
     age: u64,
     left: Left,
@@ -510,17 +582,18 @@ fn add_older(
     set: Gathered,
 ) -> Gathered
     requires { ⌜ Stand (now rows) (now at) (a .first) (a .low) from (end .0) ⌝ }
-    requires { ⌜ PairRoom (now ages) (now values) set ⌝ }
-    ensures { λ g. ⌜ PairsAdded (now (ages .entry)) (now (values .entry)) set (now (ages .exit)) (now (values .exit)) g (cond (ltb age (bounds .below) && leads left (a .mask) (setAt (now (rows .entry)) (now (at .entry)) (a .first) (a .low)) from end (wordsOf r)) ((min age (bounds .most) ∷ wordsOf r) ∷ []) []) ⌝ }
+    requires { ⌜ PairRoom lowest (now ages) (now values) set ⌝ }
+    ensures { λ g. ⌜ PairsAdded lowest (now (ages .entry)) (now (values .entry)) set (now (ages .exit)) (now (values .exit)) g (cond (ltb age (bounds .below) && leads left a (setAt (now (rows .entry)) (now (at .entry)) (a .first) (a .low)) from end (wordsOf r)) ((min age (bounds .most) ∷ wordsOf r) ∷ []) []) ⌝ }
 {
-    if untils::leads(left, a.mask, r, rows, at, a.first, a.low, from, end) {
-        return add_aged(bounds, age, r, ages, values, set);
+    if untils::leads(left, a, r, rows, at, from, end) {
+        return add_aged(lowest, bounds, age, r, ages, values, set);
     }
     set
 }
 
 // Puts the held pairs in, each grown older, where left passes at every point from start up to i.
 fn add_all_older(
+    lowest: u32,
     left: Left,
     a: Child,
     rows: &[u32],
@@ -538,8 +611,8 @@ fn add_all_older(
     requires { ⌜ i .0 + 1 < 4294967296 ⌝ }
     requires { ⌜ Stand (now rows) (now at) (a .first) (a .low) start (i .0 + 1) ⌝ }
     requires { ⌜ PairsThere (now «old_ages») (now «old_values») (length (now «old_ages»)) ⌝ }
-    requires { ⌜ PairRoom (now ages) (now values) set ⌝ }
-    ensures { λ g. ⌜ PairsAdded (now (ages .entry)) (now (values .entry)) set (now (ages .exit)) (now (values .exit)) g (olderPairs w by (leads left (a .mask) (setAt (now (rows .entry)) (now (at .entry)) (a .first) (a .low)) start (point (i .0 + 1))) (heldIn (now («old_ages» .entry)) (now («old_values» .entry)))) ⌝ }
+    requires { ⌜ PairRoom lowest (now ages) (now values) set ⌝ }
+    ensures { λ g. ⌜ PairsAdded lowest (now (ages .entry)) (now (values .entry)) set (now (ages .exit)) (now (values .exit)) g (olderPairs w by (leads left a (setAt (now (rows .entry)) (now (at .entry)) (a .first) (a .low)) start (point (i .0 + 1))) (heldIn (now («old_ages» .entry)) (now («old_values» .entry)))) ⌝ }
 {
     let bounds = bounds_of(w);
     let end = Point(i.0 + 1);
@@ -550,6 +623,7 @@ fn add_all_older(
         let r = rowset::row_at(old_values, x);
         let age = old_ages[x] as u64 + by as u64;
         g = add_older(
+            lowest,
             bounds,
             age,
             left,
@@ -570,6 +644,7 @@ fn add_all_older(
 
 // The pairs at point i, put to the front of ages and values, as many as the ages have room for; one more than that where there are more.
 pub fn pairs_at(
+    lowest: u32,
     left: Left,
     a: Child,
     b: Child,
@@ -588,15 +663,30 @@ pub fn pairs_at(
     requires { ⌜ i .0 + 1 < 4294967296 ⌝ }
     requires { ⌜ Stand (now rows) (now at) (a .first) (a .low) start (i .0 + 1) ⌝ }
     requires { ⌜ Stand (now rows) (now at) (b .first) (b .low) start (i .0 + 1) ⌝ }
-    requires { ⌜ PairsThere (now «old_ages») (now «old_values») (length (now «old_ages»)) × (ascending (heldIn (now «old_ages») (now «old_values»)) ≡ true) ⌝ }
+    requires { ⌜ PairsThere (now «old_ages») (now «old_values») (length (now «old_ages»)) × (ascending (suc lowest) (heldIn (now «old_ages») (now «old_values»)) ≡ true) ⌝ }
     requires { ⌜ PairsThere (now ages) (now values) (length (now ages)) ⌝ }
-    ensures { λ k. ⌜ PairsPut (now (ages .entry)) (now (values .entry)) (now (ages .exit)) (now (values .exit)) k (setOf (pairsIn left (now (rows .entry)) (now (at .entry)) (now (times .entry)) base w a b (heldIn (now («old_ages» .entry)) (now («old_values» .entry))) start i)) ⌝ }
+    ensures { λ k. ⌜ PairsPut (now (ages .entry)) (now (values .entry)) (now (ages .exit)) (now (values .exit)) k (setOf (suc lowest) (pairsIn left (now (rows .entry)) (now (at .entry)) (now (times .entry)) base w a b (heldIn (now («old_ages» .entry)) (now («old_values» .entry))) start i)) ⌝ }
 {
     let by = grown_by(times, base, start, i);
-    let set = add_fresh(left, a, b, rows, at, times, base, w, start, i, ages, values);
+    let set = add_fresh(
+        lowest,
+        left,
+        a,
+        b,
+        rows,
+        at,
+        times,
+        base,
+        w,
+        start,
+        i,
+        ages,
+        values,
+    );
     let all = match left {
-        Left::Always => add_all_aged(w, by, old_ages, old_values, ages, values, set),
+        Left::Always => add_all_aged(lowest, w, by, old_ages, old_values, ages, values, set),
         _ => add_all_older(
+            lowest,
             left,
             a,
             rows,

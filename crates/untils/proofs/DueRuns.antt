@@ -162,19 +162,19 @@ module _ (τ : Point → Stamp) (w : Window) (right : Point → List (List ℕ))
       ∙ ap₂ (λ us vs. us ++ vs) here (over-all n (suc a) (λ k u o. h k (omega arith) (omega arith)))
 
   -- the points before j are taken
-  pub record Going (m : ℕ) (old : List ℕ) (n : ℕ) (new : List ℕ) (k j : ℕ) : Type 0 where
+  pub record Going (lowest m : ℕ) (old : List ℕ) (n : ℕ) (new : List ℕ) (k j : ℕ) : Type 0 where
     pub begun : i .0 ≤ j
     pub reached : j ≤ m
-    pub put : Added old n new k (over (pointsFrom i (j - i .0)))
+    pub put : Added lowest old n new k (over (pointsFrom i (j - i .0)))
 
-  pub going-none : {m : ℕ} {old : List ℕ} {n : ℕ} → i .0 ≤ m → SetRoom old n → Going m old n old n (i .0)
+  pub going-none : {lowest m : ℕ} {old : List ℕ} {n : ℕ} → i .0 ≤ m → SetRoom old n → Going lowest m old n old n (i .0)
   going-none l h =
       let e : i .0 - i .0 ≡ 0 = omega arith in
       record { begun = omega arith; reached = l; put = rw e (added-none h) }
 
-  module _ {m : ℕ} {old : List ℕ} {n : ℕ} {new : List ℕ} {k j : ℕ} (t : Going m old n new k j) where
+  module _ {lowest m : ℕ} {old : List ℕ} {n : ℕ} {new : List ℕ} {k j : ℕ} (t : Going lowest m old n new k j) where
     pub going-more : {from to : Point} → DueRun (dueAt τ w (τ i)) (point j) m false from → DueRun (dueAt τ w (τ i)) from m true to
-        → {rows : List (List ℕ)} → gather right (pointsFrom from (to .0 - from .0)) ≡ rows → {new' : List ℕ} {k' : ℕ} → Added new k new' k' rows → Going m old n new' k' (to .0)
+        → {rows : List (List ℕ)} → gather right (pointsFrom from (to .0 - from .0)) ≡ rows → {new' : List ℕ} {k' : ℕ} → Added lowest new k new' k' rows → Going lowest m old n new' k' (to .0)
     going-more {from} {to} f d {rows} r h =
         let b = t .begun in
         let x = f .begun in
@@ -199,7 +199,7 @@ module _ (τ : Point → Stamp) (w : Window) (right : Point → List (List ℕ))
               ∙ ap (λ us. over (pointsFrom i (j - i .0)) ++ us) (over-append (pointsFrom (point j) (from .0 - j)) (pointsFrom from (to .0 - from .0)) ∙ ap₂ (λ us vs. us ++ vs) none (these ∙ r))));
         }
 
-    pub going-all : m ≤ j → Added old n new k (untilRows τ m w (λ u k. true) right i)
+    pub going-all : m ≤ j → Added lowest old n new k (untilRows τ m w (λ u k. true) right i)
     going-all l =
         let e : j ≡ m = omega (arith, t .reached) in
         rw e at (t .put)

@@ -46,8 +46,8 @@ pub all-true : (ps : List Point) → all (λ k. true) ps ≡ true
 all-true [] = refl
 all-true (k ∷ ps) = all-true ps
 
-pub nothing-asked : {left : Left} (sets : Point → List (List ℕ)) (r : List ℕ) (ps : List Point) → left ≡ Always → true ≡ all (passesAt left sets r) ps
-nothing-asked sets r ps e = rw e (sym (all-true ps))
+pub nothing-asked : {left : Left} (lowest : ℕ) (sets : Point → List (List ℕ)) (r : List ℕ) (ps : List Point) → left ≡ Always → true ≡ all (passesAt left lowest sets r) ps
+nothing-asked lowest sets r ps e = rw e (sym (all-true ps))
 
 -- what one element gives where some are chosen
 pub gather-one : {A B : Type 0} (p : A → Bool) (f : A → List B) (x : A) (xs : List A) → gather f (select p (x ∷ xs)) ≡ cond (p x) (f x) [] ++ gather f (select p xs)

@@ -15,6 +15,7 @@ use Rattle.meaning.specs.View.{passes}
 use Rattle.meaning.specs.declared.Left.{Left}
 use Rattle.kinds.specs.Kinds.{inMask}
 use Rattle.room.specs.Room.{SetsInOrder}
+use Rattle.room.specs.declared.Child.{Child}
 
 -- the window holds what has elapsed from a stamp to point j's
 abbrev pub dueAt : (Point → Stamp) → Window → Stamp → Point → Bool
@@ -27,17 +28,17 @@ pub record DueRun (p : Point → Bool) (j : Point) (m : ℕ) (want : Bool) (r : 
   pub passes : (k : Point) → j .0 ≤ k .0 → k .0 < r .0 → p k ≡ want
   pub stops : r .0 < m → p r ≡ not want
 
--- left passes at point k for a row that is cut down already
-abbrev pub passesAt : Left → (Point → List (List ℕ)) → List ℕ → Point → Bool
-passesAt l sets r k = passes l (isThere (lookUp r (sets k)))
+-- left, which has this lowest free variable, passes at point k for a row that is cut down already
+abbrev pub passesAt : Left → ℕ → (Point → List (List ℕ)) → List ℕ → Point → Bool
+passesAt l lowest sets r k = passes l (isThere (lookUp lowest r (sets k)))
 
--- left's test of row u at a point, over left's sets; the mask has left's variables
-abbrev pub leftTest : Left → ℕ → (Point → List (List ℕ)) → List ℕ → Point → Bool
-leftTest l mask sets u = passesAt l sets (cutTo (inMask mask) (valuationOf u))
+-- left's test of row u at a point, over left's sets, where a has left's variables
+abbrev pub leftTest : Left → Child → (Point → List (List ℕ)) → List ℕ → Point → Bool
+leftTest l a sets u = passesAt l (a .lowest) sets (cutTo (inMask (a .mask)) (valuationOf u))
 
 -- left's test of row u passes at every point from i on before j
-abbrev pub leads : Left → ℕ → (Point → List (List ℕ)) → Point → Point → List ℕ → Bool
-leads l mask sets i j u = all (leftTest l mask sets u) (pointsFrom i (j .0 - i .0))
+abbrev pub leads : Left → Child → (Point → List (List ℕ)) → Point → Point → List ℕ → Bool
+leads l a sets i j u = all (leftTest l a sets u) (pointsFrom i (j .0 - i .0))
 
 -- a node's sets at the points from i on before m stand in the words, where set `first` is its set at point `low`
 pub record Stand (rows at : List ℕ) (first : ℕ) (low i : Point) (m : ℕ) : Type 0 where

@@ -3,6 +3,7 @@ use meaning::Left;
 use meaning::Point;
 use meaning::Stamp;
 use meaning::Window;
+use room::Child;
 use rowset::Gathered;
 use rowset::Row;
 ghost use mathlib.Core.Path.{_≡_};
@@ -80,32 +81,31 @@ pub fn passes(left: Left, found: bool) -> bool
 }
 
 // The row is in a node's set at point k.
-pub fn found_at(rows: &[u32], at: &[u32], first: usize, low: Point, k: Point, r: Row) -> bool
-    requires { ⌜ Stand (now rows) (now at) first low k (k .0 + 1) ⌝ }
-    ensures { λ t. ⌜ t ≡ isThere (lookUp (wordsOf r) (setAt (now (rows .entry)) (now (at .entry)) first low k)) ⌝ }
+pub fn found_at(a: Child, rows: &[u32], at: &[u32], k: Point, r: Row) -> bool
+    requires { ⌜ Stand (now rows) (now at) (a .first) (a .low) k (k .0 + 1) ⌝ }
+    ensures { λ t. ⌜ t ≡ isThere (lookUp (a .lowest) (wordsOf r) (setAt (now (rows .entry)) (now (at .entry)) (a .first) (a .low) k)) ⌝ }
 {
-    let set = set_part(at, first, low, k);
-    rowset::contains(rows, set.from, set.to, r)
+    let set = set_part(at, a.first, a.low, k);
+    rowset::contains(a.lowest, rows, set.from, set.to, r)
 }
 
 // Left passes for a row that is cut down already at every point from i on before j.
 pub fn passes_from(
     left: Left,
+    a: Child,
     r: Row,
     rows: &[u32],
     at: &[u32],
-    fa: usize,
-    la: Point,
     i: Point,
     j: Point,
 ) -> bool
-    requires { ⌜ Stand (now rows) (now at) fa la i (j .0) ⌝ }
-    ensures { λ t. ⌜ t ≡ all (passesAt left (setAt (now (rows .entry)) (now (at .entry)) fa la) (wordsOf r)) (pointsFrom i (j .0 - i .0)) ⌝ }
+    requires { ⌜ Stand (now rows) (now at) (a .first) (a .low) i (j .0) ⌝ }
+    ensures { λ t. ⌜ t ≡ all (passesAt left (a .lowest) (setAt (now (rows .entry)) (now (at .entry)) (a .first) (a .low)) (wordsOf r)) (pointsFrom i (j .0 - i .0)) ⌝ }
 {
     let end = j.0;
     let mut k = i.0;
     while k < end {
-        let found = found_at(rows, at, fa, la, Point(k), r);
+        let found = found_at(a, rows, at, Point(k), r);
         if !passes(left, found) {
             return false;
         }
@@ -115,34 +115,23 @@ pub fn passes_from(
 }
 
 // Left passes for row u at every point from i on before j; nothing is looked up where nothing is asked.
-pub fn leads(
-    left: Left,
-    mask: u8,
-    u: Row,
-    rows: &[u32],
-    at: &[u32],
-    fa: usize,
-    la: Point,
-    i: Point,
-    j: Point,
-) -> bool
-    requires { ⌜ Stand (now rows) (now at) fa la i (j .0) ⌝ }
-    ensures { λ t. ⌜ t ≡ leads left mask (setAt (now (rows .entry)) (now (at .entry)) fa la) i j (wordsOf u) ⌝ }
+pub fn leads(left: Left, a: Child, u: Row, rows: &[u32], at: &[u32], i: Point, j: Point) -> bool
+    requires { ⌜ Stand (now rows) (now at) (a .first) (a .low) i (j .0) ⌝ }
+    ensures { λ t. ⌜ t ≡ leads left a (setAt (now (rows .entry)) (now (at .entry)) (a .first) (a .low)) i j (wordsOf u) ⌝ }
 {
     if let Left::Always = left {
         return true;
     }
-    passes_from(left, kinds::cut(mask, u), rows, at, fa, la, i, j)
+    passes_from(left, a, kinds::cut(a.mask, u), rows, at, i, j)
 }
 
 // Puts in the rows from..to for which left passes at every point from i on before j.
 pub fn put_leading(
+    lowest: u32,
     left: Left,
-    mask: u8,
+    a: Child,
     rows: &[u32],
     at: &[u32],
-    fa: usize,
-    la: Point,
     from: usize,
     to: usize,
     i: Point,
@@ -150,17 +139,17 @@ pub fn put_leading(
     out: &mut [u32],
     n: usize,
 ) -> usize
-    requires { ⌜ Stand (now rows) (now at) fa la i (j .0) ⌝ }
+    requires { ⌜ Stand (now rows) (now at) (a .first) (a .low) i (j .0) ⌝ }
     requires { ⌜ Run (now rows) from to ⌝ }
     requires { ⌜ SetRoom (now out) n ⌝ }
-    ensures { λ k. ⌜ Added (now (out .entry)) n (now (out .exit)) k (select (leads left mask (setAt (now (rows .entry)) (now (at .entry)) fa la) i j) (rowsFrom (now (rows .entry)) from (to - from))) ⌝ }
+    ensures { λ k. ⌜ Added lowest (now (out .entry)) n (now (out .exit)) k (select (leads left a (setAt (now (rows .entry)) (now (at .entry)) (a .first) (a .low)) i j) (rowsFrom (now (rows .entry)) from (to - from))) ⌝ }
 {
     let mut set = Gathered { count: n, near: 0 };
     let mut x = from;
     while x < to {
         let u = rowset::row_at(rows, x);
-        let ok = leads(left, mask, u, rows, at, fa, la, i, j);
-        set = rowset::add_if(ok, out, set, u);
+        let ok = leads(left, a, u, rows, at, i, j);
+        set = rowset::add_if(ok, lowest, out, set, u);
         x += 1;
     }
     set.count
@@ -169,27 +158,25 @@ pub fn put_leading(
 // Puts in what right's set at point j gives, where the test passed.
 fn put_point_if(
     ok: bool,
+    lowest: u32,
     left: Left,
-    mask: u8,
+    a: Child,
+    b: Child,
     rows: &[u32],
     at: &[u32],
-    fa: usize,
-    la: Point,
-    fb: usize,
-    lb: Point,
     i: Point,
     j: Point,
     out: &mut [u32],
     n: usize,
 ) -> usize
-    requires { ⌜ Stand (now rows) (now at) fa la i (j .0) ⌝ }
-    requires { ⌜ Stand (now rows) (now at) fb lb j (j .0 + 1) ⌝ }
+    requires { ⌜ Stand (now rows) (now at) (a .first) (a .low) i (j .0) ⌝ }
+    requires { ⌜ Stand (now rows) (now at) (b .first) (b .low) j (j .0 + 1) ⌝ }
     requires { ⌜ SetRoom (now out) n ⌝ }
-    ensures { λ k. ⌜ Added (now (out .entry)) n (now (out .exit)) k (cond ok (leading (leftTest left mask (setAt (now (rows .entry)) (now (at .entry)) fa la)) (setAt (now (rows .entry)) (now (at .entry)) fb lb) i j) []) ⌝ }
+    ensures { λ k. ⌜ Added lowest (now (out .entry)) n (now (out .exit)) k (cond ok (leading (leftTest left a (setAt (now (rows .entry)) (now (at .entry)) (a .first) (a .low))) (setAt (now (rows .entry)) (now (at .entry)) (b .first) (b .low)) i j) []) ⌝ }
 {
     if ok {
-        let set = set_part(at, fb, lb, j);
-        return put_leading(left, mask, rows, at, fa, la, set.from, set.to, i, j, out, n);
+        let set = set_part(at, b.first, b.low, j);
+        return put_leading(lowest, left, a, rows, at, set.from, set.to, i, j, out, n);
     }
     n
 }
@@ -215,16 +202,14 @@ fn due_there(
     due(w, start, progress::time_in(times, base, j))
 }
 
-// Until at point i over the points before m. Left's sets begin at set fa, which is for point la, right's at set fb, for point lb; where nothing is asked of left, right's may be given for left's.
+// Until at point i over the points before m, of a node with this lowest free variable. Left is a and right is b; where nothing is asked of left, right may be given for left.
 pub fn until(
+    lowest: u32,
     left: Left,
-    mask: u8,
+    a: Child,
+    b: Child,
     rows: &[u32],
     at: &[u32],
-    fa: usize,
-    la: Point,
-    fb: usize,
-    lb: Point,
     times: &[u32],
     base: Point,
     w: Window,
@@ -233,18 +218,18 @@ pub fn until(
     out: &mut [u32],
     n: usize,
 ) -> usize
-    requires { ⌜ Stand (now rows) (now at) fa la i m ⌝ }
-    requires { ⌜ Stand (now rows) (now at) fb lb i m ⌝ }
+    requires { ⌜ Stand (now rows) (now at) (a .first) (a .low) i m ⌝ }
+    requires { ⌜ Stand (now rows) (now at) (b .first) (b .low) i m ⌝ }
     requires { ⌜ SetRoom (now out) n ⌝ }
-    ensures { λ k. ⌜ Added (now (out .entry)) n (now (out .exit)) k (untilRows (stampIn base (now (times .entry))) m w (leftTest left mask (setAt (now (rows .entry)) (now (at .entry)) fa la)) (setAt (now (rows .entry)) (now (at .entry)) fb lb) i) ⌝ }
+    ensures { λ k. ⌜ Added lowest (now (out .entry)) n (now (out .exit)) k (untilRows (stampIn base (now (times .entry))) m w (leftTest left a (setAt (now (rows .entry)) (now (at .entry)) (a .first) (a .low))) (setAt (now (rows .entry)) (now (at .entry)) (b .first) (b .low)) i) ⌝ }
 {
     let start = progress::time_in(times, base, i);
     let mut k = n;
     let mut j = i.0;
     while j < m {
         let here = Point(j);
-        let ok = due_there(at, fb, lb, times, base, w, start, here);
-        k = put_point_if(ok, left, mask, rows, at, fa, la, fb, lb, i, here, out, k);
+        let ok = due_there(at, b.first, b.low, times, base, w, start, here);
+        k = put_point_if(ok, lowest, left, a, b, rows, at, i, here, out, k);
         j += 1;
     }
     k
@@ -275,6 +260,7 @@ fn due_run(
 
 // Until at point i over the points before m where nothing is asked of left: the rows of a run of points that are due stand together, and are put in as one. Right's sets begin at set first, which is for point low.
 pub fn eventually(
+    lowest: u32,
     rows: &[u32],
     at: &[u32],
     first: usize,
@@ -289,7 +275,7 @@ pub fn eventually(
 ) -> usize
     requires { ⌜ Stand (now rows) (now at) first low i m ⌝ }
     requires { ⌜ SetRoom (now out) n ⌝ }
-    ensures { λ k. ⌜ Added (now (out .entry)) n (now (out .exit)) k (untilRows (stampIn base (now (times .entry))) m w (λ u k. true) (setAt (now (rows .entry)) (now (at .entry)) first low) i) ⌝ }
+    ensures { λ k. ⌜ Added lowest (now (out .entry)) n (now (out .exit)) k (untilRows (stampIn base (now (times .entry))) m w (λ u k. true) (setAt (now (rows .entry)) (now (at .entry)) first low) i) ⌝ }
 {
     let start = progress::time_in(times, base, i);
     let mut k = n;
@@ -299,7 +285,7 @@ pub fn eventually(
         let to = due_run(times, base, w, start, from, m, true);
         let p = first + (from.0 - low.0) as usize;
         let q = first + (to.0 - low.0) as usize;
-        k = kinds::copy(rows, at[p] as usize, at[q] as usize, out, k);
+        k = kinds::copy(lowest, rows, at[p] as usize, at[q] as usize, out, k);
         j = to.0;
     }
     k

@@ -13,7 +13,7 @@ abbrev pub doubleRows : ℕ
 doubleRows = 176
 
 abbrev pub mediumRows : ℕ
-mediumRows = 256
+mediumRows = 224
 
 abbrev pub usualRows : ℕ
 usualRows = 704

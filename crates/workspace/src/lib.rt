@@ -20,7 +20,7 @@ const SMALL_ROWS: usize = 104;
 
 const DOUBLE_ROWS: usize = 176;
 
-const MEDIUM_ROWS: usize = 256;
+const MEDIUM_ROWS: usize = 224;
 
 const USUAL_ROWS: usize = 704;
 

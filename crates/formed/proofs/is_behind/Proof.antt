@@ -1,5 +1,5 @@
 -- `is_behind` meets its contract.
-use Prim.Native.Nat.{_-_}
+use Prim.Native.Nat.{suc, _-_}
 use mathlib.Core.Path.{ap₂, _∙_}
 use mathlib.Core.List.{_∷_}
 use lib.ListN.{getD}
@@ -11,7 +11,7 @@ use Rattle.formed.proofs.is_behind.Tie as tie
 returns : tie.Need-returns
 returns c =
     let a = c .before .before .before .before .before .before .before .args in
-    c .pair-before .ensures ∙ ap₂ (λ u v. before (getD (a .numbers .now) (a .i - 1) 0 ∷ u) (getD (a .numbers .now) (a .i) 0 ∷ v)) (c .before .before .before .row-at .ensures) (c .before .row-at2 .ensures)
+    c .pair-before .ensures ∙ ap₂ (λ u v. before (suc (a .lowest)) (getD (a .numbers .now) (a .i - 1) 0 ∷ u) (getD (a .numbers .now) (a .i) 0 ∷ v)) (c .before .before .before .row-at .ensures) (c .before .row-at2 .ensures)
 
 pub is-behind-spec : {M : Type 1} → statement M
 is-behind-spec =

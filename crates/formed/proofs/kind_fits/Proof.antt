@@ -1,5 +1,5 @@
 -- `kind_fits` meets its contract, by the node's times: only since has pairs, and its window is its body's.
-use Prim.Native.Nat.{ℕ, _-_}
+use Prim.Native.Nat.{ℕ, suc, _-_}
 use native.Mathlib.Omega.{arith}
 use mathlib.Core.Path.{_≡_, refl, sym, ap, _∙_}
 use mathlib.Core.Bool.{Bool, false, _&&_}
@@ -7,8 +7,9 @@ use mathlib.Core.List.{List}
 use borrow.Author.Needs.{needs}
 use Rattle.meaning.specs.Lists.{all}
 use Rattle.meaning.specs.Order.{ascending}
+use Rattle.meaning.specs.Formula.{free, lowestOf}
 use Rattle.meaning.specs.View.{viewOf}
-use Rattle.meaning.specs.RuleFile.{windowOf, bodies, bodyAt, nodeAt}
+use Rattle.meaning.specs.RuleFile.{windowOf, bodies, bodyAt, nodeAt, formulaAt}
 use Rattle.meaning.specs.declared.Window.{Window}
 use Rattle.meaning.specs.declared.Body.{Body}
 use Rattle.meaning.specs.declared.Times.{Times}
@@ -34,7 +35,7 @@ fits s {body = body} e f p q =
     let past : viewOf (nodeAt (a .rule .now) (a .x)) .times ≡ Past = sym e ∙ f in
     rw past
     (q ∙ aged-same (s .pre .0 .2) (windowOf body) (pairsOf s)
-    ∙ ap (λ (w : Window). ascending (pairsOf s) && all (pairFits (a .rule .now) (a .x) w) (pairsOf s)) (ap windowOf p ∙ sym (window-read (a .rule .now) (a .x) (other past))))
+    ∙ ap (λ (w : Window). ascending (suc (lowestOf (free (formulaAt (a .rule .now) (a .x))))) (pairsOf s) && all (pairFits (a .rule .now) (a .x) w) (pairsOf s)) (ap windowOf p ∙ sym (window-read (a .rule .now) (a .x) (other past))))
   where
     other : {t : Times} → t ≡ Past → t ≡ Here → ⊥
     other p h = let z : _≡_ {A = ℕ} 0 1 = cc in absurd (omega arith)

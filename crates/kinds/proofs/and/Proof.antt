@@ -12,10 +12,10 @@ use Rattle.kinds.proofs.and.Statement.{statement}
 use Rattle.kinds.proofs.and.Tie as tie
 
 abbrev Inv-loop : tie.InvT-loop
-Inv-loop f g rows from to start end out₀ n k₀ i₀ out k i = Through (rowAt rows) (λ us. andRows (inMask f) (inMask g) us (rowsFrom rows start (end - start))) to out₀ n (andRows (inMask f) (inMask g) (rowsFrom rows from (to - from)) (rowsFrom rows start (end - start))) out k i
+Inv-loop lowest f g rows from to start end out₀ n k₀ i₀ out k i = Through lowest (rowAt rows) (λ us. andRows (inMask f) (inMask g) us (rowsFrom rows start (end - start))) to out₀ n (andRows (inMask f) (inMask g) (rowsFrom rows from (to - from)) (rowsFrom rows start (end - start))) out k i
 
 abbrev μ-loop : tie.MeasureT-loop
-μ-loop f g rows from to start end out₀ n k₀ i₀ out k i = to - i
+μ-loop lowest f g rows from to start end out₀ n k₀ i₀ out k i = to - i
 
 loop-holds : tie.Need-loop-holds Inv-loop μ-loop
 unfolding rowsFrom

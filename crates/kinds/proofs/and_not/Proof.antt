@@ -15,10 +15,10 @@ use Rattle.kinds.proofs.and_not.Statement.{statement}
 use Rattle.kinds.proofs.and_not.Tie as tie
 
 abbrev Inv-loop : tie.InvT-loop
-Inv-loop g rows from to start end out₀ n set₀ i₀ out set i = Gathering (rowAt rows) (select (λ u. not (isThere (lookUp (cutTo (inMask g) (valuationOf u)) (rowsFrom rows start (end - start)))))) to out₀ set₀ (select (λ u. not (isThere (lookUp (cutTo (inMask g) (valuationOf u)) (rowsFrom rows start (end - start))))) (rowsFrom rows from (to - from))) out set i
+Inv-loop lowest g inner rows from to start end out₀ n set₀ i₀ out set i = Gathering lowest (rowAt rows) (select (λ u. not (isThere (lookUp inner (cutTo (inMask g) (valuationOf u)) (rowsFrom rows start (end - start)))))) to out₀ set₀ (select (λ u. not (isThere (lookUp inner (cutTo (inMask g) (valuationOf u)) (rowsFrom rows start (end - start))))) (rowsFrom rows from (to - from))) out set i
 
 abbrev μ-loop : tie.MeasureT-loop
-μ-loop g rows from to start end out₀ n set₀ i₀ out set i = to - i
+μ-loop lowest g inner rows from to start end out₀ n set₀ i₀ out set i = to - i
 
 loop-holds : tie.Need-loop-holds Inv-loop μ-loop
 unfolding rowsFrom
@@ -31,9 +31,9 @@ loop-again : tie.Need-loop-again Inv-loop μ-loop
 loop-again c =
     let a = c .before .before .before .before .before .before .before .before .before .before .before .args in
     let rights : List (List ℕ) = rowsFrom (a .rows .now) (a .start) (a .end - a .start) in
-    let p : List ℕ → Bool = λ u. not (isThere (lookUp (cutTo (inMask (a .g)) (valuationOf u)) rights)) in
+    let p : List ℕ → Bool = λ u. not (isThere (lookUp (a .inner) (cutTo (inMask (a .g)) (valuationOf u)) rights)) in
     gathers-on (c .before .before .before .before .before .before .before .before .loop .inv) (λ u. cond (p u) (u ∷ []) []) (select-one p) (c .before .before .before .before .before .before .before .loop-test .taken) (c .before .before .add-if .ensures)
-    (chosen p (λ u. u) (ap not (c .before .before .before .before .contains .ensures ∙ ap (λ r. isThere (lookUp r rights)) (c .before .before .before .before .before .cut .ensures))) refl (c .before .before .before .before .before .before .row-at .ensures))
+    (chosen p (λ u. u) (ap not (c .before .before .before .before .contains .ensures ∙ ap (λ r. isThere (lookUp (a .inner) r rights)) (c .before .before .before .before .before .cut .ensures))) refl (c .before .before .before .before .before .before .row-at .ensures))
 
 returns : tie.Need-returns Inv-loop μ-loop
 returns c = ended (c .before .loop .inv) refl (c .loop-test .left) .added

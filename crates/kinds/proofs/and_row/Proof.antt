@@ -14,10 +14,10 @@ use Rattle.kinds.proofs.and_row.Statement.{statement}
 use Rattle.kinds.proofs.and_row.Tie as tie
 
 abbrev Inv-loop : tie.InvT-loop
-Inv-loop f g u rows from to out₀ n set₀ i₀ out set i = Gathering (rowAt rows) (λ us. map (joined (inMask f) (wordsOf u)) (select (agrees (inMask f) (inMask g) (wordsOf u)) us)) to out₀ set₀ (map (joined (inMask f) (wordsOf u)) (select (agrees (inMask f) (inMask g) (wordsOf u)) (rowsFrom rows from (to - from)))) out set i
+Inv-loop lowest f g u rows from to out₀ n set₀ i₀ out set i = Gathering lowest (rowAt rows) (λ us. map (joined (inMask f) (wordsOf u)) (select (agrees (inMask f) (inMask g) (wordsOf u)) us)) to out₀ set₀ (map (joined (inMask f) (wordsOf u)) (select (agrees (inMask f) (inMask g) (wordsOf u)) (rowsFrom rows from (to - from)))) out set i
 
 abbrev μ-loop : tie.MeasureT-loop
-μ-loop f g u rows from to out₀ n set₀ i₀ out set i = to - i
+μ-loop lowest f g u rows from to out₀ n set₀ i₀ out set i = to - i
 
 loop-holds : tie.Need-loop-holds Inv-loop μ-loop
 unfolding rowsFrom

@@ -18,11 +18,11 @@ use Rattle.kinds.proofs.atom.Statement.{statement}
 use Rattle.kinds.proofs.atom.Tie as tie
 
 abbrev Inv-loop : tie.InvT-loop
-Inv-loop relation ts event out₀ n m set₀ i₀ out set i =
-    Gathering (rowWith (ts .count) event) (λ rows. atomRows (termsOf ts) (relationIn relation rows)) m out₀ set₀ (atomRows (termsOf ts) (relationIn relation (rowsWith (ts .count) event))) out set i
+Inv-loop lowest relation ts event out₀ n m set₀ i₀ out set i =
+    Gathering lowest (rowWith (ts .count) event) (λ rows. atomRows (termsOf ts) (relationIn relation rows)) m out₀ set₀ (atomRows (termsOf ts) (relationIn relation (rowsWith (ts .count) event))) out set i
 
 abbrev μ-loop : tie.MeasureT-loop
-μ-loop relation ts event out₀ n m set₀ i₀ out set i = m - i
+μ-loop lowest relation ts event out₀ n m set₀ i₀ out set i = m - i
 
 loop-holds : tie.Need-loop-holds Inv-loop μ-loop
 loop-holds c = rw (c .row-total .ensures) (gathers-all (gather-from (c .before .before .before .pre .1)))

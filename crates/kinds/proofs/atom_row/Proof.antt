@@ -24,4 +24,4 @@ returns-2 : tie.Need-returns-2
 returns-2 c = rw (ne-eqb _ _ (c .if1 .left)) (gathered-none (c .before .before .pre))
 
 pub atom-row-spec : {M : Type 1} → statement M
-atom-row-spec = tie.close (tie.spec (λ c κs. search needs) (λ c κs. search needs) (λ c κs. search needs) (λ c. c .before .before .add-if .kept .1 .0) returns returns-2)
+atom-row-spec = tie.close (tie.spec (λ c κs. search needs) (λ c κs. search needs) (λ c κs. search needs) (λ c. c .before .before .add-if .kept .1 .1 .0) returns returns-2)

@@ -13,10 +13,10 @@ use Rattle.kinds.proofs.exists.Statement.{statement}
 use Rattle.kinds.proofs.exists.Tie as tie
 
 abbrev Inv-loop : tie.InvT-loop
-Inv-loop x rows from to out₀ n set₀ i₀ out set i = Gathering (rowAt rows) (map (λ u. cutTo (λ y. not (eqb y x)) (valuationOf u))) to out₀ set₀ (map (λ u. cutTo (λ y. not (eqb y x)) (valuationOf u)) (rowsFrom rows from (to - from))) out set i
+Inv-loop lowest x rows from to out₀ n set₀ i₀ out set i = Gathering lowest (rowAt rows) (map (λ u. cutTo (λ y. not (eqb y x)) (valuationOf u))) to out₀ set₀ (map (λ u. cutTo (λ y. not (eqb y x)) (valuationOf u)) (rowsFrom rows from (to - from))) out set i
 
 abbrev μ-loop : tie.MeasureT-loop
-μ-loop x rows from to out₀ n set₀ i₀ out set i = to - i
+μ-loop lowest x rows from to out₀ n set₀ i₀ out set i = to - i
 
 loop-holds : tie.Need-loop-holds Inv-loop μ-loop
 unfolding rowsFrom

@@ -15,10 +15,10 @@ use Rattle.kinds.proofs.keep.Statement.{statement}
 use Rattle.kinds.proofs.keep.Tie as tie
 
 abbrev Inv-loop : tie.InvT-loop
-Inv-loop c s t rows from to out₀ n set₀ i₀ out set i = Gathering (rowAt rows) (select (λ u. compares c (value (valuationOf u) s) (value (valuationOf u) t))) to out₀ set₀ (select (λ u. compares c (value (valuationOf u) s) (value (valuationOf u) t)) (rowsFrom rows from (to - from))) out set i
+Inv-loop lowest c s t rows from to out₀ n set₀ i₀ out set i = Gathering lowest (rowAt rows) (select (λ u. compares c (value (valuationOf u) s) (value (valuationOf u) t))) to out₀ set₀ (select (λ u. compares c (value (valuationOf u) s) (value (valuationOf u) t)) (rowsFrom rows from (to - from))) out set i
 
 abbrev μ-loop : tie.MeasureT-loop
-μ-loop c s t rows from to out₀ n set₀ i₀ out set i = to - i
+μ-loop lowest c s t rows from to out₀ n set₀ i₀ out set i = to - i
 
 loop-holds : tie.Need-loop-holds Inv-loop μ-loop
 unfolding rowsFrom

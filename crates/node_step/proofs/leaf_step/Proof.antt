@@ -19,7 +19,7 @@ use Rattle.node_step.specs.declared.Spot.{Spot}
 use Rattle.node_step.specs.Figures.{called}
 use Rattle.node_step.specs.Walks.{setWords}
 use Rattle.node_step.specs.Parts.{NextSettled, PointsSettled}
-use Rattle.node_step.proofs.Numbers.{Numbers, numbers, load-ready}
+use Rattle.node_step.proofs.Numbers.{Numbers, figures-at, numbers, load-ready}
 use Rattle.node_step.proofs.Going.{one-space, none-settled, one-more, told-settled}
 use Rattle.node_step.proofs.Keeping.{set-room, table-stays, room-stays, sets-ready, room-then, nothing-put, rising}
 use Rattle.node_step.proofs.Stepping.{Loads, base, oldAges, oldValues, pairs-fit, points-ready, whole, block-ready}
@@ -46,10 +46,10 @@ abbrev spot : tie.Start → Spot
 spot s = record { below = s .args .h; sets = s .args .h; left = s .args .h; right = s .args .h; kept = s .args .kept }
 
 abbrev noChild : Child
-noChild = record { first = 0; low = point 0; count = 0; mask = 0 }
+noChild = record { first = 0; low = point 0; count = 0; mask = 0; lowest = 0 }
 
 abbrev made : tie.After-settle-leaf → List ℕ
-made c = c .settle-leaf .last .1 .1 .1 .1 .1 .1 .0
+made c = c .settle-leaf .last .1 .1 .1 .1 .1 .1 .1 .0
 
 numbers-at : (c : tie.After-own-figures)
     → Numbers (entry c .args .log .points) (entry c .args .x) (length (entry c .args .stamps .now)) (length (entry c .args .owners .now)) (length (entry c .args .numbers .now)) (length (entry c .args .values .now)) (length (entry c .args .figures .now)) (c .own-figures .result)
@@ -96,13 +96,13 @@ settle-leaf-requires c κs =
 -- the point that is added, settled
 point-at : (c : tie.After-settle-leaf) → pointsAdded (entry (figured (loaded c)) .args .event .now) ≡ 1
     → NextSettled (entry (figured (loaded c)) .args .rule .now) (entry (figured (loaded c)) .args .event .now) (loaded c .load-sets .last .1 .1 .1 .1 .1 .1 .0) (loaded c .load-sets .last .1 .1 .1 .1 .1 .1 .1 .0) (entry (figured (loaded c)) .args .stamps .now) (base (loads-at (loaded c))) (oldAges (loads-at (loaded c))) (oldValues (loads-at (loaded c))) noChild noChild
-    (entry (figured (loaded c)) .args .h + (figured (loaded c) .own-figures .result .before - figured (loaded c) .own-figures .result .low .0)) (point (figured (loaded c) .own-figures .result .before)) (point (figured (loaded c) .own-figures .result .before)) (nodeAt (entry (figured (loaded c)) .args .rule .now) (entry (figured (loaded c)) .args .x)) (c .settle-leaf .last .1 .1 .0) (c .settle-leaf .last .1 .1 .1 .0) (c .settle-leaf .result)
+    (entry (figured (loaded c)) .args .h + (figured (loaded c) .own-figures .result .before - figured (loaded c) .own-figures .result .low .0)) (figured (loaded c) .own-figures .result .lowest) (point (figured (loaded c) .own-figures .result .before)) (point (figured (loaded c) .own-figures .result .before)) (nodeAt (entry (figured (loaded c)) .args .rule .now) (entry (figured (loaded c)) .args .x)) (c .settle-leaf .last .1 .1 .1 .0) (c .settle-leaf .last .1 .1 .1 .1 .0) (c .settle-leaf .result)
 point-at c e = c .settle-leaf .ensures .one e (entry (figured (loaded c)) .args .stamps .now) (base (loads-at (loaded c))) (oldAges (loads-at (loaded c))) (oldValues (loads-at (loaded c))) noChild noChild (point (figured (loaded c) .own-figures .result .before)) (point (figured (loaded c) .own-figures .result .before))
 
 -- all points that are new
 points-at : (c : tie.After-settle-leaf)
     → PointsSettled (entry (figured (loaded c)) .args .rule .now) (entry (figured (loaded c)) .args .event .now) (loaded c .load-sets .last .1 .1 .1 .1 .1 .1 .0) (loaded c .load-sets .last .1 .1 .1 .1 .1 .1 .1 .0) (entry (figured (loaded c)) .args .stamps .now) (base (loads-at (loaded c))) (oldAges (loads-at (loaded c))) (oldValues (loads-at (loaded c))) noChild noChild
-    (entry (figured (loaded c)) .args .h + (figured (loaded c) .own-figures .result .before - figured (loaded c) .own-figures .result .low .0)) (point (figured (loaded c) .own-figures .result .before)) (point (figured (loaded c) .own-figures .result .after)) (nodeAt (entry (figured (loaded c)) .args .rule .now) (entry (figured (loaded c)) .args .x)) (c .settle-leaf .last .1 .1 .0) (c .settle-leaf .last .1 .1 .1 .0) (c .settle-leaf .result)
+    (entry (figured (loaded c)) .args .h + (figured (loaded c) .own-figures .result .before - figured (loaded c) .own-figures .result .low .0)) (figured (loaded c) .own-figures .result .lowest) (point (figured (loaded c) .own-figures .result .before)) (point (figured (loaded c) .own-figures .result .after)) (nodeAt (entry (figured (loaded c)) .args .rule .now) (entry (figured (loaded c)) .args .x)) (c .settle-leaf .last .1 .1 .1 .0) (c .settle-leaf .last .1 .1 .1 .1 .0) (c .settle-leaf .result)
 points-at c = elim (some-added (entry (figured (loaded c)) .args .event .now)) [
   | inl z ↦ let (told, rows, at) = c .settle-leaf .ensures .none z in none-settled (points-ready (loads-at (loaded c))) (omega (arith, new-at (figured (loaded c)), z)) told rows at
   | inr e ↦ one-more (points-ready (loads-at (loaded c))) (omega (arith, new-at (figured (loaded c)), e)) (point-at c e)
@@ -110,7 +110,7 @@ points-at c = elim (some-added (entry (figured (loaded c)) .args .event .now)) [
 
 settled-at : (c : tie.After-settle-leaf) → c .settle-leaf .result ≡ true
     → PointsSettled (entry (figured (loaded c)) .args .rule .now) (entry (figured (loaded c)) .args .event .now) (loaded c .load-sets .last .1 .1 .1 .1 .1 .1 .0) (loaded c .load-sets .last .1 .1 .1 .1 .1 .1 .1 .0) (entry (figured (loaded c)) .args .stamps .now) (base (loads-at (loaded c))) (oldAges (loads-at (loaded c))) (oldValues (loads-at (loaded c))) noChild noChild
-    (entry (figured (loaded c)) .args .h + (figured (loaded c) .own-figures .result .before - figured (loaded c) .own-figures .result .low .0)) (point (figured (loaded c) .own-figures .result .before)) (point (figured (loaded c) .own-figures .result .after)) (nodeAt (entry (figured (loaded c)) .args .rule .now) (entry (figured (loaded c)) .args .x)) (c .settle-leaf .last .1 .1 .0) (c .settle-leaf .last .1 .1 .1 .0) true
+    (entry (figured (loaded c)) .args .h + (figured (loaded c) .own-figures .result .before - figured (loaded c) .own-figures .result .low .0)) (figured (loaded c) .own-figures .result .lowest) (point (figured (loaded c) .own-figures .result .before)) (point (figured (loaded c) .own-figures .result .after)) (nodeAt (entry (figured (loaded c)) .args .rule .now) (entry (figured (loaded c)) .args .x)) (c .settle-leaf .last .1 .1 .1 .0) (c .settle-leaf .last .1 .1 .1 .1 .0) true
 settled-at c told = told-settled (points-at c) told
 
 returns : tie.Need-returns
@@ -160,7 +160,7 @@ pub leaf-step-spec : {M : Type 1} → statement M
 leaf-step-spec =
     tie.close
     (tie.spec
-    (λ c κs. let s = c .before .before .before .before .before .before .before .before .before .before .before .before in omega (arith, s .pre .0 .figures-there, s .pre .1 .0 .0))
+    (λ c κs. let s = c .before .before .before .before .before .before .before .before .before .before .before .before in figures-at (s .pre .0) (s .args .x) (s .pre .1 .0 .0))
     (λ c. omega (arith, numbers-at (c .before) .low-before))
     (λ c. search needs)
     load-sets-requires

@@ -9,7 +9,7 @@ use borrow.Author.Tests.{not-true, not-false}
 use Rattle.meaning.proofs.Accepted.{accepted}
 use Rattle.node_step.specs.Figures.{called}
 use Rattle.node_step.specs.Walks.{setWords}
-use Rattle.node_step.proofs.Numbers.{Numbers, numbers, load-ready}
+use Rattle.node_step.proofs.Numbers.{Numbers, figures-at, numbers, load-ready}
 use Rattle.node_step.proofs.Seeing.{children-figures}
 use Rattle.node_step.proofs.Keeping.{set-room, table-stays, room-stays}
 use Rattle.node_step.proofs.Stepping.{Loads, points-ready, block-ready, down-laid}
@@ -71,7 +71,7 @@ table-there c = omega (arith, entry c .pre .1 .1 .1 .1 .table)
 
 -- the words in which they were made
 abbrev made : tie.After-settle-points → List ℕ
-made c = c .settle-points .last .1 .1 .1 .1 .1 .1 .1 .1 .1 .1 .1 .1 .1 .1 .0
+made c = c .settle-points .last .1 .1 .1 .1 .1 .1 .1 .1 .1 .1 .1 .1 .1 .1 .1 .0
 
 settle-points-requires : tie.Need-settle-points-requires
 settle-points-requires c κs = (points-ready (loads-at (c .before .before .before .before .before .before .before .before)), set-room (entry (figured (c .before .before .before .before .before .before .before .before)) .args .blocks .now) (table-there (figured (c .before .before .before .before .before .before .before .before))))
@@ -102,7 +102,7 @@ own-step-spec =
     (tie.spec
     node-at-requires
     children-at-requires
-    (λ c κs. let s = c .before .before .before .before .before .before .before .before .before .before .before .before .before .before in omega (arith, s .pre .0 .figures-there, s .pre .1 .0 .0))
+    (λ c κs. let s = c .before .before .before .before .before .before .before .before .before .before .before .before .before .before in figures-at (s .pre .0) (s .args .x) (s .pre .1 .0 .0))
     (λ c. omega (arith, numbers-at (c .before) .few-points))
     (λ c. omega (arith, numbers-at (c .before) .few-points, numbers-at (c .before) .few-stamps))
     (λ c. omega (arith, numbers-at (c .before) .few-stamps))

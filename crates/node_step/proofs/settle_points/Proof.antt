@@ -10,11 +10,11 @@ use Rattle.node_step.proofs.settle_points.Statement.{statement}
 use Rattle.node_step.proofs.settle_points.Tie as tie
 
 abbrev Inv-loop : tie.InvT-loop
-Inv-loop node rule rows₀ at₀ sets left right times base event old-ages old-values start end out₀ i₀ rows at out i =
-    Going rule event rows₀ at₀ times base old-ages old-values left right sets start end node rows at (point i) × (length out ≡ length out₀)
+Inv-loop node lowest rule rows₀ at₀ sets left right times base event old-ages old-values start end out₀ i₀ rows at out i =
+    Going rule event rows₀ at₀ times base old-ages old-values left right sets lowest start end node rows at (point i) × (length out ≡ length out₀)
 
 abbrev μ-loop : tie.MeasureT-loop
-μ-loop node rule rows₀ at₀ sets left right times base event old-ages old-values start end out₀ i₀ rows at out i = end .0 - i
+μ-loop node lowest rule rows₀ at₀ sets left right times base event old-ages old-values start end out₀ i₀ rows at out i = end .0 - i
 
 loop-holds : tie.Need-loop-holds Inv-loop μ-loop
 loop-holds c = (going-none (c .before .before .before .before .before .before .before .before .pre .0), omega arith)

@@ -1,5 +1,5 @@
 -- `add` meets its contract: the pairs are too many already, or the pair is there, is one too many, or is put in where the search has stopped.
-use Prim.Native.Nat.{_+_, _≤_}
+use Prim.Native.Nat.{suc, _+_, _≤_}
 use native.Mathlib.Omega.{arith}
 use mathlib.Core.Path.{_≡_, sym, _∙_}
 use mathlib.Core.List.{_∷_}
@@ -15,10 +15,10 @@ use Rattle.pairs.proofs.add.Statement.{statement}
 use Rattle.pairs.proofs.add.Tie as tie
 
 -- what the search has answered
-here : (c : tie.After-known-told) → let a = c .before .before .before .before .before .before .before .before .before .args in lookUp (a .age ∷ wordsOf (a .r)) (pairsFrom (a .ages .now) (a .values .now) 0 (a .set .count)) ≡ There (c .before .sought .given .0 .0)
+here : (c : tie.After-known-told) → let a = c .before .before .before .before .before .before .before .before .before .args in lookUp (suc (a .lowest)) (a .age ∷ wordsOf (a .r)) (pairsFrom (a .ages .now) (a .values .now) 0 (a .set .count)) ≡ There (c .before .sought .given .0 .0)
 here c = sym (c .before .before .before .seek-near .ensures) ∙ c .before .sought .given .1
 
-missed : (c : tie.After-known-told2) → let a = c .before .before .before .before .before .before .before .before .before .args in lookUp (a .age ∷ wordsOf (a .r)) (pairsFrom (a .ages .now) (a .values .now) 0 (a .set .count)) ≡ Absent (c .before .sought2 .given .0 .0)
+missed : (c : tie.After-known-told2) → let a = c .before .before .before .before .before .before .before .before .before .args in lookUp (suc (a .lowest)) (a .age ∷ wordsOf (a .r)) (pairsFrom (a .ages .now) (a .values .now) 0 (a .set .count)) ≡ Absent (c .before .sought2 .given .0 .0)
 missed c = sym (c .before .before .before .seek-near .ensures) ∙ c .before .sought2 .given .1
 
 returns : tie.Need-returns

@@ -14,11 +14,11 @@ use Rattle.pairs.proofs.add_each_grown.Statement.{statement}
 use Rattle.pairs.proofs.add_each_grown.Tie as tie
 
 abbrev Inv-loop : tie.InvT-loop
-Inv-loop old-ages old-values m by most ages₀ values₀ g₀ x₀ ages values g x =
-    Turns (pairAt old-ages old-values) (grownPairs by most) m (grownPairs by most (pairsFrom old-ages old-values 0 m)) (PairsAdded ages₀ values₀ g₀ ages values g) x
+Inv-loop lowest old-ages old-values m by most ages₀ values₀ g₀ x₀ ages values g x =
+    Turns (pairAt old-ages old-values) (grownPairs by most) m (grownPairs by most (pairsFrom old-ages old-values 0 m)) (PairsAdded lowest ages₀ values₀ g₀ ages values g) x
 
 abbrev μ-loop : tie.MeasureT-loop
-μ-loop old-ages old-values m by most ages₀ values₀ g₀ x₀ ages values g x = m - x
+μ-loop lowest old-ages old-values m by most ages₀ values₀ g₀ x₀ ages values g x = m - x
 
 loop-holds : tie.Need-loop-holds Inv-loop μ-loop
 unfolding pairsFrom

@@ -13,7 +13,7 @@ put-grown-requires c κs =
     let a = s .args in
     let b = c .before .before .fits-behind .ensures (c .before .if1 .taken) in
     let small : a .most < 4294967296 = omega arith in
-    ((s .pre .0 .0 .agesThere, b .room), λ k l. omega (arith, ages-small (a .old-ages .now) (a .old-values .now) (a .m) (a .by) (a .most) (s .pre .0 .1) (b .some) (b .uncut) k l))
+    ((s .pre .0 .0 .agesThere, b .room), λ k l. omega (arith, ages-small (a .lowest) (a .old-ages .now) (a .old-values .now) (a .m) (a .by) (a .most) (s .pre .0 .1) (b .some) (b .uncut) k l))
 
 copy-words-requires : tie.Need-copy-words-requires
 copy-words-requires c κs =
@@ -25,7 +25,7 @@ returns : tie.Need-returns
 returns c =
     let s = c .before .before .before .before .before .before .before .before .before .before .before .before .before .before .before in
     let a = s .args in
-    add-behind (a .old-ages .now) (a .old-values .now) (a .m) (a .by) (a .most) (s .pre .0 .1) (c .before .before .before .before .before .before .before .before .before .fits-behind .ensures (c .before .before .before .before .before .before .before .before .if1 .taken)) (s .pre .1) (c .before .before .before .before .before .before .put-grown .ensures) (c .before .before .copy-words .ensures)
+    add-behind (a .lowest) (a .old-ages .now) (a .old-values .now) (a .m) (a .by) (a .most) (s .pre .0 .1) (c .before .before .before .before .before .before .before .before .before .fits-behind .ensures (c .before .before .before .before .before .before .before .before .if1 .taken)) (s .pre .1) (c .before .before .before .before .before .before .put-grown .ensures) (c .before .before .copy-words .ensures)
 
 pub add-grown-spec : {M : Type 1} → statement M
 add-grown-spec =

@@ -13,11 +13,11 @@ use Rattle.pairs.proofs.add_young.Statement.{statement}
 use Rattle.pairs.proofs.add_young.Tie as tie
 
 abbrev Inv-loop : tie.InvT-loop
-Inv-loop rows from to age ages₀ values₀ g₀ x₀ ages values g x =
-    Turns (rowAt rows) (map (λ u. age ∷ u)) to (map (λ u. age ∷ u) (rowsFrom rows from (to - from))) (PairsAdded ages₀ values₀ g₀ ages values g) x
+Inv-loop lowest rows from to age ages₀ values₀ g₀ x₀ ages values g x =
+    Turns (rowAt rows) (map (λ u. age ∷ u)) to (map (λ u. age ∷ u) (rowsFrom rows from (to - from))) (PairsAdded lowest ages₀ values₀ g₀ ages values g) x
 
 abbrev μ-loop : tie.MeasureT-loop
-μ-loop rows from to age ages₀ values₀ g₀ x₀ ages values g x = to - x
+μ-loop lowest rows from to age ages₀ values₀ g₀ x₀ ages values g x = to - x
 
 loop-holds : tie.Need-loop-holds Inv-loop μ-loop
 unfolding rowsFrom

@@ -13,7 +13,7 @@ returns c =
     let a = j .before .before .args in
     let x = a .x in
     let y = a .y in
-    joint-before (a .a) (x .v0) (x .v1 ∷ x .v2 ∷ x .v3 ∷ []) (a .b) (y .v0) (y .v1 ∷ y .v2 ∷ y .v3 ∷ []) (omega arith) (omega arith) (omega (arith, c .if1 .taken, j .joint2 .ensures, j .before .joint .ensures))
+    joint-before (a .lowest) (a .a) (x .v0) (x .v1 ∷ x .v2 ∷ x .v3 ∷ []) (a .b) (y .v0) (y .v1 ∷ y .v2 ∷ y .v3 ∷ []) (omega arith) (omega arith) (omega (arith, c .if1 .taken, j .joint2 .ensures, j .before .joint .ensures))
 
 returns-2 : tie.Need-returns-2
 returns-2 c =
@@ -21,7 +21,7 @@ returns-2 c =
     let a = j .before .before .args in
     let x = a .x in
     let y = a .y in
-    joint-after (a .a) (x .v0) (x .v1 ∷ x .v2 ∷ x .v3 ∷ []) (a .b) (y .v0) (y .v1 ∷ y .v2 ∷ y .v3 ∷ []) (omega arith) (omega arith) (omega (arith, c .if2 .taken, j .joint2 .ensures, j .before .joint .ensures))
+    joint-after (a .lowest) (a .a) (x .v0) (x .v1 ∷ x .v2 ∷ x .v3 ∷ []) (a .b) (y .v0) (y .v1 ∷ y .v2 ∷ y .v3 ∷ []) (omega arith) (omega arith) (omega (arith, c .if2 .taken, j .joint2 .ensures, j .before .joint .ensures))
 
 returns-3 : tie.Need-returns-3
 returns-3 c =
@@ -30,7 +30,7 @@ returns-3 c =
     let x = a .x in
     let y = a .y in
     c .compare .ensures
-    ∙ joint-same (a .a) (x .v0) (x .v1 ∷ x .v2 ∷ x .v3 ∷ []) (a .b) (y .v0) (y .v1 ∷ y .v2 ∷ y .v3 ∷ []) (omega arith) (omega arith)
+    ∙ joint-same (a .lowest) (a .a) (x .v0) (x .v1 ∷ x .v2 ∷ x .v3 ∷ []) (a .b) (y .v0) (y .v1 ∷ y .v2 ∷ y .v3 ∷ []) (omega arith) (omega arith)
     (omega (arith, c .before .before .if1 .left, c .before .if2 .left, j .joint2 .ensures, j .before .joint .ensures))
 
 pub compare-spec : {M : Type 1} → statement M

@@ -1,5 +1,5 @@
 -- `seek` meets its contract. The loop's invariant: the answer is that of the pairs from i on.
-use Prim.Native.Nat.{_-_, _≤_}
+use Prim.Native.Nat.{suc, _-_, _≤_}
 use native.Mathlib.Omega.{arith}
 use mathlib.Core.Path.{_≡_, refl, sym, ap, _∙_}
 use mathlib.Core.List.{_∷_}
@@ -14,11 +14,11 @@ use Rattle.pairs.proofs.seek.Statement.{statement}
 use Rattle.pairs.proofs.seek.Tie as tie
 
 abbrev Inv-loop : tie.InvT-loop
-Inv-loop ages values from n age r i₀ i =
-    (i ≤ n) × (onward from (lookUp (age ∷ wordsOf r) (pairsFrom ages values from (n - from))) ≡ onward i (lookUp (age ∷ wordsOf r) (pairsFrom ages values i (n - i))))
+Inv-loop lowest ages values from n age r i₀ i =
+    (i ≤ n) × (onward from (lookUp (suc lowest) (age ∷ wordsOf r) (pairsFrom ages values from (n - from))) ≡ onward i (lookUp (suc lowest) (age ∷ wordsOf r) (pairsFrom ages values i (n - i))))
 
 abbrev μ-loop : tie.MeasureT-loop
-μ-loop ages values from n age r i₀ i = n - i
+μ-loop lowest ages values from n age r i₀ i = n - i
 
 loop-holds : tie.Need-loop-holds Inv-loop μ-loop
 loop-holds c = (c .before .before .pre .1, refl)
@@ -28,31 +28,31 @@ unfolding pairsFrom
 loop-again c =
     let a = c .before .before .before .before .before .before .before .before .before .args in
     let l = c .before .before .before .before .before .before .loop in
-    let e = sym (c .before .before .compare .ensures ∙ ap (λ u. compared (getD (a .ages .now) (l .i) 0 ∷ u) (a .age ∷ wordsOf (a .r))) (c .before .before .before .row-at .ensures)) ∙ c .enum-told .given .1 in
-    (omega arith, l .inv .1 ∙ seek-on (pairAt (a .ages .now) (a .values .now)) (a .age ∷ wordsOf (a .r)) (λ k. refl) (a .n) (l .i) (c .before .before .before .before .before .loop-test .taken) e)
+    let e = sym (c .before .before .compare .ensures ∙ ap (λ u. compared (suc (a .lowest)) (getD (a .ages .now) (l .i) 0 ∷ u) (a .age ∷ wordsOf (a .r))) (c .before .before .before .row-at .ensures)) ∙ c .enum-told .given .1 in
+    (omega arith, l .inv .1 ∙ seek-on (suc (a .lowest)) (pairAt (a .ages .now) (a .values .now)) (a .age ∷ wordsOf (a .r)) (λ k. refl) (a .n) (l .i) (c .before .before .before .before .before .loop-test .taken) e)
 
 returns : tie.Need-returns Inv-loop μ-loop
 unfolding pairsFrom
 returns c =
     let a = c .before .before .before .before .before .before .before .before .before .args in
     let l = c .before .before .before .before .before .before .loop in
-    let e = sym (c .before .before .compare .ensures ∙ ap (λ u. compared (getD (a .ages .now) (l .i) 0 ∷ u) (a .age ∷ wordsOf (a .r))) (c .before .before .before .row-at .ensures)) ∙ c .enum-told2 .given .1 in
-    sym (l .inv .1 ∙ seek-there (pairAt (a .ages .now) (a .values .now)) (a .age ∷ wordsOf (a .r)) (λ k. refl) (a .n) (l .i) (c .before .before .before .before .before .loop-test .taken) e)
+    let e = sym (c .before .before .compare .ensures ∙ ap (λ u. compared (suc (a .lowest)) (getD (a .ages .now) (l .i) 0 ∷ u) (a .age ∷ wordsOf (a .r))) (c .before .before .before .row-at .ensures)) ∙ c .enum-told2 .given .1 in
+    sym (l .inv .1 ∙ seek-there (suc (a .lowest)) (pairAt (a .ages .now) (a .values .now)) (a .age ∷ wordsOf (a .r)) (λ k. refl) (a .n) (l .i) (c .before .before .before .before .before .loop-test .taken) e)
 
 returns-2 : tie.Need-returns-2 Inv-loop μ-loop
 unfolding pairsFrom
 returns-2 c =
     let a = c .before .before .before .before .before .before .before .before .before .args in
     let l = c .before .before .before .before .before .before .loop in
-    let e = sym (c .before .before .compare .ensures ∙ ap (λ u. compared (getD (a .ages .now) (l .i) 0 ∷ u) (a .age ∷ wordsOf (a .r))) (c .before .before .before .row-at .ensures)) ∙ c .enum-told3 .given .1 in
-    sym (l .inv .1 ∙ seek-absent (pairAt (a .ages .now) (a .values .now)) (a .age ∷ wordsOf (a .r)) (λ k. refl) (a .n) (l .i) (c .before .before .before .before .before .loop-test .taken) e)
+    let e = sym (c .before .before .compare .ensures ∙ ap (λ u. compared (suc (a .lowest)) (getD (a .ages .now) (l .i) 0 ∷ u) (a .age ∷ wordsOf (a .r))) (c .before .before .before .row-at .ensures)) ∙ c .enum-told3 .given .1 in
+    sym (l .inv .1 ∙ seek-absent (suc (a .lowest)) (pairAt (a .ages .now) (a .values .now)) (a .age ∷ wordsOf (a .r)) (λ k. refl) (a .n) (l .i) (c .before .before .before .before .before .loop-test .taken) e)
 
 returns-3 : tie.Need-returns-3 Inv-loop μ-loop
 unfolding pairsFrom
 returns-3 c =
     let a = c .before .before .before .before .args in
     let l = c .before .loop in
-    sym (l .inv .1 ∙ seek-end (pairAt (a .ages .now) (a .values .now)) (a .age ∷ wordsOf (a .r)) (λ k. refl) (a .n) (l .i) (c .loop-test .left))
+    sym (l .inv .1 ∙ seek-end (suc (a .lowest)) (pairAt (a .ages .now) (a .values .now)) (a .age ∷ wordsOf (a .r)) (λ k. refl) (a .n) (l .i) (c .loop-test .left))
 
 pub seek-spec : {M : Type 1} → statement M
 seek-spec =

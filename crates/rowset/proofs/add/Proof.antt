@@ -10,16 +10,16 @@ use Rattle.rowset.proofs.add.Statement.{statement}
 use Rattle.rowset.proofs.add.Tie as tie
 
 -- what the search has answered
-here : (c : tie.After-known-told) → let a = c .before .before .before .before .before .before .before .args in lookUp (wordsOf (a .r)) (rowsFrom (a .out .now) 0 (a .set .count)) ≡ There (c .before .sought .given .0 .0)
+here : (c : tie.After-known-told) → let a = c .before .before .before .before .before .before .before .args in lookUp (a .lowest) (wordsOf (a .r)) (rowsFrom (a .out .now) 0 (a .set .count)) ≡ There (c .before .sought .given .0 .0)
 here c = sym (c .before .before .before .seek-near .ensures) ∙ c .before .sought .given .1
 
-missed : (c : tie.After-known-told2) → let a = c .before .before .before .before .before .before .before .args in lookUp (wordsOf (a .r)) (rowsFrom (a .out .now) 0 (a .set .count)) ≡ Absent (c .before .sought2 .given .0 .0)
+missed : (c : tie.After-known-told2) → let a = c .before .before .before .before .before .before .before .args in lookUp (a .lowest) (wordsOf (a .r)) (rowsFrom (a .out .now) 0 (a .set .count)) ≡ Absent (c .before .sought2 .given .0 .0)
 missed c = sym (c .before .before .before .seek-near .ensures) ∙ c .before .sought2 .given .1
 
 returns : tie.Need-returns
 returns c =
     let s = c .before .before in
-    record { added = add-full (s .args .out .now) (wordsOf (s .args .r)) (s .args .set .count) (s .pre .room .most) (omega arith); led = s .pre .led }
+    record { added = add-full (s .args .lowest) (s .args .out .now) (wordsOf (s .args .r)) (s .args .set .count) (s .pre .room .most) (omega arith); led = s .pre .led }
 
 seek-near-requires : tie.Need-seek-near-requires
 seek-near-requires c κs =
@@ -31,14 +31,14 @@ put-in-requires c κs =
     let s = c .before .before .before .before .before .before .before .before in
     let a = s .args in
     let k = c .before in
-    (place-within (a .out .now) (a .r) (a .set .count) (k .before .sought2 .given .0 .0) (missed k), omega (arith, s .pre .room .there))
+    (place-within (a .lowest) (a .out .now) (a .r) (a .set .count) (k .before .sought2 .given .0 .0) (missed k), omega (arith, s .pre .room .there))
 
 returns-2 : tie.Need-returns-2
 returns-2 c =
     let s = c .before .before .before .before .before .before .before in
     let a = s .args in
     let p = c .before .sought .given .0 .0 in
-    record { added = add-there (a .out .now) (a .r) (a .set .count) p (here c) (s .pre .room .most); led = led-there (a .out .now) (a .r) (a .set .count) p (here c) }
+    record { added = add-there (a .lowest) (a .out .now) (a .r) (a .set .count) p (here c) (s .pre .room .most); led = led-there (a .lowest) (a .out .now) (a .r) (a .set .count) p (here c) }
 
 returns-3 : tie.Need-returns-3
 returns-3 c =
@@ -48,8 +48,8 @@ returns-3 c =
     let p = k .before .sought2 .given .0 .0 in
     let u = c .before .before .put-in in
     record {
-      added = add-absent (a .out .now) (a .r) (a .set .count) p (missed k) (u .last .0) (u .ensures) (omega arith) (u .kept .0);
-      led = led-put (a .out .now) (a .r) (a .set .count) p (missed k) (u .last .0) (u .ensures);
+      added = add-absent (a .lowest) (a .out .now) (a .r) (a .set .count) p (missed k) (u .last .0) (u .ensures) (omega arith) (u .kept .0);
+      led = led-put (a .lowest) (a .out .now) (a .r) (a .set .count) p (missed k) (u .last .0) (u .ensures);
     }
 
 pub add-spec : {M : Type 1} → statement M

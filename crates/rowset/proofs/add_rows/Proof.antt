@@ -9,10 +9,10 @@ use Rattle.rowset.proofs.add_rows.Statement.{statement}
 use Rattle.rowset.proofs.add_rows.Tie as tie
 
 abbrev Inv-loop : tie.InvT-loop
-Inv-loop rows from to out₀ g₀ i₀ out g i = Gathering (rowAt rows) (λ us. us) to out₀ g₀ (rowsFrom rows from (to - from)) out g i
+Inv-loop lowest rows from to out₀ g₀ i₀ out g i = Gathering lowest (rowAt rows) (λ us. us) to out₀ g₀ (rowsFrom rows from (to - from)) out g i
 
 abbrev μ-loop : tie.MeasureT-loop
-μ-loop rows from to out₀ g₀ i₀ out g i = to - i
+μ-loop lowest rows from to out₀ g₀ i₀ out g i = to - i
 
 loop-holds : tie.Need-loop-holds Inv-loop μ-loop
 unfolding rowsFrom

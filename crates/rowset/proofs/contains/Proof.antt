@@ -9,10 +9,10 @@ use Rattle.rowset.proofs.contains.Statement.{statement}
 use Rattle.rowset.proofs.contains.Tie as tie
 
 -- what the search says of the run
-answered : (c : tie.After-seek) → let a = c .before .before .args in isThere (c .seek .result) ≡ isThere (lookUp (wordsOf (a .r)) (rowsFrom (a .ws .now) (a .from) (a .to - a .from)))
+answered : (c : tie.After-seek) → let a = c .before .before .args in isThere (c .seek .result) ≡ isThere (lookUp (a .lowest) (wordsOf (a .r)) (rowsFrom (a .ws .now) (a .from) (a .to - a .from)))
 answered c =
     let a = c .before .before .args in
-    ap isThere (c .seek .ensures) ∙ is-onward (a .from) (lookUp (wordsOf (a .r)) (rowsFrom (a .ws .now) (a .from) (a .to - a .from)))
+    ap isThere (c .seek .ensures) ∙ is-onward (a .from) (lookUp (a .lowest) (wordsOf (a .r)) (rowsFrom (a .ws .now) (a .from) (a .to - a .from)))
 
 returns : tie.Need-returns
 returns c = sym (ap isThere (c .enum-told .given .1)) ∙ answered (c .before .before)

@@ -10,11 +10,11 @@ use Rattle.rowset.proofs.seek.Statement.{statement}
 use Rattle.rowset.proofs.seek.Tie as tie
 
 abbrev Inv-loop : tie.InvT-loop
-Inv-loop ws from to r i₀ i =
-    (i ≤ to) × (onward from (lookUp (wordsOf r) (rowsFrom ws from (to - from))) ≡ onward i (lookUp (wordsOf r) (rowsFrom ws i (to - i))))
+Inv-loop lowest ws from to r i₀ i =
+    (i ≤ to) × (onward from (lookUp lowest (wordsOf r) (rowsFrom ws from (to - from))) ≡ onward i (lookUp lowest (wordsOf r) (rowsFrom ws i (to - i))))
 
 abbrev μ-loop : tie.MeasureT-loop
-μ-loop ws from to r i₀ i = to - i
+μ-loop lowest ws from to r i₀ i = to - i
 
 loop-holds : tie.Need-loop-holds Inv-loop μ-loop
 loop-holds c = (c .before .pre .ordered, refl)
@@ -24,31 +24,31 @@ unfolding rowsFrom
 loop-again c =
     let a = c .before .before .before .before .before .before .before .args in
     let l = c .before .before .before .before .before .loop in
-    let e = sym (c .before .before .compare .ensures ∙ ap (λ u. compared u (wordsOf (a .r))) (c .before .before .before .row-at .ensures)) ∙ c .enum-told .given .1 in
-    (omega arith, l .inv .1 ∙ seek-on (rowAt (a .ws .now)) (wordsOf (a .r)) (λ k. refl) (a .to) (l .i) (c .before .before .before .before .loop-test .taken) e)
+    let e = sym (c .before .before .compare .ensures ∙ ap (λ u. compared (a .lowest) u (wordsOf (a .r))) (c .before .before .before .row-at .ensures)) ∙ c .enum-told .given .1 in
+    (omega arith, l .inv .1 ∙ seek-on (a .lowest) (rowAt (a .ws .now)) (wordsOf (a .r)) (λ k. refl) (a .to) (l .i) (c .before .before .before .before .loop-test .taken) e)
 
 returns : tie.Need-returns Inv-loop μ-loop
 unfolding rowsFrom
 returns c =
     let a = c .before .before .before .before .before .before .before .args in
     let l = c .before .before .before .before .before .loop in
-    let e = sym (c .before .before .compare .ensures ∙ ap (λ u. compared u (wordsOf (a .r))) (c .before .before .before .row-at .ensures)) ∙ c .enum-told2 .given .1 in
-    sym (l .inv .1 ∙ seek-there (rowAt (a .ws .now)) (wordsOf (a .r)) (λ k. refl) (a .to) (l .i) (c .before .before .before .before .loop-test .taken) e)
+    let e = sym (c .before .before .compare .ensures ∙ ap (λ u. compared (a .lowest) u (wordsOf (a .r))) (c .before .before .before .row-at .ensures)) ∙ c .enum-told2 .given .1 in
+    sym (l .inv .1 ∙ seek-there (a .lowest) (rowAt (a .ws .now)) (wordsOf (a .r)) (λ k. refl) (a .to) (l .i) (c .before .before .before .before .loop-test .taken) e)
 
 returns-2 : tie.Need-returns-2 Inv-loop μ-loop
 unfolding rowsFrom
 returns-2 c =
     let a = c .before .before .before .before .before .before .before .args in
     let l = c .before .before .before .before .before .loop in
-    let e = sym (c .before .before .compare .ensures ∙ ap (λ u. compared u (wordsOf (a .r))) (c .before .before .before .row-at .ensures)) ∙ c .enum-told3 .given .1 in
-    sym (l .inv .1 ∙ seek-absent (rowAt (a .ws .now)) (wordsOf (a .r)) (λ k. refl) (a .to) (l .i) (c .before .before .before .before .loop-test .taken) e)
+    let e = sym (c .before .before .compare .ensures ∙ ap (λ u. compared (a .lowest) u (wordsOf (a .r))) (c .before .before .before .row-at .ensures)) ∙ c .enum-told3 .given .1 in
+    sym (l .inv .1 ∙ seek-absent (a .lowest) (rowAt (a .ws .now)) (wordsOf (a .r)) (λ k. refl) (a .to) (l .i) (c .before .before .before .before .loop-test .taken) e)
 
 returns-3 : tie.Need-returns-3 Inv-loop μ-loop
 unfolding rowsFrom
 returns-3 c =
     let a = c .before .before .before .args in
     let l = c .before .loop in
-    sym (l .inv .1 ∙ seek-end (rowAt (a .ws .now)) (wordsOf (a .r)) (λ k. refl) (a .to) (l .i) (c .loop-test .left))
+    sym (l .inv .1 ∙ seek-end (a .lowest) (rowAt (a .ws .now)) (wordsOf (a .r)) (λ k. refl) (a .to) (l .i) (c .loop-test .left))
 
 pub seek-spec : {M : Type 1} → statement M
 seek-spec =

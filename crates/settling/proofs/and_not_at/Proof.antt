@@ -25,7 +25,7 @@ returns c =
     let p = c .before .before .before .before .before .set-part .ensures in
     let q = c .before .before .before .before .set-part2 .ensures in
     added-as (c .before .before .and-not .ensures)
-    (ap₂ (λ lefts rights. select (λ u. not (isThere (lookUp (cutTo (inMask (a .b .mask)) (valuationOf u)) rights))) lefts) (set-read (s .pre .0) (p .0) (p .1)) (set-read (s .pre .1 .0) (q .0) (q .1)))
+    (ap₂ (λ lefts rights. select (λ u. not (isThere (lookUp (a .b .lowest) (cutTo (inMask (a .b .mask)) (valuationOf u)) rights))) lefts) (set-read (s .pre .0) (p .0) (p .1)) (set-read (s .pre .1 .0) (q .0) (q .1)))
 
 pub and-not-at-spec : {M : Type 1} → statement M
 and-not-at-spec = tie.close (tie.spec (λ c κs. search needs) (λ c κs. search needs) and-not-requires (λ c. c .before .before .and-not .ensures .long) returns)

@@ -17,22 +17,22 @@ use Rattle.settling.proofs.settle_point.Tie as tie
 
 -- what is asked, for the kind that the node is
 told : (s : tie.Start) {kind : Node} → s .args .node ≡ kind
-    → asked (s .args .rule .now) (s .args .event .now) (s .args .rows .now) (s .args .at .now) (s .args .old-ages .now) (s .args .old-values .now) (s .args .left) (s .args .right) (s .args .start) (s .args .i) kind
+    → asked (s .args .rule .now) (s .args .event .now) (s .args .rows .now) (s .args .at .now) (s .args .old-ages .now) (s .args .old-values .now) (s .args .left) (s .args .right) (s .args .lowest) (s .args .start) (s .args .i) kind
 told s e =
     let a = s .args in
-    subst (asked (a .rule .now) (a .event .now) (a .rows .now) (a .at .now) (a .old-ages .now) (a .old-values .now) (a .left) (a .right) (a .start) (a .i)) e (s .pre .0)
+    subst (asked (a .rule .now) (a .event .now) (a .rows .now) (a .at .now) (a .old-ages .now) (a .old-values .now) (a .left) (a .right) (a .lowest) (a .start) (a .i)) e (s .pre .0)
 
 -- what the kind gives, the node gives: the set of it, which rows put into nothing are
 settled : (s : tie.Start) {kind : Node} {out : List ℕ} {k : ℕ} → s .args .node ≡ kind
-    → SetMade out k (setOf (given (s .args .rule .now) (s .args .event .now) (s .args .rows .now) (s .args .at .now) (s .args .times .now) (s .args .base) (s .args .old-ages .now) (s .args .old-values .now) (s .args .left) (s .args .right) (s .args .start) (s .args .i) kind))
-    → PointSettled (s .args .rule .now) (s .args .event .now) (s .args .rows .now) (s .args .at .now) (s .args .times .now) (s .args .base) (s .args .old-ages .now) (s .args .old-values .now) (s .args .left) (s .args .right) (s .args .start) (s .args .i) (s .args .node) out k
+    → SetMade out k (setOf (s .args .lowest) (given (s .args .rule .now) (s .args .event .now) (s .args .rows .now) (s .args .at .now) (s .args .times .now) (s .args .base) (s .args .old-ages .now) (s .args .old-values .now) (s .args .left) (s .args .right) (s .args .lowest) (s .args .start) (s .args .i) kind))
+    → PointSettled (s .args .rule .now) (s .args .event .now) (s .args .rows .now) (s .args .at .now) (s .args .times .now) (s .args .base) (s .args .old-ages .now) (s .args .old-values .now) (s .args .left) (s .args .right) (s .args .lowest) (s .args .start) (s .args .i) (s .args .node) out k
 settled s e h =
     let a = s .args in
-    point-settled (a .rule .now) (a .event .now) (a .rows .now) (a .at .now) (a .times .now) (a .base) (a .old-ages .now) (a .old-values .now) (a .left) (a .right) (a .start) (a .i) e (told s e) h
+    point-settled (a .rule .now) (a .event .now) (a .rows .now) (a .at .now) (a .times .now) (a .base) (a .old-ages .now) (a .old-values .now) (a .left) (a .right) (a .lowest) (a .start) (a .i) e (told s e) h
 
 gives : (s : tie.Start) {kind : Node} {out : List ℕ} {k : ℕ} → s .args .node ≡ kind
-    → Added (s .args .out .now) 0 out k (given (s .args .rule .now) (s .args .event .now) (s .args .rows .now) (s .args .at .now) (s .args .times .now) (s .args .base) (s .args .old-ages .now) (s .args .old-values .now) (s .args .left) (s .args .right) (s .args .start) (s .args .i) kind)
-    → PointSettled (s .args .rule .now) (s .args .event .now) (s .args .rows .now) (s .args .at .now) (s .args .times .now) (s .args .base) (s .args .old-ages .now) (s .args .old-values .now) (s .args .left) (s .args .right) (s .args .start) (s .args .i) (s .args .node) out k
+    → Added (s .args .lowest) (s .args .out .now) 0 out k (given (s .args .rule .now) (s .args .event .now) (s .args .rows .now) (s .args .at .now) (s .args .times .now) (s .args .base) (s .args .old-ages .now) (s .args .old-values .now) (s .args .left) (s .args .right) (s .args .lowest) (s .args .start) (s .args .i) kind)
+    → PointSettled (s .args .rule .now) (s .args .event .now) (s .args .rows .now) (s .args .at .now) (s .args .times .now) (s .args .base) (s .args .old-ages .now) (s .args .old-values .now) (s .args .left) (s .args .right) (s .args .lowest) (s .args .start) (s .args .i) (s .args .node) out k
 gives s e h = settled s e (set-made h)
 
 atom-requires : tie.Need-atom-requires
@@ -87,13 +87,13 @@ rows-at-requires : tie.Need-rows-at-requires
 rows-at-requires c κs =
     let s = c .before .before .before .before .before .before .before .before .before .before .before .before in
     let t = told s (c .before .before .node6 .given .1) in
-    (omega (arith, t .children .0 .settled, s .good .1 .1 .1 .1 .0), (t .children .0 .sets, (t .children .1 .sets, ((t .pairs, t .ascends), s .pre .1))))
+    (omega (arith, t .children .0 .settled, s .good .1 .1 .1 .1 .1 .0), (t .children .0 .sets, (t .children .1 .sets, ((t .pairs, t .ascends), s .pre .1))))
 
 rows-at-requires-2 : tie.Need-rows-at-requires-2
 rows-at-requires-2 c κs =
     let s = c .before .before .before .before .before .before .before .before .before .before .before .before in
     let t = told s (c .before .before .node7 .given .1) in
-    (omega (arith, t .children .0 .settled, s .good .1 .1 .1 .1 .0), (t .children .0 .sets, (t .children .1 .sets, ((t .pairs, t .ascends), s .pre .1))))
+    (omega (arith, t .children .0 .settled, s .good .1 .1 .1 .1 .1 .0), (t .children .0 .sets, (t .children .1 .sets, ((t .pairs, t .ascends), s .pre .1))))
 
 until-at-requires : tie.Need-until-at-requires
 until-at-requires c κs =
@@ -113,7 +113,7 @@ rows-at-requires-3 : tie.Need-rows-at-requires-3
 rows-at-requires-3 c κs =
     let s = c .before .before .before .before .before .before .before .before .before .before .before .before in
     let t = told s (c .before .before .node10 .given .1) in
-    (omega (arith, t .children .settled), (t .children .sets, (t .children .sets, ((t .pairs, t .ascends), s .pre .1))))
+    (omega (arith, t .children .settled, s .good .1 .1 .1 .1 .1 .0), (t .children .sets, (t .children .sets, ((t .pairs, t .ascends), s .pre .1))))
 
 eventually-requires : tie.Need-eventually-requires
 eventually-requires c κs =
@@ -216,15 +216,15 @@ settle-point-spec =
     returns-7
     (λ c. c .before .before .next-at .ensures .long)
     returns-8
-    (λ c. c .before .before .rows-at .kept .1 .1 .1 .1 .1 .1 .1 .1 .1 .1 .1 .1 .0)
+    (λ c. c .before .before .rows-at .kept .1 .1 .1 .1 .1 .1 .1 .1 .1 .1 .1 .1 .1 .0)
     returns-9
-    (λ c. c .before .before .rows-at2 .kept .1 .1 .1 .1 .1 .1 .1 .1 .1 .1 .1 .1 .0)
+    (λ c. c .before .before .rows-at2 .kept .1 .1 .1 .1 .1 .1 .1 .1 .1 .1 .1 .1 .1 .0)
     returns-10
     (λ c. c .before .before .until-at .ensures .long)
     returns-11
     (λ c. c .before .before .until-at2 .ensures .long)
     returns-12
-    (λ c. c .before .before .rows-at3 .kept .1 .1 .1 .1 .1 .1 .1 .1 .1 .1 .1 .1 .0)
+    (λ c. c .before .before .rows-at3 .kept .1 .1 .1 .1 .1 .1 .1 .1 .1 .1 .1 .1 .1 .0)
     returns-13
     (λ c. c .before .before .eventually .ensures .long)
     returns-14)

@@ -20,7 +20,7 @@ returns : tie.Need-returns
 returns c =
     let a = c .before .before .before .before .before .before .before .before .before .args in
     added-as (c .before .before .until .ensures)
-    (ap (λ m. untilRows (stampIn (a .base) (a .times .now)) m (a .w) (leftTest (a .left) (a .a .mask) (childSet (a .rows .now) (a .at .now) (a .a))) (childSet (a .rows .now) (a .at .now) (a .b)) (a .i)) (c .before .before .before .before .lower .ensures))
+    (ap (λ m. untilRows (stampIn (a .base) (a .times .now)) m (a .w) (leftTest (a .left) (a .a) (childSet (a .rows .now) (a .at .now) (a .a))) (childSet (a .rows .now) (a .at .now) (a .b)) (a .i)) (c .before .before .before .before .lower .ensures))
 
 pub until-at-spec : {M : Type 1} → statement M
 until-at-spec = tie.close (tie.spec (λ c κs. search needs) until-requires (λ c. c .before .before .until .ensures .long) returns)

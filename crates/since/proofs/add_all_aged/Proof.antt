@@ -14,14 +14,14 @@ use Rattle.since.proofs.add_all_aged.Tie as tie
 count-below-requires : tie.Need-count-below-requires
 count-below-requires c κs =
     let s = c .before .before .before .before .before in
-    (omega arith, rising (s .args .old-ages .now) (s .args .old-values .now) (length (s .args .old-ages .now)) (s .pre .0 .1))
+    (omega arith, rising (s .args .lowest) (s .args .old-ages .now) (s .args .old-values .now) (length (s .args .old-ages .now)) (s .pre .0 .1))
 
 add-grown-requires : tie.Need-add-grown-requires
 add-grown-requires c κs =
     let s = c .before .before .before .before .before .before .before .before in
     let a = s .args in
     let m = c .before .before .count-below .ensures .most in (
-      (record { agesThere = m; valuesThere = omega (arith, s .pre .0 .0 .valuesThere) }, fewer-ascend (a .old-ages .now) (a .old-values .now) (length (a .old-ages .now)) (s .pre .0 .1) (c .before .before .count-below .result) m),
+      (record { agesThere = m; valuesThere = omega (arith, s .pre .0 .0 .valuesThere) }, fewer-ascend (a .lowest) (a .old-ages .now) (a .old-values .now) (length (a .old-ages .now)) (s .pre .0 .1) (c .before .before .count-below .result) m),
       s .pre .1,
     )
 

@@ -18,12 +18,12 @@ use Rattle.since.proofs.add_all_older.Statement.{statement}
 use Rattle.since.proofs.add_all_older.Tie as tie
 
 abbrev Inv-loop : tie.InvT-loop
-Inv-loop left a rows at start by old-ages old-values ages₀ values₀ bounds end old g₀ x₀ ages values g x =
-    Turns (pairAt old-ages old-values) (boundPairs by (leads left (a .mask) (setAt rows at (a .first) (a .low)) start end) (bounds .below) (bounds .most)) old
-    (boundPairs by (leads left (a .mask) (setAt rows at (a .first) (a .low)) start end) (bounds .below) (bounds .most) (pairsFrom old-ages old-values 0 old)) (PairsAdded ages₀ values₀ g₀ ages values g) x
+Inv-loop lowest left a rows at start by old-ages old-values ages₀ values₀ bounds end old g₀ x₀ ages values g x =
+    Turns (pairAt old-ages old-values) (boundPairs by (leads left a (setAt rows at (a .first) (a .low)) start end) (bounds .below) (bounds .most)) old
+    (boundPairs by (leads left a (setAt rows at (a .first) (a .low)) start end) (bounds .below) (bounds .most) (pairsFrom old-ages old-values 0 old)) (PairsAdded lowest ages₀ values₀ g₀ ages values g) x
 
 abbrev μ-loop : tie.MeasureT-loop
-μ-loop left a rows at start by old-ages old-values ages₀ values₀ bounds end old g₀ x₀ ages values g x = old - x
+μ-loop lowest left a rows at start by old-ages old-values ages₀ values₀ bounds end old g₀ x₀ ages values g x = old - x
 
 loop-holds : tie.Need-loop-holds Inv-loop μ-loop
 unfolding pairsFrom
@@ -38,14 +38,14 @@ add-age c = omega (arith, c .shared-slice-known5 .given (c .before .before .befo
 loop-again : tie.Need-loop-again Inv-loop μ-loop
 loop-again c =
     let a = c .before .before .before .before .before .before .before .before .before .before .before .before .before .before .before .before .before .before .before .args in
-    pair-turned (a .by) (leads (a .left) (a .a .mask) (setAt (a .rows .now) (a .at .now) (a .a .first) (a .a .low)) (a .start) (point (a .i .0 + 1))) (a .old-ages .now) (a .old-values .now) (c .before .before .before .before .before .before .before .before .before .before .before .before .bounds-of .result .below) (c .before .before .before .before .before .before .before .before .before .before .before .before .bounds-of .result .most) (c .before .before .before .before .before .before .before .before .before .before .loop .inv) (c .before .before .before .before .before .before .before .before .before .loop-test .taken) (c .before .before .before .before .add-older .ensures) refl (c .before .before .before .before .before .before .before .before .row-at .ensures)
+    pair-turned (a .by) (leads (a .left) (a .a) (setAt (a .rows .now) (a .at .now) (a .a .first) (a .a .low)) (a .start) (point (a .i .0 + 1))) (a .old-ages .now) (a .old-values .now) (c .before .before .before .before .before .before .before .before .before .before .before .before .bounds-of .result .below) (c .before .before .before .before .before .before .before .before .before .before .before .before .bounds-of .result .most) (c .before .before .before .before .before .before .before .before .before .before .loop .inv) (c .before .before .before .before .before .before .before .before .before .loop-test .taken) (c .before .before .before .before .add-older .ensures) refl (c .before .before .before .before .before .before .before .before .row-at .ensures)
 
 returns : tie.Need-returns Inv-loop μ-loop
 returns c =
     let a = c .before .before .before .before .before .before .before .before .before .before .args in
     let b = c .before .before .before .bounds-of .ensures in
     pairs-as (ended (c .before .loop .inv) refl (c .loop-test .left))
-    (pairs-bound (a .by) (leads (a .left) (a .a .mask) (setAt (a .rows .now) (a .at .now) (a .a .first) (a .a .low)) (a .start) (point (a .i .0 + 1))) (a .w) (a .old-ages .now) (a .old-values .now) (omega arith) (λ k. omega (arith, c .before .before .before .before .before .before .before .shared-slice-known3 .given k)) (b .1) (b .2) 0 (length (a .old-ages .now)))
+    (pairs-bound (a .by) (leads (a .left) (a .a) (setAt (a .rows .now) (a .at .now) (a .a .first) (a .a .low)) (a .start) (point (a .i .0 + 1))) (a .w) (a .old-ages .now) (a .old-values .now) (omega arith) (λ k. omega (arith, c .before .before .before .before .before .before .before .shared-slice-known3 .given k)) (b .1) (b .2) 0 (length (a .old-ages .now)))
 
 pub add-all-older-spec : {M : Type 1} → statement M
 add-all-older-spec =

@@ -23,12 +23,12 @@ use Rattle.since.proofs.add_fresh.Statement.{statement}
 use Rattle.since.proofs.add_fresh.Tie as tie
 
 abbrev Inv-loop : tie.InvT-loop
-Inv-loop left a b rows at times base w i ages₀ values₀ here end count g₀ x₀ ages values g x =
-    Turns (λ y. point (i .0 - y)) (pairsOver left (a .mask) (setAt rows at (a .first) (a .low)) (setAt rows at (b .first) (b .low)) (stampIn base times) w here end) count
-    (pairsOver left (a .mask) (setAt rows at (a .first) (a .low)) (setAt rows at (b .first) (b .low)) (stampIn base times) w here end (map (λ y. point (i .0 - y)) (range 0 count))) (PairsAdded ages₀ values₀ g₀ ages values g) x
+Inv-loop lowest left a b rows at times base w i ages₀ values₀ here end count g₀ x₀ ages values g x =
+    Turns (λ y. point (i .0 - y)) (pairsOver left a (setAt rows at (a .first) (a .low)) (setAt rows at (b .first) (b .low)) (stampIn base times) w here end) count
+    (pairsOver left a (setAt rows at (a .first) (a .low)) (setAt rows at (b .first) (b .low)) (stampIn base times) w here end (map (λ y. point (i .0 - y)) (range 0 count))) (PairsAdded lowest ages₀ values₀ g₀ ages values g) x
 
 abbrev μ-loop : tie.MeasureT-loop
-μ-loop left a b rows at times base w i ages₀ values₀ here end count g₀ x₀ ages values g x = count - x
+μ-loop lowest left a b rows at times base w i ages₀ values₀ here end count g₀ x₀ ages values g x = count - x
 
 loop-holds : tie.Need-loop-holds Inv-loop μ-loop
 loop-holds c = starts-all (add-none (c .before .before .before .before .before .before .before .before .before .pre .1 .1 .1))
@@ -50,14 +50,14 @@ loop-again c =
     let right : Point → List (List ℕ) = setAt (a .rows .now) (a .at .now) (a .b .first) (a .b .low) in
     let τ : Point → Stamp = stampIn (a .base) (a .times .now) in
     let here : Stamp = c .before .before .before .before .before .before .before .before .before .before .before .before .before .before .before .time-in .result in
-    goes-on (c .before .before .before .before .before .before .before .before .before .before .before .loop .inv) (pairsOf (a .left) (a .a .mask) sets right τ (a .w) here (point (a .i .0 + 1))) (pairs-one (a .left) (a .a .mask) sets right τ (a .w) here (point (a .i .0 + 1))) (c .before .before .before .before .before .before .before .before .before .before .loop-test .taken) (pairs-then (c .before .before .before .before .add-point-below .ensures))
-    (ap (λ age. cond (belowEnd (a .w) age) (map (λ u. countedAge (a .w) age ∷ u) (lastingTo (a .left) (a .a .mask) sets right (point (a .i .0 + 1)) j)) []) (c .before .before .before .before .before .before .before .elapsed .ensures ∙ ap (λ s. elapsed s here) (c .before .before .before .before .before .before .before .before .time-in2 .ensures)))
+    goes-on (c .before .before .before .before .before .before .before .before .before .before .before .loop .inv) (pairsOf (a .left) (a .a) sets right τ (a .w) here (point (a .i .0 + 1))) (pairs-one (a .left) (a .a) sets right τ (a .w) here (point (a .i .0 + 1))) (c .before .before .before .before .before .before .before .before .before .before .loop-test .taken) (pairs-then (c .before .before .before .before .add-point-below .ensures))
+    (ap (λ age. cond (belowEnd (a .w) age) (map (λ u. countedAge (a .w) age ∷ u) (lastingTo (a .left) (a .a) sets right (point (a .i .0 + 1)) j)) []) (c .before .before .before .before .before .before .before .elapsed .ensures ∙ ap (λ s. elapsed s here) (c .before .before .before .before .before .before .before .before .time-in2 .ensures)))
 
 returns : tie.Need-returns Inv-loop μ-loop
 returns c =
     let a = c .before .before .before .before .before .before .before .before .before .before .before .args in
     pairs-as (ended (c .before .loop .inv) refl (c .loop-test .left))
-    (pairs-fresh (a .left) (a .a .mask) (setAt (a .rows .now) (a .at .now) (a .a .first) (a .a .low)) (setAt (a .rows .now) (a .at .now) (a .b .first) (a .b .low)) (stampIn (a .base) (a .times .now)) (a .w) (a .start) (a .i) (c .before .before .before .before .before .time-in .ensures))
+    (pairs-fresh (a .left) (a .a) (setAt (a .rows .now) (a .at .now) (a .a .first) (a .a .low)) (setAt (a .rows .now) (a .at .now) (a .b .first) (a .b .low)) (stampIn (a .base) (a .times .now)) (a .w) (a .start) (a .i) (c .before .before .before .before .before .time-in .ensures))
 
 pub add-fresh-spec : {M : Type 1} → statement M
 add-fresh-spec =
@@ -74,7 +74,7 @@ add-fresh-spec =
     (λ c κs. search needs)
     (λ c κs. search needs)
     add-point-below-requires
-    (λ c. omega arith)
+    (λ c. omega (arith, c .before .before .before .before .before .before .before .before .before .before .before .before .before .before .before .before .before .before .before .before .before .pre .0, c .before .before .before .before .before .before .before .before .before .before .loop-test .taken))
     (λ c. omega arith)
     loop-again
     (λ c. c .before .loop .inv .put .agesLong)

@@ -18,12 +18,12 @@ use Rattle.since.proofs.add_lasting.Statement.{statement}
 use Rattle.since.proofs.add_lasting.Tie as tie
 
 abbrev Inv-loop : tie.InvT-loop
-Inv-loop left a rows at from to after end age ages₀ values₀ g₀ x₀ ages values g x =
-    Turns (rowAt rows) (λ us. map (λ u. age ∷ u) (select (leads left (a .mask) (setAt rows at (a .first) (a .low)) after end) us)) to
-    (map (λ u. age ∷ u) (select (leads left (a .mask) (setAt rows at (a .first) (a .low)) after end) (rowsFrom rows from (to - from)))) (PairsAdded ages₀ values₀ g₀ ages values g) x
+Inv-loop lowest left a rows at from to after end age ages₀ values₀ g₀ x₀ ages values g x =
+    Turns (rowAt rows) (λ us. map (λ u. age ∷ u) (select (leads left a (setAt rows at (a .first) (a .low)) after end) us)) to
+    (map (λ u. age ∷ u) (select (leads left a (setAt rows at (a .first) (a .low)) after end) (rowsFrom rows from (to - from)))) (PairsAdded lowest ages₀ values₀ g₀ ages values g) x
 
 abbrev μ-loop : tie.MeasureT-loop
-μ-loop left a rows at from to after end age ages₀ values₀ g₀ x₀ ages values g x = to - x
+μ-loop lowest left a rows at from to after end age ages₀ values₀ g₀ x₀ ages values g x = to - x
 
 loop-holds : tie.Need-loop-holds Inv-loop μ-loop
 unfolding rowsFrom
@@ -32,7 +32,7 @@ loop-holds c = starts (c .before .before .before .before .pre .1 .0 .ordered) (a
 loop-again : tie.Need-loop-again Inv-loop μ-loop
 loop-again c =
     let a = c .before .before .before .before .before .before .before .before .before .before .before .before .before .before .before .args in
-    let p : List ℕ → Bool = leads (a .left) (a .a .mask) (setAt (a .rows .now) (a .at .now) (a .a .first) (a .a .low)) (a .after) (a .end) in
+    let p : List ℕ → Bool = leads (a .left) (a .a) (setAt (a .rows .now) (a .at .now) (a .a .first) (a .a .low)) (a .after) (a .end) in
     goes-on (c .before .before .before .before .before .before .before .before .before .before .loop .inv) (λ u. cond (p u) ((a .age ∷ u) ∷ []) []) (map-select-one p (λ u. a .age ∷ u)) (c .before .before .before .before .before .before .before .before .before .loop-test .taken) (pairs-then (c .before .before .before .before .add-if .ensures))
     (chosen p (λ u. a .age ∷ u) (c .before .before .before .before .before .before .before .leads .ensures) refl (c .before .before .before .before .before .before .before .before .row-at .ensures))
 

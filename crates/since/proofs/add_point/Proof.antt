@@ -1,5 +1,6 @@
 -- `add_point` meets its contract: the part that is read is right's set, and where nothing is asked of left, each of its rows passes.
 use Prim.Native.Nat.{_+_}
+use native.Mathlib.Omega.{arith}
 use mathlib.Core.Path.{ap, _∙_}
 use mathlib.Core.List.{_∷_, map}
 use borrow.Author.Needs.{needs}
@@ -36,7 +37,7 @@ returns c =
     let p = c .before .before .before .before .before .before .before .before .before .before .set-part .ensures in
     pairs-as (c .before .before .before .before .add-young .ensures)
     (ap (map (λ u. a .age ∷ u))
-    (set-read (s .pre .1 .0) (p .0) (p .1) ∙ every-row (c .before .before .before .before .before .before .before .enum-told .given .1) (a .a .mask) (setAt (a .rows .now) (a .at .now) (a .a .first) (a .a .low)) (point (a .j .0 + 1)) (a .end) (setAt (a .rows .now) (a .at .now) (a .b .first) (a .b .low) (a .j))))
+    (set-read (s .pre .1 .0) (p .0) (p .1) ∙ every-row (c .before .before .before .before .before .before .before .enum-told .given .1) (a .a) (setAt (a .rows .now) (a .at .now) (a .a .first) (a .a .low)) (point (a .j .0 + 1)) (a .end) (setAt (a .rows .now) (a .at .now) (a .b .first) (a .b .low) (a .j))))
 
 returns-2 : tie.Need-returns-2
 returns-2 c =
@@ -44,14 +45,14 @@ returns-2 c =
     let a = s .args in
     let p = c .before .before .before .before .before .before .before .before .before .set-part .ensures in
     pairs-as (c .before .before .before .before .add-lasting .ensures)
-    (ap (λ us. map (λ u. a .age ∷ u) (select (leads (a .left) (a .a .mask) (setAt (a .rows .now) (a .at .now) (a .a .first) (a .a .low)) (point (a .j .0 + 1)) (a .end)) us)) (set-read (s .pre .1 .0) (p .0) (p .1)))
+    (ap (λ us. map (λ u. a .age ∷ u) (select (leads (a .left) (a .a) (setAt (a .rows .now) (a .at .now) (a .a .first) (a .a .low)) (point (a .j .0 + 1)) (a .end)) us)) (set-read (s .pre .1 .0) (p .0) (p .1)))
 
 pub add-point-spec : {M : Type 1} → statement M
 add-point-spec =
     tie.close
     (tie.spec
     (λ c κs. search needs)
-    (λ c. search needs)
+    (λ c. let s = c .before .before .before .before .before .before in omega (arith, s .pre .0 .ordered, s .good))
     enum-told
     add-young-requires
     add-lasting-requires

@@ -25,7 +25,7 @@ returns c =
     let e : belowEnd (a .w) (a .age) ≡ true = sym (below-end (a .w) (a .age) few) ∙ ap (ltb (a .age)) (sym (b .1)) ∙ lt-ltb _ _ (c .before .before .before .before .before .before .before .before .if1 .taken) in
     rw e
     (pairs-as (c .before .before .before .before .add-point .ensures)
-    (ap (λ y. map (λ u. y ∷ u) (lastingTo (a .left) (a .a .mask) (setAt (a .rows .now) (a .at .now) (a .a .first) (a .a .low)) (setAt (a .rows .now) (a .at .now) (a .b .first) (a .b .low)) (a .end) (a .j)))
+    (ap (λ y. map (λ u. y ∷ u) (lastingTo (a .left) (a .a) (setAt (a .rows .now) (a .at .now) (a .a .first) (a .a .low)) (setAt (a .rows .now) (a .at .now) (a .b .first) (a .b .low)) (a .end) (a .j)))
     (c .before .before .before .before .before .before .before .at-most .ensures ∙ ap (min (a .age)) (b .2) ∙ counted (a .w) (a .age) few e)))
 
 returns-2 : tie.Need-returns-2

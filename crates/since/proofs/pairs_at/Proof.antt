@@ -30,15 +30,15 @@ returns c =
     let sets : Point → List (List ℕ) = setAt (a .rows .now) (a .at .now) (a .a .first) (a .a .low) in
     put-all
     (pairs-as (pairs-then (c .before .before .before .before .add-all-aged .ensures) _ (c .before .before .before .before .before .before .before .before .before .before .before .before .before .add-fresh .ensures))
-    (pairs-whole (a .left) (a .a .mask) sets (setAt (a .rows .now) (a .at .now) (a .b .first) (a .b .low)) (stampIn (a .base) (a .times .now)) (a .w) (heldIn (a .old-ages .now) (a .old-values .now)) (a .start) (a .i) (c .before .before .before .before .before .before .before .before .before .before .before .before .before .before .before .before .grown-by .ensures)
-    (all-pass (c .before .before .before .before .before .before .before .enum-told .given .1) (a .a .mask) sets (a .start) (point (a .i .0 + 1)))))
+    (pairs-whole (a .left) (a .a) sets (setAt (a .rows .now) (a .at .now) (a .b .first) (a .b .low)) (stampIn (a .base) (a .times .now)) (a .w) (heldIn (a .old-ages .now) (a .old-values .now)) (a .start) (a .i) (c .before .before .before .before .before .before .before .before .before .before .before .before .before .before .before .before .grown-by .ensures)
+    (all-pass (c .before .before .before .before .before .before .before .enum-told .given .1) (a .a) sets (a .start) (point (a .i .0 + 1)))))
 
 returns-2 : tie.Need-returns-2
 returns-2 c =
     let a = c .before .before .before .before .before .before .before .before .before .before .before .before .before .before .before .before .before .before .before .before .before .before .before .args in
     put-all
     (pairs-as (pairs-then (c .before .before .before .before .add-all-older .ensures) _ (c .before .before .before .before .before .before .before .before .before .before .before .before .add-fresh .ensures))
-    (pairs-whole (a .left) (a .a .mask) (setAt (a .rows .now) (a .at .now) (a .a .first) (a .a .low)) (setAt (a .rows .now) (a .at .now) (a .b .first) (a .b .low)) (stampIn (a .base) (a .times .now)) (a .w) (heldIn (a .old-ages .now) (a .old-values .now)) (a .start) (a .i) (c .before .before .before .before .before .before .before .before .before .before .before .before .before .before .before .grown-by .ensures) refl))
+    (pairs-whole (a .left) (a .a) (setAt (a .rows .now) (a .at .now) (a .a .first) (a .a .low)) (setAt (a .rows .now) (a .at .now) (a .b .first) (a .b .low)) (stampIn (a .base) (a .times .now)) (a .w) (heldIn (a .old-ages .now) (a .old-values .now)) (a .start) (a .i) (c .before .before .before .before .before .before .before .before .before .before .before .before .before .before .before .grown-by .ensures) refl))
 
 pub pairs-at-spec : {M : Type 1} → statement M
 pairs-at-spec =

@@ -14,13 +14,13 @@ use Rattle.since.proofs.put_aged.Tie as tie
 count-below-requires : tie.Need-count-below-requires
 count-below-requires c κs =
     let s = c .before .before .before .before in
-    (omega arith, rising (s .args .old-ages .now) (s .args .old-values .now) (length (s .args .old-ages .now)) (s .pre .0 .1))
+    (omega arith, rising (s .args .lowest) (s .args .old-ages .now) (s .args .old-values .now) (length (s .args .old-ages .now)) (s .pre .0 .1))
 
 count-below-requires-2 : tie.Need-count-below-requires-2
 count-below-requires-2 c κs =
     let s = c .before .before .before .before .before in
     let m = c .count-below .ensures .most in
-    (m, λ j k l u. rising (s .args .old-ages .now) (s .args .old-values .now) (length (s .args .old-ages .now)) (s .pre .0 .1) j k l (omega arith))
+    (m, λ j k l u. rising (s .args .lowest) (s .args .old-ages .now) (s .args .old-values .now) (length (s .args .old-ages .now)) (s .pre .0 .1) j k l (omega arith))
 
 put-run-requires : tie.Need-put-run-requires
 put-run-requires c κs =
@@ -32,7 +32,7 @@ returns : tie.Need-returns
 returns c =
     let a = c .before .before .before .before .before .before .before .before .before .before .args in
     let b = c .before .before .before .before .before .before .bounds-of .ensures in
-    subst (RowsPut (a .out .now) (a .n) _ _)
+    subst (RowsPut (a .lowest) (a .out .now) (a .n) _ _)
     (rows-run (a .by) (a .old-ages .now) (a .old-values .now) (c .before .before .before .before .before .count-below .ensures) (c .before .before .before .before .count-below2 .ensures)
     ∙ rows-bound (a .by) (λ _. true) (a .w) (a .old-ages .now) (a .old-values .now) (omega arith) (λ k. omega (arith, c .before .before .before .before .before .before .before .before .before .shared-slice-known .given k)) (b .0) (b .1) 0 (length (a .old-ages .now)))
     (c .before .before .put-run .ensures)

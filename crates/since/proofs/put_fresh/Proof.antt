@@ -20,12 +20,12 @@ use Rattle.since.proofs.put_fresh.Statement.{statement}
 use Rattle.since.proofs.put_fresh.Tie as tie
 
 abbrev Inv-loop : tie.InvT-loop
-Inv-loop left a b rows at times base w i out₀ here end count k₀ x₀ out k x =
-    Through (λ y. point (i .0 - y)) (rowsOver left (a .mask) (setAt rows at (a .first) (a .low)) (setAt rows at (b .first) (b .low)) (stampIn base times) w here end) count out₀ 0
-    (rowsOver left (a .mask) (setAt rows at (a .first) (a .low)) (setAt rows at (b .first) (b .low)) (stampIn base times) w here end (map (λ y. point (i .0 - y)) (range 0 count))) out k x
+Inv-loop lowest left a b rows at times base w i out₀ here end count k₀ x₀ out k x =
+    Through lowest (λ y. point (i .0 - y)) (rowsOver left a (setAt rows at (a .first) (a .low)) (setAt rows at (b .first) (b .low)) (stampIn base times) w here end) count out₀ 0
+    (rowsOver left a (setAt rows at (a .first) (a .low)) (setAt rows at (b .first) (b .low)) (stampIn base times) w here end (map (λ y. point (i .0 - y)) (range 0 count))) out k x
 
 abbrev μ-loop : tie.MeasureT-loop
-μ-loop left a b rows at times base w i out₀ here end count k₀ x₀ out k x = count - x
+μ-loop lowest left a b rows at times base w i out₀ here end count k₀ x₀ out k x = count - x
 
 loop-holds : tie.Need-loop-holds Inv-loop μ-loop
 loop-holds c = begun-all (c .before .before .before .before .before .before .before .before .pre .1 .1 .1)
@@ -49,14 +49,14 @@ loop-again c =
     let right : Point → List (List ℕ) = setAt (a .rows .now) (a .at .now) (a .b .first) (a .b .low) in
     let τ : Point → Stamp = stampIn (a .base) (a .times .now) in
     let here : Stamp = c .before .before .before .before .before .before .before .before .before .before .before .before .time-in .result in
-    turned (c .before .before .before .before .before .before .before .before .loop .inv) (rowsOf (a .left) (a .a .mask) sets right τ (a .w) here (point (a .i .0 + 1))) (rows-one (a .left) (a .a .mask) sets right τ (a .w) here (point (a .i .0 + 1))) (c .before .before .before .before .before .before .before .loop-test .taken) (c .before .before .put-point-if .ensures)
-    (ap (λ t. cond t (lastingTo (a .left) (a .a .mask) sets right (point (a .i .0 + 1)) j) []) (due-read (a .w) (c .before .before .before .before .before .time-in2 .ensures) refl (c .before .before .before .before .due .ensures)))
+    turned (c .before .before .before .before .before .before .before .before .loop .inv) (rowsOf (a .left) (a .a) sets right τ (a .w) here (point (a .i .0 + 1))) (rows-one (a .left) (a .a) sets right τ (a .w) here (point (a .i .0 + 1))) (c .before .before .before .before .before .before .before .loop-test .taken) (c .before .before .put-point-if .ensures)
+    (ap (λ t. cond t (lastingTo (a .left) (a .a) sets right (point (a .i .0 + 1)) j) []) (due-read (a .w) (c .before .before .before .before .before .time-in2 .ensures) refl (c .before .before .before .before .due .ensures)))
 
 returns : tie.Need-returns Inv-loop μ-loop
 returns c =
     let a = c .before .before .before .before .before .before .before .before .before .before .args in
     added-as (ended (c .before .loop .inv) refl (c .loop-test .left))
-    (rows-fresh (a .left) (a .a .mask) (setAt (a .rows .now) (a .at .now) (a .a .first) (a .a .low)) (setAt (a .rows .now) (a .at .now) (a .b .first) (a .b .low)) (stampIn (a .base) (a .times .now)) (a .w) (a .start) (a .i) (c .before .before .before .before .before .time-in .ensures))
+    (rows-fresh (a .left) (a .a) (setAt (a .rows .now) (a .at .now) (a .a .first) (a .a .low)) (setAt (a .rows .now) (a .at .now) (a .b .first) (a .b .low)) (stampIn (a .base) (a .times .now)) (a .w) (a .start) (a .i) (c .before .before .before .before .before .time-in .ensures))
 
 pub put-fresh-spec : {M : Type 1} → statement M
 put-fresh-spec =

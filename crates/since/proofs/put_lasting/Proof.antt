@@ -15,12 +15,12 @@ use Rattle.since.proofs.put_lasting.Statement.{statement}
 use Rattle.since.proofs.put_lasting.Tie as tie
 
 abbrev Inv-loop : tie.InvT-loop
-Inv-loop left a rows at from to after end out₀ n set₀ x₀ out set x =
-    Gathering (rowAt rows) (select (leads left (a .mask) (setAt rows at (a .first) (a .low)) after end)) to out₀ set₀
-    (select (leads left (a .mask) (setAt rows at (a .first) (a .low)) after end) (rowsFrom rows from (to - from))) out set x
+Inv-loop lowest left a rows at from to after end out₀ n set₀ x₀ out set x =
+    Gathering lowest (rowAt rows) (select (leads left a (setAt rows at (a .first) (a .low)) after end)) to out₀ set₀
+    (select (leads left a (setAt rows at (a .first) (a .low)) after end) (rowsFrom rows from (to - from))) out set x
 
 abbrev μ-loop : tie.MeasureT-loop
-μ-loop left a rows at from to after end out₀ n set₀ x₀ out set x = to - x
+μ-loop lowest left a rows at from to after end out₀ n set₀ x₀ out set x = to - x
 
 loop-holds : tie.Need-loop-holds Inv-loop μ-loop
 unfolding rowsFrom
@@ -29,7 +29,7 @@ loop-holds c = gathers-from (c .before .before .before .pre .1 .0 .ordered) (gat
 loop-again : tie.Need-loop-again Inv-loop μ-loop
 loop-again c =
     let a = c .before .before .before .before .before .before .before .before .before .before .before .args in
-    let p : List ℕ → Bool = leads (a .left) (a .a .mask) (setAt (a .rows .now) (a .at .now) (a .a .first) (a .a .low)) (a .after) (a .end) in
+    let p : List ℕ → Bool = leads (a .left) (a .a) (setAt (a .rows .now) (a .at .now) (a .a .first) (a .a .low)) (a .after) (a .end) in
     gathers-on (c .before .before .before .before .before .before .before .loop .inv) (λ u. cond (p u) (u ∷ []) []) (select-one p) (c .before .before .before .before .before .before .loop-test .taken) (c .before .before .add-if .ensures) (chosen p (λ u. u) (c .before .before .before .before .leads .ensures) refl (c .before .before .before .before .before .row-at .ensures))
 
 returns : tie.Need-returns Inv-loop μ-loop

@@ -15,12 +15,12 @@ use Rattle.since.proofs.put_older.Statement.{statement}
 use Rattle.since.proofs.put_older.Tie as tie
 
 abbrev Inv-loop : tie.InvT-loop
-Inv-loop left a rows at start by old-ages old-values out₀ n bounds end old set₀ x₀ out set x =
-    Gathering (pairAt old-ages old-values) (boundRows by (leads left (a .mask) (setAt rows at (a .first) (a .low)) start end) (bounds .from) (bounds .below)) old out₀ set₀
-    (boundRows by (leads left (a .mask) (setAt rows at (a .first) (a .low)) start end) (bounds .from) (bounds .below) (pairsFrom old-ages old-values 0 old)) out set x
+Inv-loop lowest left a rows at start by old-ages old-values out₀ n bounds end old set₀ x₀ out set x =
+    Gathering lowest (pairAt old-ages old-values) (boundRows by (leads left a (setAt rows at (a .first) (a .low)) start end) (bounds .from) (bounds .below)) old out₀ set₀
+    (boundRows by (leads left a (setAt rows at (a .first) (a .low)) start end) (bounds .from) (bounds .below) (pairsFrom old-ages old-values 0 old)) out set x
 
 abbrev μ-loop : tie.MeasureT-loop
-μ-loop left a rows at start by old-ages old-values out₀ n bounds end old set₀ x₀ out set x = old - x
+μ-loop lowest left a rows at start by old-ages old-values out₀ n bounds end old set₀ x₀ out set x = old - x
 
 loop-holds : tie.Need-loop-holds Inv-loop μ-loop
 unfolding pairsFrom
@@ -41,14 +41,14 @@ add-if-requires c κs = gather-room (c .before .before .before .before .before .
 loop-again : tie.Need-loop-again Inv-loop μ-loop
 loop-again c =
     let a = c .before .before .before .before .before .before .before .before .before .before .before .before .before .before .before .before .args in
-    row-turned (a .by) (leads (a .left) (a .a .mask) (setAt (a .rows .now) (a .at .now) (a .a .first) (a .a .low)) (a .start) (point (a .i .0 + 1))) (a .old-ages .now) (a .old-values .now) (c .before .before .before .before .before .before .before .before .before .before .bounds-of .result .from) (c .before .before .before .before .before .before .before .before .before .before .bounds-of .result .below) (c .before .before .before .before .before .before .before .before .loop .inv) (c .before .before .before .before .before .before .before .loop-test .taken) (c .before .before .add-if .ensures) (c .before .before .before .before .stays .ensures) (c .before .before .before .before .before .before .row-at .ensures)
+    row-turned (a .by) (leads (a .left) (a .a) (setAt (a .rows .now) (a .at .now) (a .a .first) (a .a .low)) (a .start) (point (a .i .0 + 1))) (a .old-ages .now) (a .old-values .now) (c .before .before .before .before .before .before .before .before .before .before .bounds-of .result .from) (c .before .before .before .before .before .before .before .before .before .before .bounds-of .result .below) (c .before .before .before .before .before .before .before .before .loop .inv) (c .before .before .before .before .before .before .before .loop-test .taken) (c .before .before .add-if .ensures) (c .before .before .before .before .stays .ensures) (c .before .before .before .before .before .before .row-at .ensures)
 
 returns : tie.Need-returns Inv-loop μ-loop
 returns c =
     let a = c .before .before .before .before .before .before .before .before .before .args in
     let b = c .before .before .before .bounds-of .ensures in
     let h = added-as (ended (c .before .loop .inv) refl (c .loop-test .left) .added)
-    (rows-bound (a .by) (leads (a .left) (a .a .mask) (setAt (a .rows .now) (a .at .now) (a .a .first) (a .a .low)) (a .start) (point (a .i .0 + 1))) (a .w) (a .old-ages .now) (a .old-values .now) (omega arith) (λ k. omega (arith, c .before .before .before .before .before .before .shared-slice-known3 .given k)) (b .0) (b .1) 0 (length (a .old-ages .now))) in
+    (rows-bound (a .by) (leads (a .left) (a .a) (setAt (a .rows .now) (a .at .now) (a .a .first) (a .a .low)) (a .start) (point (a .i .0 + 1))) (a .w) (a .old-ages .now) (a .old-values .now) (omega arith) (λ k. omega (arith, c .before .before .before .before .before .before .shared-slice-known3 .given k)) (b .0) (b .1) 0 (length (a .old-ages .now))) in
     record { long = h .long; put = λ s up m. made-more m h }
 
 pub put-older-spec : {M : Type 1} → statement M

@@ -1,5 +1,6 @@
 -- `put_point_if` meets its contract: the test decides, and the part that is read is right's set.
 use Prim.Native.Nat.{_+_}
+use native.Mathlib.Omega.{arith}
 use mathlib.Core.Path.{ap}
 use borrow.Author.Needs.{needs}
 use Rattle.meaning.specs.Lists.{select}
@@ -25,10 +26,10 @@ returns c =
     let p = c .before .before .before .before .before .set-part .ensures in
     rw (c .before .before .before .before .before .before .if1 .taken)
     (added-as (c .before .before .put-lasting .ensures)
-    (ap (select (leads (a .left) (a .a .mask) (setAt (a .rows .now) (a .at .now) (a .a .first) (a .a .low)) (point (a .j .0 + 1)) (a .end))) (set-read (s .pre .1 .0) (p .0) (p .1))))
+    (ap (select (leads (a .left) (a .a) (setAt (a .rows .now) (a .at .now) (a .a .first) (a .a .low)) (point (a .j .0 + 1)) (a .end))) (set-read (s .pre .1 .0) (p .0) (p .1))))
 
 returns-2 : tie.Need-returns-2
 returns-2 c = rw (c .if1 .left) (added-none (c .before .before .before .before .pre .1 .1))
 
 pub put-point-if-spec : {M : Type 1} → statement M
-put-point-if-spec = tie.close (tie.spec (λ c κs. search needs) (λ c. search needs) put-lasting-requires (λ c. search needs) returns returns-2)
+put-point-if-spec = tie.close (tie.spec (λ c κs. search needs) (λ c. let s = c .before .before .before .before .before .before in omega (arith, s .pre .0 .ordered, s .good)) put-lasting-requires (λ c. search needs) returns returns-2)

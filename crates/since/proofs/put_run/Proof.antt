@@ -8,10 +8,10 @@ use Rattle.since.proofs.put_run.Statement.{statement}
 use Rattle.since.proofs.put_run.Tie as tie
 
 abbrev Inv-loop : tie.InvT-loop
-Inv-loop old-ages old-values from to out₀ n set₀ x₀ out set x = (from ≤ x) × FromBack old-values to out₀ set₀ out set x
+Inv-loop lowest old-ages old-values from to out₀ n set₀ x₀ out set x = (from ≤ x) × FromBack lowest old-values to out₀ set₀ out set x
 
 abbrev μ-loop : tie.MeasureT-loop
-μ-loop old-ages old-values from to out₀ n set₀ x₀ out set x = x
+μ-loop lowest old-ages old-values from to out₀ n set₀ x₀ out set x = x
 
 loop-holds : tie.Need-loop-holds Inv-loop μ-loop
 loop-holds c =

@@ -31,23 +31,23 @@ put-older-requires c κs =
     (s .pre .0, (s .pre .1 .0, (s .pre .1 .1 .1 .0 .0, room-after (s .pre .1 .1 .1 .1) (c .before .before .before .before .put-fresh .ensures))))
 
 -- right's rows, and then those of the held pairs, make up the whole
-whole : {old mid new : List ℕ} {n k : ℕ} {fresh older rows : List (List ℕ)} → Added old 0 mid n fresh → RowsPut mid n new k older → fresh ++ older ≡ rows → SetMade new k (setOf rows)
-whole {new = new} {k = k} {fresh = fresh} {older = older} g h e =
-    subst (SetMade new k) (sym (in-turn insertAll (λ s x. insert x s) (λ s. refl) (λ s x xs. refl) [] fresh older) ∙ ap setOf e) (h .put (setOf fresh) (setOf-ascends fresh) (set-made g))
+whole : {lowest : ℕ} {old mid new : List ℕ} {n k : ℕ} {fresh older rows : List (List ℕ)} → Added lowest old 0 mid n fresh → RowsPut lowest mid n new k older → fresh ++ older ≡ rows → SetMade new k (setOf lowest rows)
+whole {lowest} {new = new} {k = k} {fresh = fresh} {older = older} g h e =
+    subst (SetMade new k) (sym (in-turn (insertAll lowest) (λ s x. insert lowest x s) (λ s. refl) (λ s x xs. refl) [] fresh older) ∙ ap (setOf lowest) e) (h .put (setOf lowest fresh) (setOf-ascends lowest fresh) (set-made g))
 
 returns : tie.Need-returns
 returns c =
     let a = c .before .before .before .before .before .before .before .before .before .before .before .before .before .before .before .before .before .args in
     let sets : Point → List (List ℕ) = setAt (a .rows .now) (a .at .now) (a .a .first) (a .a .low) in
     whole (c .before .before .before .before .before .before .before .before .put-fresh .ensures) (c .before .before .put-aged .ensures)
-    (rows-whole (a .left) (a .a .mask) sets (setAt (a .rows .now) (a .at .now) (a .b .first) (a .b .low)) (stampIn (a .base) (a .times .now)) (a .w) (heldIn (a .old-ages .now) (a .old-values .now)) (a .start) (a .i) (c .before .before .before .before .before .before .before .before .before .before .grown-by .ensures)
-    (all-pass (c .before .before .before .before .enum-told .given .1) (a .a .mask) sets (a .start) (point (a .i .0 + 1))))
+    (rows-whole (a .left) (a .a) sets (setAt (a .rows .now) (a .at .now) (a .b .first) (a .b .low)) (stampIn (a .base) (a .times .now)) (a .w) (heldIn (a .old-ages .now) (a .old-values .now)) (a .start) (a .i) (c .before .before .before .before .before .before .before .before .before .before .grown-by .ensures)
+    (all-pass (c .before .before .before .before .enum-told .given .1) (a .a) sets (a .start) (point (a .i .0 + 1))))
 
 returns-2 : tie.Need-returns-2
 returns-2 c =
     let a = c .before .before .before .before .before .before .before .before .before .before .before .before .before .before .before .before .args in
     whole (c .before .before .before .before .before .before .before .put-fresh .ensures) (c .before .before .put-older .ensures)
-    (rows-whole (a .left) (a .a .mask) (setAt (a .rows .now) (a .at .now) (a .a .first) (a .a .low)) (setAt (a .rows .now) (a .at .now) (a .b .first) (a .b .low)) (stampIn (a .base) (a .times .now)) (a .w) (heldIn (a .old-ages .now) (a .old-values .now)) (a .start) (a .i) (c .before .before .before .before .before .before .before .before .before .grown-by .ensures) refl)
+    (rows-whole (a .left) (a .a) (setAt (a .rows .now) (a .at .now) (a .a .first) (a .a .low)) (setAt (a .rows .now) (a .at .now) (a .b .first) (a .b .low)) (stampIn (a .base) (a .times .now)) (a .w) (heldIn (a .old-ages .now) (a .old-values .now)) (a .start) (a .i) (c .before .before .before .before .before .before .before .before .before .grown-by .ensures) refl)
 
 pub rows-at-spec : {M : Type 1} → statement M
 rows-at-spec =

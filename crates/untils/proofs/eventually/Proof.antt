@@ -13,10 +13,10 @@ use Rattle.untils.proofs.eventually.Statement.{statement}
 use Rattle.untils.proofs.eventually.Tie as tie
 
 abbrev Inv-loop : tie.InvT-loop
-Inv-loop rows at first low times base w m out₀ n start k₀ j₀ out k j = Going (stampIn base times) w (setAt rows at first low) (point j₀) m out₀ n out k j
+Inv-loop lowest rows at first low times base w m out₀ n start k₀ j₀ out k j = Going (stampIn base times) w (setAt rows at first low) (point j₀) lowest m out₀ n out k j
 
 abbrev μ-loop : tie.MeasureT-loop
-μ-loop rows at first low times base w m out₀ n start k₀ j₀ out k j = m - j
+μ-loop lowest rows at first low times base w m out₀ n start k₀ j₀ out k j = m - j
 
 -- the places behind one another
 abbrev entry : tie.After-due-run2 Inv-loop μ-loop → tie.Start Inv-loop μ-loop

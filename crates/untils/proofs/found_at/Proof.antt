@@ -14,7 +14,7 @@ returns : tie.Need-returns
 returns c =
     let s = c .before .before .before .before in
     let p = c .before .set-part .ensures in
-    c .contains .ensures ∙ ap (λ rows. isThere (lookUp (wordsOf (s .args .r)) rows)) (set-read (s .pre) (p .0) (p .1))
+    c .contains .ensures ∙ ap (λ rows. isThere (lookUp (s .args .a .lowest) (wordsOf (s .args .r)) rows)) (set-read (s .pre) (p .0) (p .1))
 
 pub found-at-spec : {M : Type 1} → statement M
 found-at-spec = tie.close (tie.spec (λ c κs. search needs) contains-requires returns)

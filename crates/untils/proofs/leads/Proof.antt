@@ -19,12 +19,12 @@ enum-told c = search needs
 returns : tie.Need-returns
 returns c =
     let a = c .before .before .before .before .args in
-    nothing-asked (setAt (a .rows .now) (a .at .now) (a .fa) (a .la)) (cutTo (inMask (a .mask)) (valuationOf (wordsOf (a .u)))) (pointsFrom (a .i) (a .j .0 - a .i .0)) (c .enum-told .given .1)
+    nothing-asked (a .a .lowest) (setAt (a .rows .now) (a .at .now) (a .a .first) (a .a .low)) (cutTo (inMask (a .a .mask)) (valuationOf (wordsOf (a .u)))) (pointsFrom (a .i) (a .j .0 - a .i .0)) (c .enum-told .given .1)
 
 returns-2 : tie.Need-returns-2
 returns-2 c =
     let a = c .before .before .before .before .before .args in
-    c .passes-from .ensures ∙ ap (λ r. all (passesAt (a .left) (setAt (a .rows .now) (a .at .now) (a .fa) (a .la)) r) (pointsFrom (a .i) (a .j .0 - a .i .0))) (c .before .cut .ensures)
+    c .passes-from .ensures ∙ ap (λ r. all (passesAt (a .left) (a .a .lowest) (setAt (a .rows .now) (a .at .now) (a .a .first) (a .a .low)) r) (pointsFrom (a .i) (a .j .0 - a .i .0))) (c .before .cut .ensures)
 
 pub leads-spec : {M : Type 1} → statement M
 leads-spec = tie.close (tie.spec enum-told returns (λ c κs. search needs) (λ c κs. search needs) returns-2)

@@ -16,11 +16,11 @@ use Rattle.untils.proofs.passes_from.Statement.{statement}
 use Rattle.untils.proofs.passes_from.Tie as tie
 
 abbrev Inv-loop : tie.InvT-loop
-Inv-loop left r rows at fa la end k₀ k =
-    (k₀ ≤ k) × (k ≤ end) × (all (passesAt left (setAt rows at fa la) (wordsOf r)) (pointsFrom (point k₀) (end - k₀)) ≡ all (passesAt left (setAt rows at fa la) (wordsOf r)) (pointsFrom (point k) (end - k)))
+Inv-loop left a r rows at end k₀ k =
+    (k₀ ≤ k) × (k ≤ end) × (all (passesAt left (a .lowest) (setAt rows at (a .first) (a .low)) (wordsOf r)) (pointsFrom (point k₀) (end - k₀)) ≡ all (passesAt left (a .lowest) (setAt rows at (a .first) (a .low)) (wordsOf r)) (pointsFrom (point k) (end - k)))
 
 abbrev μ-loop : tie.MeasureT-loop
-μ-loop left r rows at fa la end k₀ k = end - k
+μ-loop left a r rows at end k₀ k = end - k
 
 loop-holds : tie.Need-loop-holds Inv-loop μ-loop
 loop-holds c = (omega arith, omega arith, refl)

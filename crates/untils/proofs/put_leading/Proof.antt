@@ -14,11 +14,11 @@ use Rattle.untils.proofs.put_leading.Statement.{statement}
 use Rattle.untils.proofs.put_leading.Tie as tie
 
 abbrev Inv-loop : tie.InvT-loop
-Inv-loop left mask rows at fa la from to i j out₀ n set₀ x₀ out set x =
-    Gathering (rowAt rows) (select (leads left mask (setAt rows at fa la) i j)) to out₀ set₀ (select (leads left mask (setAt rows at fa la) i j) (rowsFrom rows from (to - from))) out set x
+Inv-loop lowest left a rows at from to i j out₀ n set₀ x₀ out set x =
+    Gathering lowest (rowAt rows) (select (leads left a (setAt rows at (a .first) (a .low)) i j)) to out₀ set₀ (select (leads left a (setAt rows at (a .first) (a .low)) i j) (rowsFrom rows from (to - from))) out set x
 
 abbrev μ-loop : tie.MeasureT-loop
-μ-loop left mask rows at fa la from to i j out₀ n set₀ x₀ out set x = to - x
+μ-loop lowest left a rows at from to i j out₀ n set₀ x₀ out set x = to - x
 
 loop-holds : tie.Need-loop-holds Inv-loop μ-loop
 unfolding rowsFrom
@@ -30,7 +30,7 @@ add-if-requires c κs = gather-room (c .before .before .before .before .before .
 loop-again : tie.Need-loop-again Inv-loop μ-loop
 loop-again c =
     let a = c .before .before .before .before .before .before .before .before .before .before .before .args in
-    let p : List ℕ → Bool = leads (a .left) (a .mask) (setAt (a .rows .now) (a .at .now) (a .fa) (a .la)) (a .i) (a .j) in
+    let p : List ℕ → Bool = leads (a .left) (a .a) (setAt (a .rows .now) (a .at .now) (a .a .first) (a .a .low)) (a .i) (a .j) in
     gathers-on (c .before .before .before .before .before .before .before .loop .inv) (λ u. cond (p u) (u ∷ []) []) (select-one p) (c .before .before .before .before .before .before .loop-test .taken) (c .before .before .add-if .ensures)
     (chosen p (λ u. u) (c .before .before .before .before .leads .ensures) refl (c .before .before .before .before .before .row-at .ensures))
 

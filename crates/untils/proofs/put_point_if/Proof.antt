@@ -22,7 +22,7 @@ returns c =
     let p = c .before .before .before .before .set-part .ensures in
     rw (c .before .before .before .before .before .if1 .taken)
     (added-as (c .before .before .put-leading .ensures)
-    (ap (select (leads (a .left) (a .mask) (setAt (a .rows .now) (a .at .now) (a .fa) (a .la)) (a .i) (a .j))) (set-read (s .pre .1 .0) (p .0) (p .1))))
+    (ap (select (leads (a .left) (a .a) (setAt (a .rows .now) (a .at .now) (a .a .first) (a .a .low)) (a .i) (a .j))) (set-read (s .pre .1 .0) (p .0) (p .1))))
 
 returns-2 : tie.Need-returns-2
 returns-2 c =

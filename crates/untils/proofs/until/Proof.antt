@@ -20,11 +20,11 @@ use Rattle.untils.proofs.until.Statement.{statement}
 use Rattle.untils.proofs.until.Tie as tie
 
 abbrev Inv-loop : tie.InvT-loop
-Inv-loop left mask rows at fa la fb lb times base w i m out₀ n start k₀ j₀ out k j =
-    (i .0 ≤ j) × Through point (overPoints (stampIn base times) w (leftTest left mask (setAt rows at fa la)) (setAt rows at fb lb) i) m out₀ n (untilRows (stampIn base times) m w (leftTest left mask (setAt rows at fa la)) (setAt rows at fb lb) i) out k j
+Inv-loop lowest left a b rows at times base w i m out₀ n start k₀ j₀ out k j =
+    (i .0 ≤ j) × Through lowest point (overPoints (stampIn base times) w (leftTest left a (setAt rows at (a .first) (a .low))) (setAt rows at (b .first) (b .low)) i) m out₀ n (untilRows (stampIn base times) m w (leftTest left a (setAt rows at (a .first) (a .low))) (setAt rows at (b .first) (b .low)) i) out k j
 
 abbrev μ-loop : tie.MeasureT-loop
-μ-loop left mask rows at fa la fb lb times base w i m out₀ n start k₀ j₀ out k j = m - j
+μ-loop lowest left a b rows at times base w i m out₀ n start k₀ j₀ out k j = m - j
 
 loop-holds : tie.Need-loop-holds Inv-loop μ-loop
 loop-holds c =
@@ -44,11 +44,11 @@ loop-again : tie.Need-loop-again Inv-loop μ-loop
 loop-again c =
     let a = c .before .before .before .before .before .before .before .before .before .before .before .before .args in
     let τ : Point → Stamp = stampIn (a .base) (a .times .now) in
-    let left : List ℕ → Point → Bool = leftTest (a .left) (a .mask) (setAt (a .rows .now) (a .at .now) (a .fa) (a .la)) in
-    let right : Point → List (List ℕ) = setAt (a .rows .now) (a .at .now) (a .fb) (a .lb) in
+    let left : List ℕ → Point → Bool = leftTest (a .left) (a .a) (setAt (a .rows .now) (a .at .now) (a .a .first) (a .a .low)) in
+    let right : Point → List (List ℕ) = setAt (a .rows .now) (a .at .now) (a .b .first) (a .b .low) in
     let v = c .before .before .before .before .before .before .loop .inv in
     let j : ℕ = c .before .before .before .before .before .before .loop .j in
-    let q : ℕ = a .fb + (j - a .lb .0) in (
+    let q : ℕ = a .b .first + (j - a .b .low .0) in (
       omega arith,
       turned (v .1) (atPoint τ (a .w) left right (a .i)) (point-one τ (a .w) left right (a .i)) (c .before .before .before .before .before .loop-test .taken) (c .before .before .put-point-if .ensures)
           (point-there τ (a .w) left right (a .i) (point j) (getD (a .at .now) q 0) (getD (a .at .now) (q + 1) 0) (c .before .before .before .before .before .before .before .time-in .ensures) (set-none (a .rows .now) (a .at .now) q) (c .before .before .before .before .due-there .ensures)),
