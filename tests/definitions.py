@@ -161,9 +161,9 @@ def case(rng):
 
 
 def look_case(rng):
-    """A row and rows of its width: in order, or with two of them swapped, or in no order."""
-    width, high = rng.randint(1, 5), rng.choice((1, 2, 4294967295))
-    rows = sorted({tuple(rng.randint(0, high) for _ in range(width)) for _ in range(rng.randint(0, 6))})
+    """The lowest free variable, a row, and rows of its width: in order, or with two of them swapped, or in no order."""
+    width, high, lowest = rng.randint(1, 5), rng.choice((1, 2, 4294967295)), rng.randint(0, 4)
+    rows = sorted({tuple(rng.randint(0, high) for _ in range(width)) for _ in range(rng.randint(0, 6))}, key=lambda row: plain.place(row, lowest))
     how = rng.randrange(3)
     if how == 1 and len(rows) > 1:
         i, j = rng.sample(range(len(rows)), 2)
@@ -171,7 +171,7 @@ def look_case(rng):
     if how == 2:
         rows += rng.choices(rows, k=2) if rows else []
         rng.shuffle(rows)
-    return rng.choice(rows) if rows and rng.random() < 0.6 else tuple(rng.randint(0, high) for _ in range(width)), rows
+    return lowest, rng.choice(rows) if rows and rng.random() < 0.6 else tuple(rng.randint(0, high) for _ in range(width)), rows
 
 
 def expected(file, takings, room, met):
@@ -204,11 +204,12 @@ def main():
         text += f"\ncase-{k} : whole {room} (checking {numbers(file)}) {numbers(file)} ({' ∷ '.join([fed(t) for t in takings] + ['[]'])}) ≡ {numbers(want)}\n"
         text += f"unfolding {' '.join(OPENED)}\ncase-{k} = refl\n"
     for k in range(4 * count):
-        row, rows = look_case(rng)
-        there, place = plain.look(row, rows)
-        met["looked for", ("there" if there else "not there") + ("" if rows == sorted(rows) else ", not in order")] += 1
+        lowest, row, rows = look_case(rng)
+        there, place = plain.look(row, rows, lowest)
+        in_order = rows == sorted(rows, key=lambda row: plain.place(row, lowest))
+        met["looked for", ("there" if there else "not there") + ("" if in_order else ", not in order")] += 1
         met["looked for", "not there, but behind a larger one"] += not there and row in rows
-        text += f"\nlook-{k} : looked (lookUp {numbers(row)} ({' ∷ '.join([numbers(r) for r in rows] + ['[]'])})) ≡ {numbers((int(there), place))}\nlook-{k} = refl\n"
+        text += f"\nlook-{k} : looked (lookUp {lowest} {numbers(row)} ({' ∷ '.join([numbers(r) for r in rows] + ['[]'])})) ≡ {numbers((int(there), place))}\nlook-{k} = refl\n"
     with tempfile.TemporaryDirectory() as folder:
         top = pathlib.Path(folder)
         shutil.copytree(TOP / "crates" / "meaning", top / "crates" / "meaning", ignore=shutil.ignore_patterns("must-fail"))

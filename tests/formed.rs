@@ -1,6 +1,6 @@
 // The conditions of refusal 8 as docs/STATE.md lists them, worked out on a state's words.
 use crate::input::*;
-use crate::keeper::{free_variables, MOST_KEPT, MOST_OPEN, MOST_POINTS, MOST_ROWS};
+use crate::keeper::{free_variables, in_order, MOST_KEPT, MOST_OPEN, MOST_POINTS, MOST_ROWS};
 use crate::library::{check, State};
 
 const MOST_TIMES: usize = 64;
@@ -64,16 +64,22 @@ impl Stored<'_> {
         (0..4).all(|v| self.free[x][v] || row[v] == 0)
     }
 
+    // Entry e stands before entry f: by number, and then by the row's values of the variables that are free in node x.
+    fn before(&self, x: usize, e: &Entry, f: &Entry) -> bool {
+        let own = |e: &Entry| -> Vec<u32> { (0..4).filter(|v| self.free[x][*v]).map(|v| e.row[v]).collect() };
+        e.number.cmp(&f.number).then_with(|| in_order(&own(e), &own(f))).is_lt()
+    }
+
     // The rows of node x at a point: at most 32, strictly ascending, 0 at variables that aren't free.
     fn rows_fit(&self, x: usize, run: &[Entry]) -> bool {
-        run.len() <= MOST_ROWS && run.windows(2).all(|w| w[0].row < w[1].row) && run.iter().all(|e| self.row_fits(x, &e.row))
+        run.len() <= MOST_ROWS && run.windows(2).all(|w| self.before(x, &w[0], &w[1])) && run.iter().all(|e| self.row_fits(x, &e.row))
     }
 
     // The pairs of node x: strictly ascending by age and row, and no age that the window leaves out.
     fn pairs_fit(&self, x: usize, run: &[Entry]) -> bool {
         let [c, d, ..] = self.rule.nodes[x].words;
         let age_fits = |age: u32| if d == 0 { age <= c } else { age < d };
-        let ascend = run.windows(2).all(|w| (w[0].number, w[0].row) < (w[1].number, w[1].row));
+        let ascend = run.windows(2).all(|w| self.before(x, &w[0], &w[1]));
         ascend && run.iter().all(|e| age_fits(e.number) && self.row_fits(x, &e.row))
     }
 

@@ -1,8 +1,9 @@
-// The keeper of 01 and of request 101, which holds the whole log: Definition 2, "When a point is settled", "What is kept",
+// The keeper of 01 and of requests 101 and 103, which holds the whole log: Definition 2, "When a point is settled", "What is kept",
 // "Take an event" and clock notices, each worked out as it is defined. Written from these texts alone; nothing here is shared
 // with the monitor.
 use crate::input::*;
 use std::cell::RefCell;
+use std::cmp::Ordering;
 use std::collections::BTreeSet;
 use std::ops::Range;
 use std::rc::Rc;
@@ -347,8 +348,16 @@ impl<'m> Log<'m> {
     pub fn rows(&self, i: usize) -> Vec<Vec<u32>> {
         let valuations = self.valuations(self.meaning.last(), i);
         let mut rows: Vec<Vec<u32>> = valuations.iter().map(|u| u.iter().flatten().copied().collect()).collect();
-        rows.sort();
+        rows.sort_by(|a, b| in_order(a, b));
         rows
+    }
+}
+
+// The order of rows with a value for each free variable, lowest first: the lowest ascends, each later one descends.
+pub fn in_order(a: &[u32], b: &[u32]) -> Ordering {
+    match (a, b) {
+        ([x, later @ ..], [y, others @ ..]) => x.cmp(y).then_with(|| others.cmp(later)),
+        _ => Ordering::Equal,
     }
 }
 

@@ -8,7 +8,7 @@ First inputs at the limits: rules of 32 nodes, 652 and 653 bytes, events of 32 a
 a small input cut at every byte. Then a live log: each event is sent once the answer before it has come, and each byte of an event in
 turn is the last that is sent before a pause. Then inputs of many blocks, from a file and through a pipe. Then CASES inputs are generated: rules of up to seven nodes (one in five damaged in a byte) with up to
 40 events, then in part cut, lengthened by stray bytes, given a wrong length word, or replaced by garbage. In each FOLDER every NAME.in
-is run and what is printed compared with NAME.out. The default program is target/bin/listing. Exits with 1 on any difference, or where
+is run and what is printed compared with NAME.out103, where there is one, else with NAME.out. The default program is target/bin/listing. Exits with 1 on any difference, or where
 one of the ways to end a run was met less than once in 200 cases.
 """
 import argparse
@@ -266,7 +266,8 @@ def main():
     if args.folders and not files:
         sys.exit("no NAME.in in the folders")
     for file in files:
-        data, expected = file.read_bytes(), file.with_suffix(".out").read_bytes()
+        newer = file.with_suffix(".out103")
+        data, expected = file.read_bytes(), (newer if newer.exists() else file.with_suffix(".out")).read_bytes()
         printed = run(args.program, data)
         if printed != expected:
             differ(file.name, data, printed, expected)

@@ -198,9 +198,14 @@ class Log:
         return sum(not self.settled(len(self.rule.nodes) - 1, i) for i in range(self.size))
 
 
-def look(row, rows):
+def place(row, lowest=0):
+    """Request 103: by what rows are put in order. The words up to that of the lowest free variable ascend, the later ones descend: of a report's row the first alone ascends."""
+    return row[:lowest + 1] + tuple(-value for value in row[lowest + 1:])
+
+
+def look(row, rows, lowest):
     """Request 102: whether a row is there, and its place; or the place of the first larger one, or the end."""
-    larger = [k for k, other in enumerate(rows) if row < other][:1] or [len(rows)]
+    larger = [k for k, other in enumerate(rows) if place(row, lowest) < place(other, lowest)][:1] or [len(rows)]
     equal = [k for k, other in enumerate(rows[:larger[0]]) if other == row]
     return (True, equal[0]) if equal else (False, larger[0])
 
@@ -244,7 +249,7 @@ def weighed(rule, old, new, most_open, room):
     if new.kept() > MOST_KEPT:
         return (15, 0), None
     free = sorted(rule.free[last])
-    points = [(i, new.time(i), sorted(tuple(dict(u)[v] for v in free) for u in new.vals(last, i))) for i in range(new.size) if new.settled(last, i) and not old.settled(last, i)]
+    points = [(i, new.time(i), sorted((tuple(dict(u)[v] for v in free) for u in new.vals(last, i)), key=place)) for i in range(new.size) if new.settled(last, i) and not old.settled(last, i)]
     need = len(report(rule, points))
     return ((16, need), None) if need > room else (new, points)
 

@@ -5,6 +5,7 @@
 //     rustc -O -L target/staticlib -o target/reports tests/reports.rs
 //     target/reports          the comparison
 //     target/reports --time   the time to read one entry of the longest report, beside a plain pass over its words
+use std::cmp::Ordering;
 use std::hint::black_box;
 use std::time::Instant;
 
@@ -43,6 +44,14 @@ struct Entry {
     rows: std::ops::Range<usize>,
 }
 
+// The order of rows: column 0 ascends, the others descend.
+fn in_order(a: &[u32], b: &[u32]) -> Ordering {
+    match (a, b) {
+        ([x, later @ ..], [y, others @ ..]) => x.cmp(y).then_with(|| others.cmp(later)),
+        _ => Ordering::Equal,
+    }
+}
+
 // The entries of a report, or nothing where the words are not one.
 fn entries(r: &[u32]) -> Option<Vec<Entry>> {
     let (p, f, total) = match r {
@@ -67,7 +76,7 @@ fn entries(r: &[u32]) -> Option<Vec<Entry>> {
             0 => t[2] <= 1,
             _ => {
                 let rows: Vec<&[u32]> = r[at..at + words].chunks(f).collect();
-                rows.windows(2).all(|w| w[0] < w[1])
+                rows.windows(2).all(|w| in_order(w[0], w[1]).is_lt())
             }
         };
         if !ascend {
@@ -123,7 +132,7 @@ fn good(g: &mut Random, p: usize, f: usize, most: u64) -> Vec<u32> {
                 if high { u32::MAX - v } else { v }
             }).collect())
             .collect();
-        rows.sort();
+        rows.sort_by(|a, b| in_order(a, b));
         rows.dedup();
         total += rows.len() as u32;
         triples.extend([point, g.next() as u32, rows.len() as u32]);

@@ -448,6 +448,11 @@ impl Monitor {
     fn write_report(&mut self) {
         let last = self.nodes.len() - 1;
         let sets = &mut self.nodes[last].out;
+        // the lowest free variable ascends, each later one descends
+        if let [first, later @ ..] = &self.columns[..] {
+            let later_of = |row: Row| later.iter().map(move |k| row[*k]);
+            sets.iter_mut().for_each(|set| set.sort_unstable_by(|a, b| a[*first].cmp(&b[*first]).then_with(|| later_of(*b).cmp(later_of(*a)))));
+        }
         self.report.clear();
         let total: usize = sets.iter().map(Vec::len).sum();
         self.report.extend([sets.len() as u32, self.columns.len() as u32, total as u32]);
