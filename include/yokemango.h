@@ -19,10 +19,10 @@
 extern "C" {
 #endif
 
-#define YOKEMANGO_VERSION "1.1.1-pre"
+#define YOKEMANGO_VERSION "1.2.0-pre"
 #define YOKEMANGO_VERSION_MAJOR 1
-#define YOKEMANGO_VERSION_MINOR 1
-#define YOKEMANGO_VERSION_PATCH 1
+#define YOKEMANGO_VERSION_MINOR 2
+#define YOKEMANGO_VERSION_PATCH 0
 
 /* ---- limits */
 

@@ -14,8 +14,12 @@ use core::iter::FusedIterator;
 /// assert_eq!(printed, ["0 at 100: 2", "1 at 130: 0"]);
 /// assert!(report.points().next().unwrap().rows().eq([[7], [9]]));
 ///
-/// // rows that don't ascend are no report
+/// // column 0 ascends, and rows that tie on it descend by each later column
+/// assert!(Report::read(&[1, 2, 3, 0, 100, 3, 7, 2, 7, 1, 9, 0])?.points().next().unwrap().rows().eq([[7, 2], [7, 1], [9, 0]]));
+///
+/// // rows in another order are no report
 /// assert_eq!(Report::read(&[1, 1, 2, 0, 100, 2, 9, 7]).err(), Some(Refusal::Report));
+/// assert_eq!(Report::read(&[1, 2, 3, 0, 100, 3, 7, 1, 7, 2, 9, 0]).err(), Some(Refusal::Report));
 /// # Ok::<(), Refusal>(())
 /// ```
 #[derive(Clone, Copy)]
@@ -136,7 +140,8 @@ impl<'a> Point<'a> {
         self.time
     }
 
-    /// Its rows, ascending: each a value for every free variable of the pattern, lowest first.
+    /// Its rows, each a value for every free variable of the pattern, lowest first. They ascend by the first value, and those that
+    /// tie on it descend by each later one in turn.
     pub fn rows(&self) -> Rows<'a> {
         self.rows.clone()
     }
