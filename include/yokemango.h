@@ -173,6 +173,7 @@ struct yokemango_figures yokemango_figures(
 
 /* ---- read a report: P points, F free variables, total rows; P triples of point, time and row count; rows of F words
 
+   Points ascend. The rows of a point ascend by their first word, and those that tie on it descend by each later word in turn.
    Words of any kind may be passed, and words past the report's end are ignored. Each call goes over the report once. */
 
 /* 0 where the words are a report, else 17. */

@@ -105,6 +105,7 @@ static void reports(const uint8_t *rule, size_t length)
 {
     const uint32_t leaks[] = {100, 2, 0, 0, 9, 0, 0, 0, 7, 0, 0, 0}, later[] = {161, 0};
     const uint32_t expected[] = {1, 1, 2, 0, 100, 2, 7, 9};
+    const uint32_t tied[] = {1, 2, 2, 0, 100, 2, 7, 2, 7, 1}, ascending[] = {1, 2, 2, 0, 100, 2, 7, 1, 7, 2};
     uint32_t *report = copy(expected, 8);
     struct yokemango_taken taken;
     struct yokemango_figures figures;
@@ -123,6 +124,9 @@ static void reports(const uint8_t *rule, size_t length)
     CHECK(taken.number == 0 && taken.words == 8 && memcmp(report, expected, sizeof expected) == 0);
 
     CHECK(yokemango_check_report(report, 8) == 0 && yokemango_check_report(report, 7) == YOKEMANGO_REFUSED_REPORT);
+    /* rows that tie on the first word descend; in the order before request 103 they are no report */
+    CHECK(yokemango_check_report(tied, 10) == 0);
+    CHECK(yokemango_check_report(ascending, 10) == YOKEMANGO_REFUSED_REPORT);
     CHECK(yokemango_point_at(report, 8, 1, &point) == YOKEMANGO_REFUSED_REPORT && point.number == 1 && point.words == NULL);
     CHECK(yokemango_point_at(report, 7, 0, &point) == YOKEMANGO_REFUSED_REPORT);
     CHECK(yokemango_point_at(report, 8, 0, &point) == 0);
