@@ -30,7 +30,7 @@ mod library;
 
 use draw::{move_on, Draw};
 use input::{atom, event, node, rule_l, Random, EVENTUALLY, LONGEST_REPORT, NEXT, ONCE};
-use keeper::{fed, Fed, Log, Meaning, MOST_POINTS};
+use keeper::{fed, in_order, Fed, Log, Meaning, MOST_POINTS};
 use std::mem::{offset_of, transmute};
 use std::process::exit;
 use yokemango::{Event, Refusal, Report, Rule, State, Unfit, STATE_WORDS};
@@ -544,7 +544,7 @@ fn read(words: &[u32]) -> Option<Vec<Entry>> {
         }
         let (own, after) = rest.split_at(f as usize * t[2] as usize);
         let rows: Vec<Vec<u32>> = (0..t[2] as usize).map(|k| own[f as usize * k..][..f as usize].to_vec()).collect();
-        if rows.windows(2).any(|w| w[0] >= w[1]) || entries.last().is_some_and(|e| e.0 >= t[0]) {
+        if rows.windows(2).any(|w| in_order(&w[0], &w[1]).is_ge()) || entries.last().is_some_and(|e| e.0 >= t[0]) {
             return None;
         }
         entries.push((t[0], t[1], rows));
