@@ -1,4 +1,4 @@
-// What each kind puts into a set of valuations, from its children's sets in a lent slice.
+// What each kind puts into a set of valuations, from its children's sets in a lent slice. `lowest` is the node's lowest free variable, by which its set is in order.
 use meaning::Comparison;
 use meaning::Term;
 use meaning::Terms;
@@ -208,7 +208,7 @@ fn and_row(
     set.count
 }
 
-// "and", of a node with this lowest free variable: f and g are the masks of the children's variables; the left child's rows are from..to, the right child's start..end.
+// "and": f and g are the masks of the children's variables; the left child's rows are from..to, the right child's start..end.
 pub fn and(
     lowest: u32,
     f: u8,

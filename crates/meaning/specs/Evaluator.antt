@@ -1,4 +1,4 @@
--- The evaluator: the valuations of a formula at a point, as a strictly ascending list of rows of four words, 0 where a variable isn't free.
+-- The evaluator: the valuations of a formula at a point, as a list of rows of four words, 0 where a variable isn't free, strictly ascending in the order that its lowest free variable gives.
 -- proofs/Agreement shows that these are the valuations that satisfy the formula by Definition 2.
 use Prim.Native.Nat.{ℕ, suc, _-_}
 use mathlib.Core.Bool.{Bool, true, not, cond, _&&_, _||_}

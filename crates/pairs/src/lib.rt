@@ -1,4 +1,4 @@
-// Pairs of an age and a row as a strictly ascending set: the ages are in one lent slice, the rows, of four words each, in another.
+// Pairs of an age and a row as a strictly ascending set: the ages are in one lent slice, the rows, of four words each, in another. `lowest` is the lowest free variable of their node, by which the rows of one age are in order.
 use meaning::Sought;
 use rowset::Compared;
 use rowset::Gathered;

@@ -1,4 +1,4 @@
-// Sets of valuations as rows of four words in lent slices.
+// Sets of valuations as rows of four words in lent slices. `lowest` is the lowest free variable of their node, by which they are in order.
 use meaning::MOST_ROWS;
 use meaning::Sought;
 ghost use mathlib.Core.Path.{_≡_};

@@ -1,4 +1,4 @@
-// The valuations of one node at one newly settled point, by its kind, from its children's sets in a lent slice; and its pairs there.
+// The valuations of one node at one newly settled point, by its kind, from its children's sets in a lent slice; and its pairs there. `lowest` is the node's lowest free variable, by which both are in order.
 use meaning::Children;
 use meaning::Comparison;
 use meaning::Left;

@@ -1,4 +1,4 @@
-// The since kinds at a newly settled point, straight from their definition: right's rows from the first newly settled point on, and the pairs that were held before it.
+// The since kinds at a newly settled point, straight from their definition: right's rows from the first newly settled point on, and the pairs that were held before it. `lowest` is the node's lowest free variable, by which its set and its pairs are in order.
 use meaning::Left;
 use meaning::Point;
 use meaning::Window;
@@ -295,7 +295,7 @@ fn put_older(
     set.count
 }
 
-// The rows at point i of a node with this lowest free variable, put into an empty set. Left is a and right is b; where nothing is asked of left, right may be given for left. The first newly settled point is start; the pairs held before it are as many as the old ages.
+// The rows at point i, put into an empty set. Left is a and right is b; where nothing is asked of left, right may be given for left. The first newly settled point is start; the pairs held before it are as many as the old ages.
 pub fn rows_at(
     lowest: u32,
     left: Left,

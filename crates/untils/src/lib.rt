@@ -1,4 +1,4 @@
-// The valuations of until at a point, from its children's sets in a lent slice.
+// The valuations of until at a point, from its children's sets in a lent slice. `lowest` is the node's lowest free variable, by which its set is in order.
 use meaning::Left;
 use meaning::Point;
 use meaning::Stamp;
@@ -202,7 +202,7 @@ fn due_there(
     due(w, start, progress::time_in(times, base, j))
 }
 
-// Until at point i over the points before m, of a node with this lowest free variable. Left is a and right is b; where nothing is asked of left, right may be given for left.
+// Until at point i over the points before m. Left is a and right is b; where nothing is asked of left, right may be given for left.
 pub fn until(
     lowest: u32,
     left: Left,
