@@ -73,36 +73,6 @@ fn grown_by(times: &[u32], base: Point, start: Point, i: Point) -> u32
     untils::elapsed(before, here)
 }
 
-// Puts in the rows from..to for which left passes at every point from `after` on before end. Until has such a loop too, which the compiler merges into its one caller.
-fn put_lasting(
-    lowest: u32,
-    left: Left,
-    a: Child,
-    rows: &[u32],
-    at: &[u32],
-    from: usize,
-    to: usize,
-    after: Point,
-    end: Point,
-    out: &mut [u32],
-    n: usize,
-) -> usize
-    requires { ⌜ Stand (now rows) (now at) (a .first) (a .low) after (end .0) ⌝ }
-    requires { ⌜ Run (now rows) from to ⌝ }
-    requires { ⌜ SetRoom (now out) n ⌝ }
-    ensures { λ k. ⌜ Added lowest (now (out .entry)) n (now (out .exit)) k (select (leads left a (setAt (now (rows .entry)) (now (at .entry)) (a .first) (a .low)) after end) (rowsFrom (now (rows .entry)) from (to - from))) ⌝ }
-{
-    let mut set = Gathered { count: n, near: 0 };
-    let mut x = from;
-    while x < to {
-        let u = rowset::row_at(rows, x);
-        let ok = untils::leads(left, a, u, rows, at, after, end);
-        set = rowset::add_if(ok, lowest, out, set, u);
-        x += 1;
-    }
-    set.count
-}
-
 // Puts in right's rows at point j for which left passes at every point after j and before end, where the test passed.
 fn put_point_if(
     ok: bool,
@@ -125,7 +95,7 @@ fn put_point_if(
     if ok {
         let set = untils::set_part(at, b.first, b.low, j);
         let after = Point(j.0 + 1);
-        return put_lasting(
+        return untils::put_leading(
             lowest,
             left,
             a,

@@ -5,7 +5,6 @@ use mathlib.Core.Path.{_≡_, sym, _∙_}
 use mathlib.Core.List.{_∷_}
 use lib.ListN.{length}
 use borrow.Author.Needs.{needs}
-use Rattle.meaning.specs.Order.{before}
 use Rattle.meaning.specs.LookUp.{lookUp}
 use Rattle.meaning.specs.declared.Sought.the-variants.{There, Absent}
 use Rattle.rowset.specs.Rows.{wordsOf}

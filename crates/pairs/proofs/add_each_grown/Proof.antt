@@ -4,7 +4,6 @@ use native.Mathlib.Omega.{arith}
 use mathlib.Core.Path.{refl, ap₂}
 use mathlib.Core.List.{[], _∷_}
 use lib.ListN.{getD, drop}
-use Rattle.meaning.specs.Order.{before}
 use Rattle.rowset.proofs.Growing.{Turns, starts-all, goes-on, ended}
 use Rattle.kinds.specs.Kinds.{pairAt, pairsFrom}
 use Rattle.pairs.specs.Pairs.{PairsAdded, grownPairs}

@@ -2,7 +2,6 @@
 use Prim.Native.Nat.{_<_}
 use native.Mathlib.Omega.{arith}
 use borrow.Author.Needs.{needs}
-use Rattle.meaning.specs.Order.{before}
 use Rattle.pairs.proofs.Behind.{ages-small, add-behind}
 use Rattle.pairs.proofs.add_grown.Statement.{statement}
 use Rattle.pairs.proofs.add_grown.Tie as tie

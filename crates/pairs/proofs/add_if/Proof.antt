@@ -1,6 +1,5 @@
 -- `add_if` meets its contract: the test decides.
 use borrow.Author.Needs.{needs}
-use Rattle.meaning.specs.Order.{before}
 use Rattle.pairs.proofs.Adding.{add-none}
 use Rattle.pairs.proofs.add_if.Statement.{statement}
 use Rattle.pairs.proofs.add_if.Tie as tie

@@ -3,7 +3,6 @@ use Prim.Native.Nat.{ℕ, _-_}
 use native.Mathlib.Omega.{arith}
 use mathlib.Core.Path.{refl, ap}
 use mathlib.Core.List.{[], _∷_, map}
-use Rattle.meaning.specs.Order.{before}
 use Rattle.rowset.specs.Rows.{rowAt, rowsFrom}
 use Rattle.rowset.proofs.Growing.{Turns, starts, goes-on, ended}
 use Rattle.pairs.specs.Pairs.{PairsAdded}

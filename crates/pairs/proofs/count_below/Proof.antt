@@ -1,7 +1,6 @@
 -- `count_below` meets its contract. The loop's invariant: the ages up to low are below the bound, and those from high on aren't.
 use Prim.Native.Nat.{_+_, _-_, _/_}
 use native.Mathlib.Omega.{arith}
-use Rattle.meaning.specs.Order.{before}
 use Rattle.pairs.proofs.Ascents.{Halving, halving-none, halving-up, halving-down, halving-all}
 use Rattle.pairs.proofs.count_below.Statement.{statement}
 use Rattle.pairs.proofs.count_below.Tie as tie

@@ -5,7 +5,6 @@ use mathlib.Core.Bool.{false≢true}
 use lib.ListN.{getD}
 use borrow.Author.Needs.{needs}
 use borrow.Author.Tests.{ltb-true}
-use Rattle.meaning.specs.Order.{before}
 use Rattle.pairs.proofs.fits_behind.Statement.{statement}
 use Rattle.pairs.proofs.fits_behind.Tie as tie
 

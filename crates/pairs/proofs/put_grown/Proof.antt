@@ -3,7 +3,6 @@ use Prim.Native.Nat.{_+_, _-_, _≤_}
 use native.Mathlib.Omega.{arith}
 use mathlib.Core.Path.{_≡_, refl}
 use lib.ListN.{getD}
-use Rattle.meaning.specs.Order.{before}
 use Rattle.entries.specs.Appended.{WordsPut}
 use Rattle.entries.proofs.Putting.{put-none, put-more}
 use Rattle.pairs.proofs.put_grown.Statement.{statement}

@@ -4,7 +4,6 @@ use native.Mathlib.Omega.{arith}
 use mathlib.Core.Path.{_≡_, refl, ap, _∙_}
 use mathlib.Core.List.{_∷_}
 use lib.ListN.{length, getD, length-set}
-use Rattle.meaning.specs.Order.{before}
 use Rattle.rowset.specs.Rows.{wordsOf}
 use Rattle.rowset.proofs.Runs.{Passing, passing, passed-on, passed-all}
 use Rattle.kinds.specs.Kinds.{pairAt, pairsFrom}

@@ -5,7 +5,6 @@ use mathlib.Core.Path.{_≡_, refl, sym, ap, _∙_}
 use mathlib.Core.List.{_∷_}
 use lib.ListN.{getD}
 use borrow.Author.Needs.{needs}
-use Rattle.meaning.specs.Order.{before}
 use Rattle.meaning.specs.LookUp.{onward, lookUp}
 use Rattle.rowset.specs.Rows.{wordsOf, compared}
 use Rattle.rowset.proofs.Searching.{seek-on, seek-there, seek-absent, seek-end}

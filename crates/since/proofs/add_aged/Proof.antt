@@ -3,7 +3,6 @@ use mathlib.Core.Path.{ap}
 use mathlib.Core.List.{[], _∷_}
 use borrow.Author.Needs.{needs}
 use borrow.Author.Tests.{lt-ltb, le-ltb}
-use Rattle.meaning.specs.Order.{before}
 use Rattle.rowset.specs.Rows.{wordsOf}
 use Rattle.pairs.proofs.Adding.{add-none}
 use Rattle.pairs.proofs.Growing.{pairs-as}

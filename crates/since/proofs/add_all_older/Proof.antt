@@ -5,7 +5,6 @@ use mathlib.Core.Path.{refl}
 use lib.ListN.{length}
 use borrow.Author.Needs.{needs}
 use Rattle.meaning.specs.Log.{point}
-use Rattle.meaning.specs.Order.{before}
 use Rattle.rowset.proofs.Growing.{Turns, starts-all, ended}
 use Rattle.kinds.specs.Kinds.{pairAt, pairsFrom}
 use Rattle.room.specs.Room.{setAt}

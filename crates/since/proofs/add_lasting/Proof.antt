@@ -6,7 +6,6 @@ use mathlib.Core.Bool.{Bool, cond}
 use mathlib.Core.List.{List, [], _∷_, map}
 use borrow.Author.Needs.{needs}
 use Rattle.meaning.specs.Lists.{select}
-use Rattle.meaning.specs.Order.{before}
 use Rattle.rowset.specs.Rows.{rowAt, rowsFrom}
 use Rattle.rowset.proofs.Growing.{Turns, starts, goes-on, ended, map-select-one, chosen}
 use Rattle.room.specs.Room.{setAt}

@@ -3,7 +3,6 @@ use mathlib.Core.Path.{sym, _∙_}
 use mathlib.Core.Bool.{and-true, and-false}
 use lib.Dec.{ltb}
 use borrow.Author.Needs.{needs}
-use Rattle.meaning.specs.Order.{before}
 use Rattle.pairs.proofs.Adding.{add-none}
 use Rattle.since.proofs.add_older.Statement.{statement}
 use Rattle.since.proofs.add_older.Tie as tie

@@ -6,7 +6,6 @@ use mathlib.Core.List.{_∷_, map}
 use borrow.Author.Needs.{needs}
 use Rattle.meaning.specs.Lists.{select}
 use Rattle.meaning.specs.Log.{point}
-use Rattle.meaning.specs.Order.{before}
 use Rattle.room.specs.Room.{setAt}
 use Rattle.untils.proofs.Spans.{set-run, set-read}
 use Rattle.untils.specs.Until.{leads}

@@ -7,7 +7,6 @@ use mathlib.Core.List.{_∷_, map}
 use lib.Dec.{ltb}
 use borrow.Author.Needs.{needs}
 use borrow.Author.Tests.{lt-ltb, le-ltb}
-use Rattle.meaning.specs.Order.{before}
 use Rattle.meaning.specs.Kept.{belowEnd}
 use Rattle.room.specs.Room.{setAt}
 use Rattle.pairs.proofs.Adding.{add-none}

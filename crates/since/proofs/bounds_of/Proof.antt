@@ -2,7 +2,6 @@
 use mathlib.Core.Path.{refl}
 use borrow.Author.Needs.{needs}
 use borrow.Author.Tests.{eq-eqb, ne-eqb}
-use Rattle.meaning.specs.Order.{before}
 use Rattle.since.proofs.bounds_of.Statement.{statement}
 use Rattle.since.proofs.bounds_of.Tie as tie
 

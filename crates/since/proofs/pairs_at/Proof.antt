@@ -4,7 +4,6 @@ use mathlib.Core.Path.{refl}
 use mathlib.Core.List.{List}
 use borrow.Author.Needs.{needs}
 use Rattle.meaning.specs.Log.{point}
-use Rattle.meaning.specs.Order.{before}
 use Rattle.meaning.specs.declared.Point.{Point}
 use Rattle.method.specs.Stored.{stampIn}
 use Rattle.room.specs.Room.{setAt}

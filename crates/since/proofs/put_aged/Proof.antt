@@ -4,7 +4,6 @@ use mathlib.Core.Path.{subst, _∙_}
 use mathlib.Core.Bool.{true}
 use lib.ListN.{length}
 use borrow.Author.Needs.{needs}
-use Rattle.meaning.specs.Order.{before}
 use Rattle.pairs.proofs.Ascents.{rising}
 use Rattle.since.specs.Since.{RowsPut}
 use Rattle.since.proofs.Held.{rows-run, rows-bound}

@@ -7,7 +7,6 @@ use mathlib.Core.List.{List, [], map}
 use borrow.Author.Needs.{needs}
 use Rattle.meaning.specs.Lists.{range}
 use Rattle.meaning.specs.Log.{point}
-use Rattle.meaning.specs.Order.{before}
 use Rattle.meaning.specs.declared.Point.{Point}
 use Rattle.meaning.specs.declared.Stamp.{Stamp}
 use Rattle.method.specs.Stored.{stampIn}

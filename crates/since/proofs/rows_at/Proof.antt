@@ -5,7 +5,6 @@ use mathlib.Core.Path.{_≡_, refl, sym, ap, subst, _∙_}
 use mathlib.Core.List.{List, [], _++_}
 use borrow.Author.Needs.{needs}
 use Rattle.meaning.specs.Log.{point}
-use Rattle.meaning.specs.Order.{before}
 use Rattle.meaning.specs.Evaluator.{insert, insertAll, setOf}
 use Rattle.meaning.specs.declared.Point.{Point}
 use Rattle.method.specs.Stored.{stampIn}

@@ -1,7 +1,6 @@
 -- `stays` meets its contract: the age is tested first, then left.
 use mathlib.Core.Path.{sym, _∙_}
 use borrow.Author.Needs.{needs}
-use Rattle.meaning.specs.Order.{before}
 use Rattle.since.proofs.stays.Statement.{statement}
 use Rattle.since.proofs.stays.Tie as tie
 

@@ -1,6 +1,5 @@
 -- `within` meets its contract: the start is tested first, then the end.
 use borrow.Author.Tests.{lt-leb, le-leb}
-use Rattle.meaning.specs.Order.{before}
 use Rattle.since.proofs.within.Statement.{statement}
 use Rattle.since.proofs.within.Tie as tie
 
