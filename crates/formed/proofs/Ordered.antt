@@ -22,6 +22,7 @@ use Rattle.kinds.specs.Kinds.{inMask, pairAt}
 use Rattle.entries.specs.Entries.{entryAt, entriesFrom, begins, streak, isWord, runOf, hasOwner, isEntry}
 use Rattle.entries.proofs.Streaks.{streak-within, streak-all}
 use Rattle.entries.proofs.Walking.{isOf, entryRun}
+use Rattle.pairs.proofs.Ascents.{age-rises}
 use Rattle.formed.specs.Tests.{rowCut, rowsFit, Rising, SetsFit}
 use Rattle.formed.specs.Walk.{behind, setsRest, rowsFound}
 use Rattle.formed.specs.Steps.{restAt}
@@ -64,13 +65,6 @@ own-run os cursor count owner l e = streaked (isWord os owner) cursor count l e
 -- ---- pairs of a number and a row, in their order
 
 module _ (lowest a b : ℕ) (u v : List ℕ) where
-  pub before-le : before (suc lowest) (a ∷ u) (b ∷ v) ≡ true → a ≤ b
-  before-le h = go (tested (ltb a b))
-    where
-      go : Tested (ltb a b) → a ≤ b
-      go (passed t) = let l : a < b = ltb-true a b t in omega arith
-      go (failed t) = let k : (eqb a b && before lowest u v) ≡ true = rw t at h in let e : a ≡ b = eqb-true a b (first (eqb a b) (before lowest u v) k) in omega arith
-
   before-lt : a < b → before (suc lowest) (a ∷ u) (b ∷ v) ≡ true
   before-lt l = rw (lt-ltb a b l)
 
@@ -96,7 +90,7 @@ rises {lowest} ns vs p from to h i j u l o = let z : i + (j - i) ≡ j = omega a
     go zero m = let z : i + 0 ≡ i = omega arith in rw z (omega arith)
     go (suc d) m =
         let z : i + suc d ≡ i + d + 1 = omega arith in
-        let s : getD ns (i + d) 0 ≤ getD ns (i + d + 1) 0 = before-le lowest (getD ns (i + d) 0) (getD ns (i + d + 1) 0) (rowAt vs (i + d)) (rowAt vs (i + d + 1)) (h .up (i + d) (omega arith) (omega arith)) in
+        let s : getD ns (i + d) 0 ≤ getD ns (i + d + 1) 0 = age-rises lowest (getD ns (i + d) 0) (getD ns (i + d + 1) 0) (rowAt vs (i + d)) (rowAt vs (i + d + 1)) (h .up (i + d) (omega arith) (omega arith)) in
         rw z (omega (arith, go d (omega arith)))
 
 -- ---- a node's runs, point by point

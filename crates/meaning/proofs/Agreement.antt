@@ -20,7 +20,7 @@ use Rattle.meaning.specs.declared.Term.{Term}
 use Rattle.meaning.specs.declared.Term.the-variants.{Variable, Constant}
 use Rattle.meaning.specs.declared.Window.{Window}
 use Rattle.meaning.proofs.Fine.{Fine, named}
-use Rattle.meaning.proofs.Rows.{either, both-ways, neither, denied, any-at, all-at, all-of, cond-at, cond-of, select-at, select-of, gather-at, gather-of, points-at, points-of, all-points, same-row, member-row, variables-of, variables-at, words-same, words-at, word-at, words-equal, setOf-mem, setOf-ascends}
+use Rattle.meaning.proofs.Rows.{either, both-ways, neither, denied, any-at, all-at, all-of, cond-at, cond-of, select-at, select-of, gather-at, gather-of, points-at, points-of, all-points, same-row, member-row, variables-of, variables-at, words-same, words-at, word-at, words-equal, cut-at, setOf-mem, setOf-ascends}
 
 -- Valuations cut down to some variables.
 within-at : (f g : ℕ → Bool) → within f g ≡ true → (x : ℕ) → x < 4 → f x ≡ true → g x ≡ true
@@ -32,9 +32,6 @@ cut-same f {v} {v'} h = words-same (λ x k. go x (f x) (h x k))
     go : (x : ℕ) (t : Bool) → (t ≡ true → v x ≡ v' x) → cond t (v x) 0 ≡ cond t (v' x) 0
     go x true e = e refl
     go x false e = refl
-
-cut-at : (f : ℕ → Bool) (v : Valuation) (x : ℕ) → x < 4 → f x ≡ true → getD (cutTo f v) x 0 ≡ v x
-cut-at f v x h e = words-at (λ y. cond (f y) (v y) 0) x h ∙ (rw e)
 
 -- a row of four words that is 0 outside f is cut down to f
 cut-of : (f : ℕ → Bool) (h : ℕ → ℕ) {u : List ℕ} → u ≡ map h variables → ((x : ℕ) → x < 4 → f x ≡ false → h x ≡ 0) → u ≡ cutTo f (valuationOf u)

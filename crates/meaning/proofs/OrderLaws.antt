@@ -13,7 +13,7 @@ use Rattle.meaning.specs.OrderLaws.{OrderLaws}
 use Rattle.meaning.specs.Formula.{variables, lowestOf}
 use Rattle.meaning.specs.Definition2.{Valuation}
 use Rattle.meaning.specs.Evaluator.{cutTo, valuationOf}
-use Rattle.meaning.proofs.Rows.{words-at, before-irreflexive, before-transitive, before-total}
+use Rattle.meaning.proofs.Rows.{words-at, cut-at, before-irreflexive, before-transitive, before-total}
 
 -- rows that agree before word k: where all words descend
 higher-at : (r s : List ℕ) (k : ℕ) → k < length r → k < length s → ((j : ℕ) → j < k → getD r j 0 ≡ getD s j 0) → getD s k 0 < getD r k 0 → higher r s ≡ true
@@ -62,11 +62,8 @@ lowest-is f (suc (suc zero)) h e none = rw (none 0 (omega arith), none 1 (omega 
 lowest-is f (suc (suc (suc zero))) h e none = rw (none 0 (omega arith), none 1 (omega arith), none 2 (omega arith), e)
 lowest-is f (suc (suc (suc (suc x)))) h e none = absurd (omega arith)
 
--- a word of a valuation cut down to some variables
+-- valuations cut down to some variables
 module _ (f : ℕ → Bool) (v w : Valuation) where
-  cut-word : (u : Valuation) (x : ℕ) → x < 4 → f x ≡ true → getD (cutTo f u) x 0 ≡ u x
-  cut-word u x h e = words-at (λ y. cond (f y) (u y) 0) x h ∙ rw e
-
   -- where the valuations agree on the variables below x that are in f, the words before it are the same
   cut-agree : (x : ℕ) → x < 4 → ((z : ℕ) → z < x → f z ≡ true → v z ≡ w z) → (j : ℕ) → j < x → getD (cutTo f v) j 0 ≡ getD (cutTo f w) j 0
   cut-agree x h same j l = words-at (λ y. cond (f y) (v y) 0) j (omega arith) ∙ go (f j) refl ∙ sym (words-at (λ y. cond (f y) (w y) 0) j (omega arith))
@@ -78,11 +75,11 @@ module _ (f : ℕ → Bool) (v w : Valuation) where
   ascends : (x : ℕ) → x < 4 → f x ≡ true → ((y : ℕ) → y < x → f y ≡ false) → v x < w x → before (lowestOf f) (cutTo f v) (cutTo f w) ≡ true
   ascends x h e none d =
       let l : lowestOf f ≡ x = lowest-is f x h e none in
-      ascends-at (lowestOf f) (cutTo f v) (cutTo f w) x h h (omega arith) (cut-agree x h (λ z k t. absurd (true≢false (sym t ∙ none z k)))) (omega (arith, cut-word v x h e, cut-word w x h e))
+      ascends-at (lowestOf f) (cutTo f v) (cutTo f w) x h h (omega arith) (cut-agree x h (λ z k t. absurd (true≢false (sym t ∙ none z k)))) (omega (arith, cut-at f v x h e, cut-at f w x h e))
 
   descends : (x y : ℕ) → y < x → x < 4 → f y ≡ true → f x ≡ true → ((z : ℕ) → z < x → f z ≡ true → v z ≡ w z) → w x < v x → before (lowestOf f) (cutTo f v) (cutTo f w) ≡ true
   descends x y k h a e same d =
-      descends-at (lowestOf f) (cutTo f v) (cutTo f w) x h h (omega (arith, lowest-least f y (omega arith) a)) (cut-agree x h same) (omega (arith, cut-word v x h e, cut-word w x h e))
+      descends-at (lowestOf f) (cutTo f v) (cutTo f w) x h h (omega (arith, lowest-least f y (omega arith) a)) (cut-agree x h same) (omega (arith, cut-at f v x h e, cut-at f w x h e))
 
 -- the words of the free variables alone, and all words, 0 where one isn't free
 abbrev shownIn : (ℕ → Bool) → Valuation → List ℕ → List ℕ

@@ -13,7 +13,7 @@ use Rattle.meaning.specs.Lists.{all, any, select, gather, range, sameRow
 use Rattle.meaning.specs.Log.{point, pointsFrom}
 use Rattle.meaning.specs.Formula.{variables}
 use Rattle.meaning.specs.Order.{higher, before, ascending, OfLength}
-use Rattle.meaning.specs.Evaluator.{insert, insertAll, setOf, member}
+use Rattle.meaning.specs.Evaluator.{cutTo, insert, insertAll, setOf, member}
 use Rattle.meaning.specs.declared.Point.{Point}
 
 -- Tests: one of two passes, neither does, both pass together, one is denied.
@@ -155,6 +155,10 @@ word-at f e x h = ap (λ (t : List ℕ). getD t x 0) e ∙ words-at f x h
 
 pub words-equal : (f g : ℕ → ℕ) → map f variables ≡ map g variables → (x : ℕ) → x < 4 → f x ≡ g x
 words-equal f g e x h = sym (words-at f x h) ∙ word-at g e x h
+
+-- a word of a valuation cut down to the variables of f
+pub cut-at : (f : ℕ → Bool) (v : ℕ → ℕ) (x : ℕ) → x < 4 → f x ≡ true → getD (cutTo f v) x 0 ≡ v x
+cut-at f v x h e = words-at (λ y. cond (f y) (v y) 0) x h ∙ (rw e)
 
 -- The laws of the order: whatever else is shown of it follows from these three. A word and what comes behind it, first.
 first-word : (x y : ℕ) (t : Bool) → ltb x y || (eqb x y && t) ≡ true → (x < y) ⊎ ((x ≡ y) × (t ≡ true))
