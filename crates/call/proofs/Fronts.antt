@@ -1,29 +1,19 @@
 -- Words at the front of others, and more put behind them; lists over numbers in a row, in two parts.
 use Prim.Native.Nat.{ℕ, zero, suc, _+_, _-_, _≤_, _<_}
-use native.Mathlib.Nat.{zero-add, add-zero}
+use native.Mathlib.Nat.{add-zero}
 use native.Mathlib.Omega.{arith}
 use mathlib.Core.Path.{_≡_, sym, ap, _∙_}
-use mathlib.Core.List.{List, _++_, map, append-assoc, append-nil}
+use mathlib.Core.List.{List, _++_, map}
 use lib.ListN.{length, getD, drop, length-append, length-drop, List·getD-append}
 use lib.Seq.{getD-drop, getD-append-add, ext-getD}
 use lib.Dec.{ltb}
 use borrow.Author.Tests.{ltb-true, ltb-false}
-use Rattle.meaning.specs.Lists.{range, gather}
+use Rattle.meaning.specs.Lists.{range}
 use Rattle.meaning.proofs.Points.{Tested, passed, failed, tested}
 use Rattle.entries.specs.Appended.{WordsPut, atFront}
 use Rattle.call.specs.Blocks.{ListPut}
 
 -- ---- numbers in a row
-
-pub gather-split : {B : Type 0} (f : ℕ → List B) (a m n : ℕ) → gather f (range a (m + n)) ≡ gather f (range a m) ++ gather f (range (a + m) n)
-gather-split f a zero n = rw (zero-add, add-zero)
-gather-split f a (suc m) n =
-    let e : suc m + n ≡ suc (m + n) = omega arith in
-    let g : suc a + m ≡ a + suc m = omega arith in
-    rw e (ap (λ xs. f a ++ xs) (rw g at (gather-split f (suc a) m n)) ∙ sym (append-assoc (f a) (gather f (range (suc a) m)) (gather f (range (a + suc m) n))))
-
-pub gather-more : {B : Type 0} (f : ℕ → List B) (n : ℕ) → gather f (range 0 (n + 1)) ≡ gather f (range 0 n) ++ f n
-gather-more f n = gather-split f 0 n 1 ∙ ap (λ xs. gather f (range 0 n) ++ xs) (rw (zero-add n) (append-nil (f n)))
 
 pub listed-at : (f : ℕ → ℕ) (a n i : ℕ) → i < n → getD (map f (range a n)) i 0 ≡ f (a + i)
 listed-at f a zero i u = absurd (omega arith)

@@ -10,15 +10,15 @@ use Rattle.meaning.specs.Lists.{range, gather}
 use Rattle.meaning.specs.Kept.{Entry, entryOf}
 use Rattle.meaning.proofs.Lists.{range-length, gather-append}
 use Rattle.method.proofs.Turns.{map-append}
+use Rattle.method.proofs.Lists.{gather-map, gather-split, gather-more}
 use Rattle.rowset.specs.Rows.{rowAt}
 use Rattle.entries.specs.Appended.{WordsPut, atFront}
 use Rattle.entries.proofs.Listed.{listed-append, map-twice}
 use Rattle.entries.proofs.Putting.{put-none}
-use Rattle.writer.proofs.Gathers.{gather-map}
 use Rattle.node_step.specs.Walks.{setWords, blockWord, blockIn}
 use Rattle.call.specs.Stores.{ownerOf, EntriesStored, Storable}
 use Rattle.call.specs.Blocks.{ListPut, EntriesPut, blockSize, BlockStorable}
-use Rattle.call.proofs.Fronts.{gather-split, gather-more, listed-at, list-put, put-two, front-more}
+use Rattle.call.proofs.Fronts.{listed-at, list-put, put-two, front-more}
 
 -- rows in a row as words
 rows-words : (vs : List ℕ) (a n : ℕ) → gather (rowAt vs) (range a n) ≡ map (λ j. getD vs j 0) (range (a * 4) (n * 4))

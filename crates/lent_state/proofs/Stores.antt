@@ -8,11 +8,11 @@ use lib.ListN.{length, drop, length-map}
 use Rattle.meaning.specs.Lists.{gather}
 use Rattle.method.specs.Stored.{Stored}
 use Rattle.method.specs.WellFormed.{Formed}
-use Rattle.method.proofs.Rowed.{rowed}
+use Rattle.method.proofs.Rowed.{rowed, values-long}
 use Rattle.figures.proofs.Front.{front-long, front-read}
 use Rattle.call.specs.Stores.{ownerOf}
 use Rattle.lent_state.specs.Lent.{Lent, fitting, stored, lentWith}
-use Rattle.lent_state.proofs.Words.{entries-back, values-long}
+use Rattle.lent_state.proofs.Words.{entries-back}
 use Rattle.lent_state.proofs.Memory.{fits-sized, sized-fits}
 
 module _ (m : Lent) (s : Stored) (formed : Formed s) where

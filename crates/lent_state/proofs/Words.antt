@@ -3,7 +3,7 @@ use Prim.Native.Nat.{ℕ, suc, _+_, _*_, _<_}
 use native.Mathlib.Omega.{arith}
 use mathlib.Core.Path.{_≡_, refl, ap, _∙_}
 use mathlib.Core.List.{List, [], _∷_, _++_, map, List·Memᴰ, List·Memᴰ·head, List·Memᴰ·tail, append-assoc}
-use lib.ListN.{length, length-append}
+use lib.ListN.{length}
 use Rattle.meaning.specs.Lists.{gather}
 use Rattle.meaning.specs.Kept.{Entry, entryOf}
 use Rattle.method.proofs.Rowed.{Rowed}
@@ -42,10 +42,3 @@ entries-back (e ∷ es) h os ns vs =
     ap (λ ws. entriesFrom (map ownerOf (e ∷ es) ++ os) (map (λ f. f .number) (e ∷ es) ++ ns) ws 0 (suc (length es))) (append-assoc (e .values) (gather (λ f. f .values) es) vs)
     ∙ back-one (e .node) (e .mark) (e .number) (e .values) mark four (map ownerOf es ++ os) (map (λ f. f .number) es ++ ns) (gather (λ f. f .values) es ++ vs) (length es)
     ∙ ap (λ fs. e ∷ fs) (entries-back es (λ f m. h f (List·Memᴰ·tail m)) os ns vs)
-
-pub values-long : (es : List Entry) → ((e : Entry) → List·Memᴰ e es → Rowed e) → length (gather (λ e. e .values) es) ≡ length es * 4
-values-long [] h = refl
-values-long (e ∷ es) h =
-    let one : length (e .values) ≡ 4 = h e (List·Memᴰ·head refl) .1 in
-    let rest : length (gather (λ e. e .values) es) ≡ length es * 4 = values-long es (λ f m. h f (List·Memᴰ·tail m)) in
-    simp length-append (omega arith)

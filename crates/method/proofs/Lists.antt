@@ -1,11 +1,12 @@
--- Facts on lists that the method's proofs share: runs of points, selections from gathered lists. Nothing here is about rules or logs.
-use Prim.Native.Nat.{ℕ, zero, suc, _+_, _-_, _≤_, _<_}
-use native.Mathlib.Nat.{eq-or-lt-of-le}
+-- Facts on lists that proofs share: runs of points, selections from gathered lists, lists put end to end. Nothing here is about rules or logs.
+use Prim.Native.Nat.{ℕ, zero, suc, _+_, _-_, _*_, _≤_, _<_}
+use native.Mathlib.Nat.{eq-or-lt-of-le, zero-add, add-zero, mul-suc, mul-zero}
 use native.Mathlib.Omega.{arith}
-use mathlib.Core.Path.{_≡_, refl, _∙_, ap, ap₂}
+use mathlib.Core.Path.{_≡_, refl, sym, _∙_, ap, ap₂}
 use mathlib.Core.Bool.{Bool, true, false, cond, _&&_}
 use mathlib.Core.Logic.{_⊎_, inl, inr}
-use mathlib.Core.List.{List, [], _∷_, _++_, map, append-nil, List·Memᴰ, List·Memᴰ·head, List·Memᴰ·tail, List·Memᴰ·not-nil, List·Memᴰ·cases-cons}
+use mathlib.Core.List.{List, [], _∷_, _++_, map, append-nil, append-assoc, List·Memᴰ, List·Memᴰ·head, List·Memᴰ·tail, List·Memᴰ·not-nil, List·Memᴰ·cases-cons}
+use lib.ListN.{length, length-append}
 use lib.Dec.{ltb, leb}
 use borrow.Author.Tests.{le-leb, lt-ltb, le-ltb, lt-leb}
 use Rattle.meaning.specs.Lists.{any, select, gather, range}
@@ -145,3 +146,26 @@ gather-each f g a (suc n) h = ap₂ (λ s t. s ++ t) (h a (omega arith) (omega a
 pub map-each : {B : Type 0} (f g : ℕ → B) (a n : ℕ) → ((y : ℕ) → a ≤ y → y < a + n → f y ≡ g y) → map f (range a n) ≡ map g (range a n)
 map-each f g a zero h = refl
 map-each f g a (suc n) h = ap₂ (λ s t. s ∷ t) (h a (omega arith) (omega arith)) (map-each f g (suc a) n (λ y u o. h y (omega arith) (omega arith)))
+
+-- ---- lists put end to end: how long they are, of a list that a function gives, in two parts, and with one more
+
+module _ {A B : Type 0} (f : A → List B) where
+  pub gather-length : (n : ℕ) → ((x : A) → length (f x) ≡ n) → (xs : List A) → length (gather f xs) ≡ n * length xs
+  gather-length n h [] = sym (mul-zero n)
+  gather-length n h (x ∷ xs) =
+      rw (length-append (f x) (gather f xs), mul-suc n (length xs))
+      (omega (arith, h x, gather-length n h xs))
+
+pub gather-map : {A B C : Type 0} (f : B → List C) (g : A → B) (xs : List A) → gather f (map g xs) ≡ gather (λ x. f (g x)) xs
+gather-map f g [] = refl
+gather-map f g (x ∷ xs) = ap (λ us. f (g x) ++ us) (gather-map f g xs)
+
+pub gather-split : {B : Type 0} (f : ℕ → List B) (a m n : ℕ) → gather f (range a (m + n)) ≡ gather f (range a m) ++ gather f (range (a + m) n)
+gather-split f a zero n = rw (zero-add, add-zero)
+gather-split f a (suc m) n =
+    let e : suc m + n ≡ suc (m + n) = omega arith in
+    let g : suc a + m ≡ a + suc m = omega arith in
+    rw e (ap (λ xs. f a ++ xs) (rw g at (gather-split f (suc a) m n)) ∙ sym (append-assoc (f a) (gather f (range (suc a) m)) (gather f (range (a + suc m) n))))
+
+pub gather-more : {B : Type 0} (f : ℕ → List B) (n : ℕ) → gather f (range 0 (n + 1)) ≡ gather f (range 0 n) ++ f n
+gather-more f n = gather-split f 0 n 1 ∙ ap (λ xs. gather f (range 0 n) ++ xs) (rw (zero-add n) (append-nil (f n)))

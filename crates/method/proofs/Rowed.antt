@@ -1,11 +1,11 @@
 -- An entry of what is well formed is a row of a node or a pair: its mark is 0 or 1, and it has four values.
-use Prim.Native.Nat.{ℕ, suc, _-_, _<_}
+use Prim.Native.Nat.{ℕ, suc, _-_, _*_, _<_}
 use native.Mathlib.Omega.{arith}
 use mathlib.Core.Path.{_≡_, refl, ap}
 use mathlib.Core.Bool.{Bool, true, false, cond, _&&_}
 use mathlib.Core.Logic.{_⊎_, inl, inr}
-use mathlib.Core.List.{List, [], _∷_, map, List·Memᴰ, List·Memᴰ·append-cases, Memᴰ·of-map}
-use lib.ListN.{length, getD, drop}
+use mathlib.Core.List.{List, [], _∷_, map, List·Memᴰ, List·Memᴰ·head, List·Memᴰ·tail, List·Memᴰ·append-cases, Memᴰ·of-map}
+use lib.ListN.{length, getD, drop, length-append}
 use lib.Dec.{eqb}
 use borrow.Author.Tests.{eqb-true}
 use Rattle.meaning.specs.Lists.{all, range, gather}
@@ -87,3 +87,11 @@ pub rowed : {s : Stored} → Formed s → (e : Entry) → List·Memᴰ e (s .ent
 rowed {s} f e m =
     let (x, at, k) = gather-at (ownEntries s) (range 0 (nodeCount (s .rule))) (rw (f .entries-own) at m) in
     own s x (f .nodes-fit x (omega (arith, range-at 0 (nodeCount (s .rule)) at))) e k
+
+-- so the values of such entries, end to end, are four words each
+pub values-long : (es : List Entry) → ((e : Entry) → List·Memᴰ e es → Rowed e) → length (gather (λ e. e .values) es) ≡ length es * 4
+values-long [] h = refl
+values-long (e ∷ es) h =
+    let one : length (e .values) ≡ 4 = h e (List·Memᴰ·head refl) .1 in
+    let rest : length (gather (λ e. e .values) es) ≡ length es * 4 = values-long es (λ f m. h f (List·Memᴰ·tail m)) in
+    simp length-append (omega arith)

@@ -16,6 +16,7 @@ use Rattle.meaning.specs.declared.Point.{Point}
 use Rattle.meaning.specs.declared.Stamp.{Stamp}
 use Rattle.meaning.proofs.Lists.{range-length, gather-append}
 use Rattle.method.specs.Stored.{stampIn}
+use Rattle.method.proofs.Lists.{gather-length, gather-map}
 use Rattle.rowset.specs.declared.Row.{Row}
 use Rattle.rowset.specs.Rows.{wordsOf, rowAt, rowsFrom}
 use Rattle.rowset.proofs.Runs.{rows-length, rows-append}
@@ -25,7 +26,6 @@ use Rattle.kinds.specs.Kinds.{inMask}
 use Rattle.writer.specs.declared.Points.{Points}
 use Rattle.writer.specs.declared.Part.the-variants.{Sizes, Triples, Rows}
 use Rattle.writer.specs.Words.{freeCount, pointsOf, setOf, firstSet, endSet, firstRow, endRow, tripleAt, partWords, reportedFrom, words, Marked, Reportable}
-use Rattle.writer.proofs.Gathers.{gather-length, gather-map}
 
 -- one more where the test passed
 select-one : (f : ℕ → Bool) (x : ℕ) (xs : List ℕ) → length (select f (x ∷ xs)) ≡ oneIf (f x) + length (select f xs)

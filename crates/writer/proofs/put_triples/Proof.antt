@@ -6,9 +6,9 @@ use mathlib.Core.List.{List}
 use borrow.Author.Needs.{needs}
 use Rattle.meaning.specs.Lists.{range, gather}
 use Rattle.meaning.specs.Log.{point}
+use Rattle.method.proofs.Lists.{gather-map}
 use Rattle.writer.specs.declared.Points.{Points}
 use Rattle.writer.specs.Words.{tripleAt, triples}
-use Rattle.writer.proofs.Gathers.{gather-map}
 use Rattle.writer.proofs.Putting.{Putting, put-long, putting-none, turn-room, turn-more, turn-all}
 use Rattle.writer.proofs.Reports.{triple-same}
 use Rattle.writer.proofs.put_triples.Statement.{statement}
