@@ -65,6 +65,13 @@ bufferShort = 16
 abbrev pub notAReport : ℕ
 notAReport = 17
 
+-- #104: reading an image in, and saving
+abbrev pub notAnImage : ℕ
+notAnImage = 18
+
+abbrev pub outputShort : ℕ
+outputShort = 19
+
 -- the limits
 -- "node count N (1 to 32)", and the 12 + 20N bytes of a rule with so many nodes
 abbrev pub mostNodes : ℕ

@@ -1,13 +1,13 @@
--- Along a list of takings: each gives what the keeper gives, and what memory stores is what the keeper's log stores.
+-- A taking in memory that stores a log: it gives what the keeper gives, and what memory then stores is what the keeper's log stores.
 use Prim.Native.Nat.{ℕ}
-use mathlib.Core.Path.{_≡_, refl, sym, _∙_, ap, ap₂, subst}
+use mathlib.Core.Path.{_≡_, sym, _∙_, ap, subst}
 use mathlib.Core.Bool.{true}
-use mathlib.Core.List.{List, [], _∷_, _++_, append-nil, append-assoc}
+use mathlib.Core.List.{List, [], _∷_, _++_}
 use lib.ListN.{length}
 use Rattle.meaning.specs.Outcome.{Outcome, refused, given}
 use Rattle.meaning.specs.Log.{Log, logOf}
 use Rattle.meaning.specs.RuleFile.{Accepted, checking}
-use Rattle.meaning.specs.Keeper.{Fed, Taking, Given, bufferAfter, answered, keeper}
+use Rattle.meaning.specs.Keeper.{Fed, Taking, Given, bufferAfter, answered}
 use Rattle.method.specs.Stored.{Stored, storedOf}
 use Rattle.method.specs.Step.{wordsOf, answerNow, storedAfter, reportNow, givenBy, storedBy}
 use Rattle.method.specs.WellFormed.{wellFormed, Formed}
@@ -27,14 +27,6 @@ givenIn m t = record { answer = answerIn m (t .fed) (length (t .buffer)); buffer
 
 abbrev pub lentBy : Lent → Taking → Lent
 lentBy m t = lentAfter (answerIn m (t .fed) (length (t .buffer))) m (t .fed)
-
-abbrev pub givenAll : Lent → List Taking → List Given
-givenAll m [] = []
-givenAll m (t ∷ ts) = givenIn m t ∷ givenAll (lentBy m t) ts
-
-abbrev pub lentAll : Lent → List Taking → Lent
-lentAll m [] = m
-lentAll m (t ∷ ts) = lentAll (lentBy m t) ts
 
 -- memory of a state's lengths in which a log is stored
 pub record Stores (b : List ℕ) (l : Log) (m : Lent) : Type 0 where
@@ -64,7 +56,7 @@ module _ (b : List ℕ) (a : Accepted) (ok : checking b ≡ given a) where
       unfolding givenBy
       given-by = rw answers
 
-      one-given : givenIn m t ≡ answered b (takenOver b ts) t
+      pub one-given : givenIn m t ≡ answered b (takenOver b ts) t
       one-given = given-by ∙ ap (λ q. givenBy q t) (h .stores) ∙ step-given b a ok (takenOver b ts) (keeper-ordered b ts) t
 
       stored-by : storedAfter (stored m) (wordsOf (t .fed)) (answerIn m (t .fed) (length (t .buffer))) ≡ storedOf b (logOver b (ts ++ t ∷ []))
@@ -73,20 +65,6 @@ module _ (b : List ℕ) (a : Accepted) (ok : checking b ≡ given a) where
           ap (storedAfter (stored m) (wordsOf (t .fed))) answers ∙ ap (λ q. storedBy q t) (h .stores) ∙ step-stored b a ok (takenOver b ts) (keeper-ordered b ts) t
           ∙ ap (λ es. storedOf b (logOf es)) (sym (log-then b [] ts (t ∷ [])))
 
-      one-stored : Stores b (logOver b (ts ++ t ∷ [])) (lentBy m t)
+      pub one-stored : Stores b (logOver b (ts ++ t ∷ [])) (lentBy m t)
       unfolding storedOf
       one-stored = after b (logOver b (ts ++ t ∷ [])) m (t .fed) (h .fits) (formed _ (well (ts ++ t ∷ []))) (ap (λ (q : Stored). q .rule) (sym (h .stores))) (answerIn m (t .fed) (length (t .buffer))) stored-by
-
-  -- over further takings
-  pub record Along (ts : List Taking) (m : Lent) (us : List Taking) : Type 0 where
-    pub gives : givenAll m us ≡ keeper b (takenOver b ts) us
-    pub leaves : Stores b (logOver b (ts ++ us)) (lentAll m us)
-
-  pub along : (ts : List Taking) (m : Lent) → Stores b (logOver b ts) m → (us : List Taking) → Along ts m us
-  along ts m h [] = record { gives = refl; leaves = rw append-nil h }
-  along ts m h (t ∷ us) =
-      let rest : Along (ts ++ t ∷ []) (lentBy m t) us = along (ts ++ t ∷ []) (lentBy m t) (one-stored ts m h t) us in
-      record {
-        gives = ap₂ (λ g gs. g ∷ gs) (one-given ts m h t) (rest .gives ∙ ap (λ es. keeper b es us) (log-then b [] ts (t ∷ [])));
-        leaves = rw append-assoc at (rest .leaves);
-      }

@@ -3,4 +3,6 @@ pub mod Logs
 pub mod Reports
 pub mod Along
 pub mod Starting
+pub mod Cuts
+pub mod CutList
 pub mod WholeList

@@ -2,8 +2,8 @@
 use Prim.Native.Nat.{ℕ, _≤_, _+_, _-_}
 use native.Mathlib.Nat.{zero-sub}
 use native.Mathlib.Omega.{arith}
-use mathlib.Core.Path.{_≡_, refl, sym, _∙_, ap}
-use mathlib.Core.Bool.{false, true≢false}
+use mathlib.Core.Path.{_≡_, refl, sym, _∙_, ap, subst}
+use mathlib.Core.Bool.{true, false, true≢false}
 use mathlib.Core.List.{List, [], _∷_}
 use lib.ListN.{length, drop, replicate, length-append, length-replicate, replicate-append-replicate}
 use lib.Seq.{drop-at}
@@ -24,7 +24,10 @@ use Rattle.rulefile.specs.declared.Checked.the-variants.{Accepted, Cut, OtherVe
 use Rattle.rulefile.proofs.Checked.{the-type}
 use Rattle.entries.specs.Appended.{atFront}
 use Rattle.figures.proofs.Front.{front-read}
+use Rattle.lent_state.specs.Lent.{Lent, fitting}
 use Rattle.lent_state.proofs.Memory.{sized-fits}
+use Rattle.image_words.specs.Contracts.{ReadsLent}
+use Rattle.image_words.specs.declared.Read.{Read}
 use Rattle.monitor.specs.State.{blank, lentOf, startState}
 use Rattle.monitor.specs.Contracts.{Starts, stateFor}
 use Rattle.monitor.specs.declared.State.{State}
@@ -44,13 +47,25 @@ rule-in z b bytes e l t =
 pub rule-fits : (b : List ℕ) (a : Answer) → checking b ≡ given a → length b ≤ 652
 rule-fits b a ok = omega (arith, accepted b a ok .long, nodes-most b a ok)
 
+-- its arrays have a state's lengths, and those of the state of zeros
+start-fits : (b : List ℕ) → length b ≤ 652 → fitting (lentOf (startState b)) ≡ true
+unfolding startState
+start-fits b l = sized-fits (record { rule-long = simp (length-append, length-replicate) (omega arith); times-long = length-replicate {A = ℕ} 65 0; owners-long = length-replicate {A = ℕ} 512 0; numbers-long = length-replicate {A = ℕ} 512 0; values-long = length-replicate {A = ℕ} 2048 0 })
+
+pub blank-fits : fitting (lentOf blank) ≡ true
+blank-fits = start-fits [] (omega arith)
+
+-- words read into a state of zeros
+pub read-into : (z : State) {ws : List ℕ} {r : Read} {m : Lent} → z ≡ blank → ReadsLent (lentOf z) ws r m → ReadsLent (lentOf blank) ws r m
+read-into z {ws} {r} {m} e h = subst (λ s. ReadsLent (lentOf s) ws r m) e h
+
 -- what the start's state stores is the empty log
 pub start-stores : (b : List ℕ) (a : Answer) → checking b ≡ given a → Stores b (logOf []) (lentOf (startState b))
 unfolding startState storedOf entries entriesFrom logOf size latest
 start-stores b a ok =
     let l : length b ≤ 652 = rule-fits b a ok in
     record {
-      fits = sized-fits (record { rule-long = simp (length-append, length-replicate) (omega arith); times-long = length-replicate {A = ℕ} 65 0; owners-long = length-replicate {A = ℕ} 512 0; numbers-long = length-replicate {A = ℕ} 512 0; values-long = length-replicate {A = ℕ} 2048 0 });
+      fits = start-fits b l;
       stores = rw (front-read b (replicate (652 - length b) 0), zero-sub, gather-none (entriesOf b (logOf [])) 0 (nodeCount b) (λ x u o. empty-entries b x));
     }
 

@@ -1,6 +1,8 @@
-// The monitor: its state, starting it, taking events and notices, and the figures to be read off it.
+// The monitor: its state, starting it, taking events and notices, saving it and reading it in, and the figures to be read off it.
 use events::Handed;
 use figures::Open;
+use image_words::Read;
+use image_words::Saved;
 use lent_state::Answer;
 use meaning::LogEnd;
 use meaning::MOST_KEPT;
@@ -18,7 +20,7 @@ ghost use Rattle.events.specs.Answers.{fedOf, HandedWhole};
 ghost use Rattle.figures.specs.Fronts.{openOf, openAnswer};
 ghost use Rattle.entries.specs.Appended.{atFront};
 ghost use Rattle.monitor.specs.State.{stored, startState, blank};
-ghost use Rattle.monitor.specs.Contracts.{Starts, Takes};
+ghost use Rattle.monitor.specs.Contracts.{Starts, Takes, Saves, Restores};
 
 // What is kept between calls, by value: the rule's bytes and how many they are; the points accepted; the latest known time, of a point or a notice; the retained times and how many they are; the kept entries, each with its owner (a node twice, and 1 more for a pair), the number of its point or its age, and its four values; and their count.
 #[repr(C)]
@@ -45,6 +47,12 @@ pub struct Started {
 pub struct Step {
     pub state: State,
     pub answer: Answer,
+}
+
+// What reading in gives: the answer, and the state that was read, or one of zeros.
+pub struct Restored {
+    pub read: Read,
+    pub state: State,
 }
 
 // Copies bytes to the front of others; those behind them stay.
@@ -165,6 +173,69 @@ pub fn notice(state: State, time: u32, report: &mut [u32]) -> Step
 {
     let words = [time; 1];
     take_handed(state, Handed::Notice, &words, report)
+}
+
+// Saves a state as an image: any state, any buffer.
+pub fn save(running: State, buffer: &mut [u32]) -> Saved
+    ensures { λ r. ⌜ Saves running (now (buffer .entry)) r (now (buffer .exit)) ⌝ }
+{
+    image_words::save(
+        &running.rule,
+        running.bytes,
+        LogEnd {
+            points: running.points,
+            latest: Stamp(running.latest),
+        },
+        &running.times,
+        running.retained,
+        &running.owners,
+        &running.numbers,
+        &running.values,
+        running.count,
+        buffer,
+    )
+}
+
+// Reads an image in: any words. Where they are no image the state is one of zeros.
+pub fn restore(words: &[u32]) -> Restored
+    ensures { λ r. ⌜ Restores (now (words .entry)) r ⌝ }
+{
+    let empty = zeros();
+    let mut rule = empty.rule;
+    let mut times = empty.times;
+    let mut owners = empty.owners;
+    let mut numbers = empty.numbers;
+    let mut values = empty.values;
+    let got = image_words::restore(
+        words,
+        &mut rule,
+        empty.bytes,
+        LogEnd {
+            points: empty.points,
+            latest: Stamp(empty.latest),
+        },
+        &mut times,
+        empty.retained,
+        &mut owners,
+        &mut numbers,
+        &mut values,
+        empty.count,
+    );
+    let known = got.log;
+    let state = State {
+        rule,
+        bytes: got.bytes,
+        points: known.points,
+        latest: known.latest.0,
+        times,
+        retained: got.retained,
+        owners,
+        numbers,
+        values,
+        count: got.count,
+    };
+    let read = got.answer;
+    Restored { read, state }
 }
 
 // How many entries a state keeps.

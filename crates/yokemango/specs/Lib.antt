@@ -1,5 +1,6 @@
--- What the exported functions give, in plain numbers, and the claim about a whole list of exported calls.
+-- What the exported functions give, in plain numbers, and the claims about a whole list of exported calls.
 pub mod Parts
 pub mod Exported
 pub mod Numbers
 pub mod ExportedList
+pub mod ExportedCuts

@@ -1,4 +1,4 @@
--- What starting, taking and the figures of a state give, in plain numbers.
+-- What starting, taking, saving, reading in and the figures of a state give, in plain numbers.
 use Prim.Native.Nat.{ℕ}
 use mathlib.Core.Path.{_≡_}
 use mathlib.Core.Bool.{cond}
@@ -10,6 +10,8 @@ use Rattle.meaning.specs.Keeper.{Fed, bufferAfter}
 use Rattle.method.specs.Step.{wordsOf, keptStored, reportNow}
 use Rattle.figures.specs.Fronts.{openAnswer}
 use Rattle.lent_state.specs.Lent.{Lent, fitting, stored, answerIn, lentAfter}
+use Rattle.image.specs.Image.{imageOf}
+use Rattle.image_words.specs.Contracts.{savingIn, readingIn, lentRead}
 use Rattle.monitor.specs.Contracts.{stateFor}
 use Rattle.yokemango.specs.Parts.{partsOf}
 use Rattle.yokemango.specs.declared.StartParts.{StartParts}
@@ -43,3 +45,12 @@ pub record TakesAs (m : Lent) (f : Fed) (buffer : List ℕ) (r : Told) (m' : Len
   pub told : r ≡ toldOf (answerIn m f (length buffer))
   pub moved : m' ≡ lentAfter (answerIn m f (length buffer)) m f
   pub written : buffer' ≡ bufferAfter (answerIn m f (length buffer)) (reportNow (stored m) (wordsOf f)) buffer
+
+-- Saving what is lent, and reading an image into it: what `image::save` and `image::restore` promise, with the answer told in numbers.
+pub record SavesAs (m : Lent) (buffer : List ℕ) (r : Told) (buffer' : List ℕ) : Type 0 where
+  pub told : r ≡ toldOf (savingIn m (length buffer))
+  pub written : buffer' ≡ bufferAfter (savingIn m (length buffer)) (imageOf (stored m)) buffer
+
+pub record RestoresAs (m : Lent) (ws : List ℕ) (r : Told) (m' : Lent) : Type 0 where
+  pub told : r ≡ toldOf (readingIn m ws)
+  pub moved : m' ≡ lentRead (readingIn m ws) ws m

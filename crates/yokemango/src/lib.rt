@@ -1,6 +1,8 @@
 // The operations for programs in other languages. A slice is passed as its address and then its length.
 use figures::Open;
 use figures::open_points;
+use image_words::Read;
+use image_words::Saved;
 use lent_state::Answer;
 use lent_state::lengths_fit;
 use limits::Refusal;
@@ -23,9 +25,10 @@ ghost use Rattle.report.specs.Answer.{partOf};
 ghost use Rattle.limits.specs.Weighs.{refusalOf};
 ghost use Rattle.figures.specs.Fronts.{openOf};
 ghost use Rattle.lent_state.specs.Lent.{lent, answerOf as answered};
+ghost use Rattle.image_words.specs.Contracts.{savedOf, readOf};
 ghost use Rattle.monitor.specs.State.{endAt};
 ghost use Rattle.yokemango.specs.Exported.{formNumber, countOrNone, wordOrNone};
-ghost use Rattle.yokemango.specs.Numbers.{startParts, toldOf, figuresWith, figuresOf, TakesAs};
+ghost use Rattle.yokemango.specs.Numbers.{startParts, toldOf, figuresWith, figuresOf, TakesAs, SavesAs, RestoresAs};
 
 // The answer of checking: 0, or the refusal's number and place; the reach, and the free variables, bit k for variable k.
 #[repr(C)]
@@ -321,4 +324,116 @@ pub extern "C" fn yokemango_figures<'a>(
         count,
     );
     figures_of(found, count)
+}
+
+fn told_saved(s: Saved) -> Told
+    ensures { λ t. ⌜ t ≡ toldOf (savedOf s) ⌝ }
+{
+    match s {
+        Saved::Written(words) => Told {
+            number: 0,
+            place: 0,
+            words,
+        },
+        Saved::NotWellFormed => told_refusal(Refusal::NotWellFormed),
+        Saved::Short(needed) => Told {
+            number: 19,
+            place: needed,
+            words: 0,
+        },
+    }
+}
+
+fn told_read(r: Read) -> Told
+    ensures { λ t. ⌜ t ≡ toldOf (readOf r) ⌝ }
+{
+    match r {
+        Read::Words(words) => Told {
+            number: 0,
+            place: 0,
+            words,
+        },
+        Read::NotAnImage => Told {
+            number: 18,
+            place: 0,
+            words: 0,
+        },
+    }
+}
+
+// Saves a state as an image: the parts of any state, any buffer. Where a length isn't a state's the answer is 8.
+#[no_mangle]
+pub extern "C" fn yokemango_save<'a>(
+    rule: &'a [u8],
+    bytes: u32,
+    points: u32,
+    latest: u32,
+    times: &'a [u32],
+    retained: u32,
+    owners: &'a [u32],
+    numbers: &'a [u32],
+    values: &'a [u32],
+    count: u32,
+    image: &mut [u32],
+) -> Told
+    ensures { λ r. ⌜ SavesAs (lent (now (rule .entry)) bytes (endAt points latest) (now (times .entry)) retained (now (owners .entry)) (now (numbers .entry)) (now (values .entry)) count) (now (image .entry)) r (now (image .exit)) ⌝ }
+{
+    let saved = image_words::save(
+        rule,
+        bytes,
+        LogEnd {
+            points,
+            latest: Stamp(latest),
+        },
+        times,
+        retained,
+        owners,
+        numbers,
+        values,
+        count,
+        image,
+    );
+    told_saved(saved)
+}
+
+// Reads an image in, in place: any words, the parts of any state. Where a length isn't a state's the answer is 18.
+#[no_mangle]
+pub extern "C" fn yokemango_restore(
+    image: &[u32],
+    rule: &mut [u8],
+    bytes: &mut u32,
+    points: &mut u32,
+    latest: &mut u32,
+    times: &mut [u32],
+    retained: &mut u32,
+    owners: &mut [u32],
+    numbers: &mut [u32],
+    values: &mut [u32],
+    count: &mut u32,
+) -> Told
+    ensures { λ r. ⌜ RestoresAs (lent (now (rule .entry)) (now (bytes .entry)) (endAt (now (points .entry)) (now (latest .entry))) (now (times .entry)) (now (retained .entry)) (now (owners .entry)) (now (numbers .entry)) (now (values .entry)) (now (count .entry))) (now (image .entry)) r (lent (now (rule .exit)) (now (bytes .exit)) (endAt (now (points .exit)) (now (latest .exit))) (now (times .exit)) (now (retained .exit)) (now (owners .exit)) (now (numbers .exit)) (now (values .exit)) (now (count .exit))) ⌝ }
+{
+    let read = image_words::restore(
+        image,
+        rule,
+        *bytes,
+        LogEnd {
+            points: *points,
+            latest: Stamp(*latest),
+        },
+        times,
+        *retained,
+        owners,
+        numbers,
+        values,
+        *count,
+    );
+    let known = read.log;
+    *bytes = read.bytes;
+    *points = known.points;
+    *latest = known.latest.0;
+    *retained = read.retained;
+    *count = read.count;
+    let answer = read.answer;
+    told_read(answer)
 }

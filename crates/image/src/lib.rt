@@ -1,0 +1,1 @@
+// The image of what is stored, as definitions and proofs alone.
