@@ -1,11 +1,14 @@
 #!/usr/bin/env python3
-"""Computes the definitions of crates/meaning on generated rules and logs, and compares what they give with plain.py.
+"""Computes the definitions of crates/meaning, and those of an image (#104), on generated rules and logs, and compares what they give with
+plain.py.
 
     definitions.py [CASES [SEED]]    default: 60 cases, seed 1
 
 Four times as many lists of rows, in order and not, are looked through too (#102). The checker itself computes each case, from the rule's bytes, the events' words and the notices' times to answers, reported points with
-their rows, the open and kept figures and the latest known time; a case that differs is refused. Rules of up to seven nodes, one in five
-damaged in a byte; lists of up to six events and notices, some of them to be refused; report buffers of 3 to 40 words.
+their rows, the open and kept figures, the latest known time and the image of what is stored; a case that differs is refused. Rules of up to
+seven nodes, one in five damaged in a byte; lists of up to six events and notices, some of them to be refused; report buffers of 3 to 40
+words. Each image must be in form and be that of what is read in from it, and damaged in one way it must be out of form. Of crates/method and
+crates/image only the definitions are taken, without the proofs.
 """
 import collections
 import pathlib
@@ -21,9 +24,12 @@ import plain
 TOP = pathlib.Path(__file__).resolve().parent.parent
 OPENED = """size time rowsAt latest logOf wordAt sizesFit headAt bodyAt nodeOf nodeAt formulaAt shapeFits rangeFits timesChild weighNode checking
 lastPairs consulted parentOf pointEntries ageEntries entriesOf entries kept openPoints isEvent rowFits pointOf reportWords newlySettled
-reported report admitted weighed crowdedAt answerOn step""".split()
+reported report admitted weighed crowdedAt answerOn step storedOf imageOf ruleWords""".split()
+OF_FORM = """wordAt sizesFit headAt bodyAt nodeOf nodeAt formulaAt shapeFits rangeFits timesChild weighNode checking parentOf held heldPairs untilCount
+wantedFrom countsStored countBefore openStored ownEntries nodeFits wellFormed imageOf ruleWords ruleBytes readIn isImage""".split()
 HEAD = """use Prim.Native.Nat.{ℕ}
 use mathlib.Core.Path.{_≡_, refl}
+use mathlib.Core.Bool.{cond}
 use mathlib.Core.List.{List, [], _∷_, _++_}
 use lib.ListN.{length, replicate}
 use Rattle.meaning.specs.Lists.{gather}
@@ -37,6 +43,11 @@ use Rattle.meaning.specs.LookUp.{lookUp}
 use Rattle.meaning.specs.declared.Sought.{Sought}
 use Rattle.meaning.specs.declared.Sought.the-variants.{There, Absent}
 use Rattle.meaning.specs.Keeper.{Fed, event, notice, Taking, newlySettled, reported, report, admitted, weighed, crowdedAt, grown, answerOn, answer, step}
+use Rattle.method.specs.Stored.{storedOf, held, heldPairs}
+use Rattle.method.specs.Counts.{untilCount}
+use Rattle.method.specs.Step.{wantedFrom, countsStored, countBefore, openStored}
+use Rattle.method.specs.WellFormed.{ownEntries, nodeFits, wellFormed}
+use Rattle.compared.specs.Image.{imageOf, ruleWords, ruleBytes, readIn, isImage}
 
 abbrev lineOf : Reported → List ℕ
 lineOf e = 1 ∷ e .at .0 ∷ e .time .0 ∷ length (e .rows) ∷ rowWords e
@@ -49,12 +60,16 @@ abbrev taking : ℕ → Fed → Taking
 taking room f = record { fed = f; buffer = replicate room 0 }
 
 abbrev listing : ℕ → List ℕ → List Taken → List Fed → List ℕ
-listing room b es [] = 3 ∷ openPoints b (logOf es) ∷ kept b (logOf es) ∷ latest (logOf es) .0 ∷ []
+listing room b es [] = 3 ∷ openPoints b (logOf es) ∷ kept b (logOf es) ∷ latest (logOf es) .0 ∷ imageOf (storedOf b (logOf es))
 listing room b es (f ∷ fs) = said (answer b es (taking room f)) (reported (logOf es) (logOf (grown b es f)) (pattern b)) ++ listing room b (step b es (taking room f)) fs
 
 abbrev looked : Sought → List ℕ
 looked (There p) = 1 ∷ p ∷ []
 looked (Absent p) = 0 ∷ p ∷ []
+
+-- whether words are in form, and the image of what is read in from them
+abbrev again : List ℕ → List ℕ
+again ws = cond (isImage ws) (1 ∷ imageOf (readIn ws)) (0 ∷ [])
 
 abbrev whole : ℕ → Outcome Accepted → List ℕ → List Fed → List ℕ
 whole room (refused n p) b fs = 2 ∷ n ∷ p ∷ []
@@ -174,11 +189,55 @@ def look_case(rng):
     return lowest, rng.choice(rows) if rows and rng.random() < 0.6 else tuple(rng.randint(0, high) for _ in range(width)), rows
 
 
+def damaged(rng, rule, image):
+    """An image in which one thing is wrong, and what."""
+    kept, retained = image[3], image[4]
+    owners = [image[5 + 3 * k:8 + 3 * k] for k in range(kept)]
+    values = [image[5 + 3 * kept + 4 * k:9 + 3 * kept + 4 * k] for k in range(kept)]
+    times, file = image[5 + 7 * kept:5 + 7 * kept + retained], image[5 + 7 * kept + retained:]
+    sizes = image[:3]
+    of_entries = ["an owner of no node", "another mark", "an entry twice"] if kept else []
+    of_entries += ["an entry out of its place"] if kept > 1 else []
+    of_entries += ["a value that isn't free"] if any(set(range(4)) - rule.free[o[0]] for o in owners) else []
+    others = ["cut short", "a word too long", "another version", "a size too large", "a refused rule"]
+    others += ["a time after the latest"] if retained and sizes[2] < 4294967295 else []
+    how = rng.choice(of_entries if of_entries and rng.random() < 0.8 else others)
+    k = rng.randrange(kept) if kept else 0
+    if how == "cut short":
+        return image[:rng.randrange(len(image))], how
+    if how == "a word too long":
+        return image + [rng.choice((0, 7))], how
+    if how == "a size too large":
+        at = rng.choice((1, 3, 4))
+        return image[:at] + [rng.choice((10000001, 4294967295))] + image[at + 1:], how
+    if how == "another version":
+        sizes[0] = rng.choice((0, 2, 257))
+    elif how == "a refused rule":
+        file[rng.randrange(3)] ^= 0xff000000
+    elif how == "an owner of no node":
+        owners[k][0] = rng.choice((len(rule.nodes), 32, 4294967295))
+    elif how == "another mark":
+        owners[k] = [max(0, owners[k][0] - 1), owners[k][1] + 2, owners[k][2]]
+    elif how == "an entry twice":
+        owners.insert(k, owners[k])
+        values.insert(k, values[k])
+    elif how == "an entry out of its place":
+        for part in (owners, values):
+            part.insert(0, part.pop())
+    elif how == "a time after the latest":
+        times[-1] = sizes[2] + 1
+    else:
+        k, v = rng.choice([(k, v) for k, o in enumerate(owners) for v in range(4) if v not in rule.free[o[0]]])
+        values[k][v] = 1
+    return sizes + [len(owners), len(times)] + sum(owners, []) + sum(values, []) + times + file, how
+
+
 def expected(file, takings, room, met):
+    """What the definitions should give, and the rule and the image that it ends in, if there is one."""
     rule = plain.check(file)
     if isinstance(rule, tuple):
         met["refusal of rule", rule[0]] += 1
-        return [2, *rule]
+        return [2, *rule], rule, None
     for n in rule.nodes:
         met["kind", n.kind] += 1
     out, log = [4, rule.reach[-1], sum(1 << v for v in rule.free[-1])], plain.Log(rule, [])
@@ -192,17 +251,33 @@ def expected(file, takings, room, met):
         for i, t, rows in points:
             met[f"points by {kind}", "with rows" if rows else "without"] += 1
             out += [1, i, t, len(rows)] + [v for r in rows for v in r]
-    return out + [3, log.open(), log.kept(), log.latest or 0]
+    image = plain.image(file, log)
+    return out + [3, log.open(), log.kept(), log.latest or 0] + image, rule, image
+
+
+def image_definitions():
+    """Those of crates/image, with the one of crates/rowset that they use in its place: that crate's other ones need its code."""
+    definitions = (TOP / "crates" / "image" / "specs" / "Image.antt").read_text()
+    rows = (TOP / "crates" / "rowset" / "specs" / "Rows.antt").read_text()
+    row_at = re.search(r"^abbrev pub rowAt : .*\nrowAt .*\n", rows, re.MULTILINE).group()
+    used = re.search(r"^use Rattle.rowset.specs.Rows.\{rowAt\}\n", definitions, re.MULTILINE)
+    return definitions[:used.start()] + "\n" + row_at + definitions[used.end():]
 
 
 def main():
     count, seed = (int(a) for a in (sys.argv[1:] + ["60", "1"][len(sys.argv) - 1:]))
-    rng, met, text = random.Random(seed), collections.Counter(), HEAD
+    rng, damage, met, text = random.Random(seed), random.Random(seed), collections.Counter(), HEAD
     for k in range(count):
         file, takings, room = case(rng)
-        want = expected(file, takings, room, met)
+        want, rule, image = expected(file, takings, room, met)
         text += f"\ncase-{k} : whole {room} (checking {numbers(file)}) {numbers(file)} ({' ∷ '.join([fed(t) for t in takings] + ['[]'])}) ≡ {numbers(want)}\n"
         text += f"unfolding {' '.join(OPENED)}\ncase-{k} = refl\n"
+        if image:
+            other, how = damaged(damage, rule, image)
+            met["images", "with entries" if image[3] else "without"] += 1
+            met["images out of form:", how] += 1
+            for name, words, should in (("form", image, [1] + image), ("damaged", other, [0])):
+                text += f"\n{name}-{k} : again {numbers(words)} ≡ {numbers(should)}\nunfolding {' '.join(OF_FORM)}\n{name}-{k} = refl\n"
     for k in range(4 * count):
         lowest, row, rows = look_case(rng)
         there, place = plain.look(row, rows, lowest)
@@ -213,17 +288,19 @@ def main():
     with tempfile.TemporaryDirectory() as folder:
         top = pathlib.Path(folder)
         shutil.copytree(TOP / "crates" / "meaning", top / "crates" / "meaning", ignore=shutil.ignore_patterns("must-fail"))
+        shutil.copytree(TOP / "crates" / "method", top / "crates" / "method", ignore=shutil.ignore_patterns("must-fail", "proofs"))
         for part in ("src", "specs"):
             (top / "crates" / "compared" / part).mkdir(parents=True)
-        (top / "crates.txt").write_text("meaning:\ncompared: meaning\n")
+        (top / "crates.txt").write_text("meaning:\nmethod: meaning\ncompared: method meaning\n")
         (top / "crates" / "compared" / "src" / "lib.rt").write_text("// Cases that the definitions compute.\n")
-        (top / "crates" / "compared" / "specs" / "Lib.antt").write_text("pub mod Cases\n")
+        (top / "crates" / "compared" / "specs" / "Lib.antt").write_text("pub mod Image\npub mod Cases\n")
+        (top / "crates" / "compared" / "specs" / "Image.antt").write_text(image_definitions())
         (top / "crates" / "compared" / "specs" / "Cases.antt").write_text(text)
         run = subprocess.run(["rt", "dev", "compared"], cwd=top, stdout=subprocess.PIPE, stderr=subprocess.STDOUT, text=True)
-    wrong = sorted(set(re.findall(r"error: `((?:case|look)-\d+)`", run.stdout)), key=lambda c: (c[:5], int(c[5:])))
+    wrong = sorted(set(re.findall(r"error: `((?:case|form|damaged|look)-\d+)`", run.stdout)), key=lambda c: (c.split("-")[0], int(c.split("-")[1])))
     for key in sorted(met, key=str):
         print(f"{key[0]} {key[1]}: {met[key]}", end="; ")
-    print(f"\n{count} rules with logs and {4 * count} lists looked through, computed by the definitions, {len(wrong)} differ", *wrong)
+    print(f"\n{count} rules with logs and images, and {4 * count} lists looked through, computed by the definitions, {len(wrong)} differ", *wrong)
     if run.returncode != 0:
         print("\n".join(line[:300] for line in run.stdout.split("\n") if "error" in line)[:4000])
         sys.exit(1)

@@ -1,4 +1,5 @@
-// Rules, events, notices, buffers and states drawn at random for takings.rs.
+// Rules, events, notices, buffers and states drawn at random for takings.rs and images.rs.
+#![allow(dead_code)]
 use crate::input::*;
 use crate::keeper::*;
 use crate::library::{State, ENTRIES, RETAINED, RULE_BYTES};

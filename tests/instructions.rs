@@ -1,5 +1,6 @@
-// Instructions of an event, clearing included, over the first 3,000 events of six rules and of three with long zone lists, and of a notice
-// of rule L after each of 3,000 events: those that callgrind counts within `yokemango_take` and within `yokemango_notice`. It needs valgrind.
+// Instructions of an event, clearing included, over the first 3,000 events of six rules and of three with long zone lists, of a notice
+// of rule L after each of 3,000 events, and of a saving and a reading in after each of 3,000 events of three: those that callgrind counts
+// within `yokemango_take`, `yokemango_notice`, `yokemango_save` and `yokemango_restore`. It needs valgrind.
 //
 //   rt staticlib yokemango
 //   rustc -O --edition 2021 -L target/staticlib -o target/instructions tests/instructions.rs
@@ -21,28 +22,38 @@ struct Case {
     counted: Counted,
 }
 
-// What is counted: events, or a notice so many seconds after each event that settles so many points.
+// What is counted: events, a notice so many seconds after each event that settles so many points, or a saving of the state after
+// each event, or a reading in of what was saved.
 enum Counted {
     Events,
     Notices { after: u32, points: u32 },
+    Saves,
+    Restores,
 }
 
-use Counted::{Events, Notices};
+use Counted::{Events, Notices, Restores, Saves};
 
 const LEAK: &[u8] = include_bytes!("../examples/leak.rule");
+const HALF_HOUR: &[u8] = include_bytes!("../examples/half-hour.rule");
 
-const CASES: [Case; 11] = [
+const CASES: [Case; 17] = [
     Case { name: "rule L", file: LEAK, event: leak, counted: Events },
-    Case { name: "half-hour, 91 kept", file: include_bytes!("../examples/half-hour.rule"), event: reading, counted: Events },
+    Case { name: "half-hour, 91 kept", file: HALF_HOUR, event: reading, counted: Events },
     Case { name: "since [5, 60)", file: include_bytes!("../examples/running.rule"), event: running, counted: Events },
     Case { name: "until [0, 30), 30 open", file: include_bytes!("../examples/burst.rule"), event: burst, counted: Events },
     Case { name: "a join", file: include_bytes!("../examples/dry-zone.rule"), event: dry_zone, counted: Events },
     Case { name: "32 nodes", file: include_bytes!("../examples/orchard.rule"), event: orchard, counted: Events },
-    Case { name: "half-hour, one of 31 blocks in no order", file: include_bytes!("../examples/half-hour.rule"), event: one_block, counted: Events },
-    Case { name: "half-hour, 31 blocks at once in no order", file: include_bytes!("../examples/half-hour.rule"), event: blocks, counted: Events },
+    Case { name: "half-hour, one of 31 blocks in no order", file: HALF_HOUR, event: one_block, counted: Events },
+    Case { name: "half-hour, 31 blocks at once in no order", file: HALF_HOUR, event: blocks, counted: Events },
     Case { name: "32 rows in each set", file: include_bytes!("../examples/unread.rule"), event: full_sets, counted: Events },
     Case { name: "rule L, a notice that settles nothing", file: LEAK, event: every_ten, counted: Notices { after: 0, points: 0 } },
     Case { name: "rule L, a notice that settles one point", file: LEAK, event: every_ten, counted: Notices { after: 1, points: 1 } },
+    Case { name: "rule L, a saving", file: LEAK, event: leak, counted: Saves },
+    Case { name: "rule L, a reading in", file: LEAK, event: leak, counted: Restores },
+    Case { name: "half-hour, a saving of 91 kept", file: HALF_HOUR, event: reading, counted: Saves },
+    Case { name: "half-hour, a reading in of 91 kept", file: HALF_HOUR, event: reading, counted: Restores },
+    Case { name: "half-hour, a saving of 512 kept", file: HALF_HOUR, event: all_blocks, counted: Saves },
+    Case { name: "half-hour, a reading in of 512 kept", file: HALF_HOUR, event: all_blocks, counted: Restores },
 ];
 
 // A leak or a closing of one of 8 blocks every 10 seconds: a point is settled by the seventh after it, or by a notice a second
@@ -76,6 +87,13 @@ fn blocks(g: &mut Random, k: u32) -> Vec<u32> {
     words(200 * k, &rows)
 }
 
+// Every 120 seconds all of 32 blocks are read, so that 16 ages of each are kept.
+fn all_blocks(_: &mut Random, k: u32) -> Vec<u32> {
+    let blocks: Vec<u32> = (0..32).collect();
+    let rows: Vec<(u32, &[u32])> = blocks.iter().map(|b| (1, std::slice::from_ref(b))).collect();
+    words(120 * k, &rows)
+}
+
 // Every 60 seconds all of 32 blocks are read, the lowest first.
 fn full_sets(_: &mut Random, k: u32) -> Vec<u32> {
     let blocks: Vec<u32> = (0..32).collect();
@@ -83,9 +101,9 @@ fn full_sets(_: &mut Random, k: u32) -> Vec<u32> {
     words(60 * k, &rows)
 }
 
-// Takes the events of a case, and its notices.
+// Takes the events of a case, with its notices, its savings or its readings in.
 fn run(case: &Case) {
-    let (mut g, mut buffer) = (Random(1), vec![0; 4_326]);
+    let (mut g, mut buffer, mut image) = (Random(1), vec![0; 4_326], vec![0; library::IMAGE_WORDS]);
     let mut state = library::start(case.file).state;
     for k in 0..EVENTS {
         let event = (case.event)(&mut g, k);
@@ -96,6 +114,15 @@ fn run(case: &Case) {
             // the first points are settled later
             let points = if k < 6 { 0 } else { points };
             assert_eq!((told.number, buffer[0]), (0, points), "{}: the notice after event {k}", case.name);
+        }
+        if let Saves | Restores = case.counted {
+            let told = library::save(&state, &mut image);
+            assert_eq!(told.number, 0, "{}: the saving after event {k}", case.name);
+            let words = told.words;
+            if let Restores = case.counted {
+                let told = library::restore_in(&image[..words as usize], &mut state);
+                assert_eq!((told.number, told.words), (0, words), "{}: the reading in after event {k}", case.name);
+            }
         }
     }
     println!("kept {}, open {}", library::figures(&state).kept, library::figures(&state).open_points);
@@ -108,6 +135,8 @@ fn count(k: usize) {
     let (within, each) = match CASES[k].counted {
         Events => ("--toggle-collect=yokemango_take", "an event"),
         Notices { .. } => ("--toggle-collect=yokemango_notice", "a notice"),
+        Saves => ("--toggle-collect=yokemango_save", "a saving"),
+        Restores => ("--toggle-collect=yokemango_restore", "a reading in"),
     };
     let ran = Command::new("valgrind")
         .args(["--tool=callgrind", within, &out])

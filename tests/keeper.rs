@@ -1,6 +1,7 @@
-// The keeper of 01 and of requests 101 and 103, which holds the whole log: Definition 2, "When a point is settled", "What is kept",
-// "Take an event" and clock notices, each worked out as it is defined. Written from these texts alone; nothing here is shared
-// with the monitor.
+// The keeper of 01 and of requests 101, 103 and 104, which holds the whole log: Definition 2, "When a point is settled", "What is
+// kept", "Take an event", clock notices and images, each worked out as it is defined. Written from these texts alone; nothing
+// here is shared with the monitor.
+#![allow(dead_code)]
 use crate::input::*;
 use std::cell::RefCell;
 use std::cmp::Ordering;
@@ -118,6 +119,12 @@ fn joined(u: &Valuation, w: &Valuation) -> Option<Valuation> {
 }
 
 // ---- the log
+
+// A kept entry: its node, 0 for a point or 1 for an age, and that number; and its valuation.
+struct Entry {
+    owner: [u32; 3],
+    valuation: Valuation,
+}
 
 pub struct Point {
     pub time: u32,
@@ -321,25 +328,54 @@ impl<'m> Log<'m> {
         }
     }
 
-    pub fn kept(&self) -> usize {
-        let mut count = 0;
+    // What is kept, in no order.
+    fn entries(&self) -> Vec<Entry> {
+        let mut entries = vec![];
         for x in 0..=self.meaning.last() {
             let n = self.node(x);
             let settled: Vec<usize> = (0..self.size()).filter(|i| self.settled(x, *i)).collect();
             if let (true, Some(i)) = (n.is_past(), settled.last()) {
-                count += self.pairs(n, *i).len();
+                entries.extend(self.pairs(n, *i).into_iter().map(|(valuation, age)| Entry { owner: [x as u32, 1, age as u32], valuation }));
             }
             if let Some(parent) = self.meaning.parents[x] {
                 let least_open = (0..).find(|i| !self.settled(parent, *i)).unwrap();
-                let wanted = settled.iter().filter(|j| self.consulted(parent, least_open, **j));
-                count += wanted.map(|j| self.valuations(x, *j).len()).sum::<usize>();
+                for j in settled.iter().filter(|j| self.consulted(parent, least_open, **j)) {
+                    let of_point = |valuation: &Valuation| Entry { owner: [x as u32, 0, *j as u32], valuation: *valuation };
+                    entries.extend(self.valuations(x, *j).iter().map(of_point));
+                }
             }
         }
-        count
+        entries
+    }
+
+    pub fn kept(&self) -> usize {
+        self.entries().len()
     }
 
     pub fn open(&self) -> usize {
         (0..self.size()).filter(|i| !self.settled(self.meaning.last(), *i)).count()
+    }
+
+    // ---- the image
+
+    // The times of each point that some node hasn't settled and of the last that all have, in point order.
+    fn retained(&self) -> Vec<u32> {
+        let by_all = |i: &usize| (0..=self.meaning.last()).all(|x| self.settled(x, *i));
+        let last = (0..self.size()).rev().find(by_all);
+        (0..self.size()).filter(|i| Some(*i) == last || !by_all(i)).map(|i| self.points[i].time).collect()
+    }
+
+    // Sizes, owners, values, retained times, and the rule file's bytes, four to a word.
+    pub fn image(&self) -> Vec<u32> {
+        let (mut entries, times, rule) = (self.entries(), self.retained(), self.meaning.rule.bytes());
+        let values = |e: &Entry| -> Vec<u32> { e.valuation.iter().flatten().copied().collect() };
+        entries.sort_by(|e, f| e.owner.cmp(&f.owner).then_with(|| in_order(&values(e), &values(f))));
+        let mut words = vec![1, self.size() as u32, self.latest.unwrap_or(0), entries.len() as u32, times.len() as u32];
+        words.extend(entries.iter().flat_map(|e| e.owner));
+        words.extend(entries.iter().flat_map(|e| e.valuation.map(|value| value.unwrap_or(0))));
+        words.extend(times);
+        words.extend(rule.chunks(4).map(|bytes| bytes.iter().rev().fold(0, |word, byte| word << 8 | *byte as u32)));
+        words
     }
 
     // ---- what is reported

@@ -1,6 +1,6 @@
 #!/usr/bin/env python3
-"""A plain evaluator of 01, of the clock notices of request 101 and of the looking up of request 102, written from their text alone: it
-holds the whole log and works every answer out from the definitions.
+"""A plain evaluator of 01, of the clock notices of request 101, of the looking up of request 102, of the order of request 103 and of the
+images of request 104, written from their text alone: it holds the whole log and works every answer out from the definitions.
 
     plain.py < INPUT     the listing of a rule and its events
     plain.py FILE.in ..  compares the listing of each FILE.in with FILE.out
@@ -179,20 +179,28 @@ class Log:
                 out |= {(u, min(age, c) if d == 0 else age) for u in self.lasting(n, j, range(j + 1, i + 1))}
         return out
 
-    def kept(self):
-        count, last = 0, len(self.rule.nodes) - 1
+    def entries(self):
+        """What is kept, each as its node, 0 for a point or 1 for an age, that number, and the valuation; in no order."""
+        last = len(self.rule.nodes) - 1
         for x, n in enumerate(self.rule.nodes):
             done = [i for i in range(self.size) if self.settled(x, i)]
             if n.kind in PAST and done:
-                count += len(self.pairs(n, done[-1]))
+                yield from ((x, 1, age, u) for u, age in self.pairs(n, done[-1]))
             if x != last:
                 y = next(y for y, p in enumerate(self.rule.nodes) if x in p.children)
                 kind = self.rule.nodes[y].kind
                 for j in done:
                     consulted = range(j + 1) if kind in FUTURE else [j + 1] if kind == PREVIOUS else [j - 1] if kind == NEXT else [j]
                     if any(i >= 0 and not self.settled(y, i) for i in consulted):
-                        count += len(self.vals(x, j))
-        return count
+                        yield from ((x, 0, j, u) for u in self.vals(x, j))
+
+    def kept(self):
+        return sum(1 for _ in self.entries())
+
+    def retained(self):
+        """Request 104: each point that some node hasn't settled, and the last that all have; in point order."""
+        by_all = [i for i in range(self.size) if all(self.settled(x, i) for x in range(len(self.rule.nodes)))]
+        return [i for i in range(self.size) if i not in by_all[:-1]]
 
     def open(self):
         return sum(not self.settled(len(self.rule.nodes) - 1, i) for i in range(self.size))
@@ -201,6 +209,19 @@ class Log:
 def place(row, lowest=0):
     """Request 103: by what rows are put in order. The words up to that of the lowest free variable ascend, the later ones descend: of a report's row the first alone ascends."""
     return row[:lowest + 1] + tuple(-value for value in row[lowest + 1:])
+
+
+def image(data, log):
+    """Request 104: the image of a rule file and its log. Sizes, owners, values, retained times, and the file's bytes, four to a word."""
+    def order(entry):
+        *owner, u = entry
+        return owner, place(tuple(value for _, value in sorted(u)))
+
+    entries, times = sorted(log.entries(), key=order), [log.time(i) for i in log.retained()]
+    words = [1, log.size, log.latest or 0, len(entries), len(times)]
+    words += [word for *owner, _ in entries for word in owner]
+    words += [dict(u).get(v, 0) for *_, u in entries for v in range(4)]
+    return words + times + [int.from_bytes(data[at:at + 4], "little") for at in range(0, len(data), 4)]
 
 
 def look(row, rows, lowest):

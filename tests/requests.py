@@ -1,11 +1,12 @@
 #!/usr/bin/env python3
-"""Runs the cases of a change request through plain.py, and compares every answer, every word of every report and both figures.
+"""Runs the cases of a change request through plain.py, and compares every answer, every word of every report, both figures and the image.
 
     requests.py FILE.jsonl ..
 
 A line is a case: a rule in hex, with the reach and free variables that checking answers, or its refusal; and calls, each an event's words
 (`take`) or a notice's time (`notice`) with a report buffer of `room` words. Then come the `words` written and the `report`, or the `number` and
-`place` of a refusal, and the figures `kept` and `open` after the call. Exits with 1 on any difference.
+`place` of a refusal, and the figures `kept` and `open` after the call. From request 104 on `image` is the image after the last call. Exits
+with 1 on any difference.
 """
 import collections
 import json
@@ -36,11 +37,12 @@ def called(rule, log, call):
 
 def run(where, case, met):
     """The differences of one case."""
-    unknown = set(case) - {"profile", "seed", "rule", "check", "refused", "calls"}
+    unknown = set(case) - {"profile", "seed", "rule", "check", "refused", "calls", "image"}
     if unknown:
         sys.exit(f"{where}: what {sorted(unknown)} asks isn't known here")
     met["cases"] += 1
-    rule = plain.check(bytes.fromhex(case["rule"]))
+    file = bytes.fromhex(case["rule"])
+    rule = plain.check(file)
     expected = {key: case[key] for key in ("check", "refused") if key in case}
     if checked(rule) != expected:
         yield f"{where}: checking answers {checked(rule)} for {expected}"
@@ -55,6 +57,12 @@ def run(where, case, met):
         if answer != expected:
             yield f"{where}, call {k}, {kind} {call[kind]}: {answer} for {expected}"
             return
+    if "image" in case:
+        image = plain.image(file, log)
+        met["images"] += 1
+        met["image words"] += len(image)
+        if image != case["image"]:
+            yield f"{where}: the image is {image} for {case['image']}"
 
 
 def main():
@@ -69,7 +77,7 @@ def main():
                     print(difference)
                     differences += 1
         refusals = {kind: ", ".join(f"{met[kind, n]} by {n}" for n in range(1, 17) if met[kind, n]) for kind in ("take", "notice")}
-        print(f"{name}: {met['cases']} cases; {met['take']} events, refused {refusals['take'] or 'none'}; {met['notice']} notices, refused {refusals['notice'] or 'none'}")
+        print(f"{name}: {met['cases']} cases; {met['take']} events, refused {refusals['take'] or 'none'}; {met['notice']} notices, refused {refusals['notice'] or 'none'}; {met['images']} images of {met['image words']} words")
     print(f"{differences} differ")
     sys.exit(differences > 0)
 

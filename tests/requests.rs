@@ -1,13 +1,12 @@
 // Runs the cases of a change request through the monitor and through the keeper (keeper.rs), and compares with the file every
-// answer, every word of every report and both figures after each call; requests.py has the form of the cases. It fails on the
-// first difference.
+// answer, every word of every report and both figures after each call, and the image after the last; requests.py has the form of
+// the cases. It fails on the first difference.
 //
 //   rt staticlib yokemango
 //   rustc -O --edition 2021 -L target/staticlib -o target/requests tests/requests.rs
 //   target/requests FILE.jsonl ..
 mod formed;
 mod input;
-#[allow(dead_code)]
 mod keeper;
 mod library;
 
@@ -125,6 +124,8 @@ struct Tally {
     events: usize,
     notices: usize,
     refusals: usize,
+    images: usize,
+    image_words: usize,
 }
 
 fn differ(place: &str, who: &str, is: &dyn std::fmt::Debug, should: &dyn std::fmt::Debug) -> ! {
@@ -220,6 +221,32 @@ fn run(place: &str, case: &Json, tally: &mut Tally) {
             differ(&place, "the monitor", &state.latest, &log.latest());
         }
     }
+    if let Some(image) = case.get("image") {
+        compare_images(place, &log, &state, &image.numbers());
+        tally.images += 1;
+        tally.image_words += image.numbers().len();
+    }
+}
+
+// The image by the keeper and by the monitor. Words past it must stay; and the monitor must read it in to what saves to it again.
+fn compare_images(place: &str, log: &Log, state: &library::State, should: &[u32]) {
+    let is = log.image();
+    if is != should {
+        differ(place, "the keeper", &is, &should);
+    }
+    let mut read = library::State { points: 7, latest: 7, ..library::NO_STATE };
+    let told = library::restore_in(should, &mut read);
+    if (told.number, told.place, told.words as usize) != (0, 0, should.len()) {
+        differ(place, "reading the image in", &told, &should.len());
+    }
+    for state in [state, &read] {
+        let mut buffer = vec![5; library::IMAGE_WORDS + 1];
+        let told = library::save(state, &mut buffer);
+        let (is, past) = buffer.split_at(should.len());
+        if (told.number, told.place, told.words as usize) != (0, 0, should.len()) || is != should || past.iter().any(|w| *w != 5) {
+            differ(place, "the monitor", &(told, is), &should);
+        }
+    }
 }
 
 fn main() {
@@ -234,6 +261,6 @@ fn main() {
         for (k, line) in text.lines().enumerate() {
             run(&format!("line {} of {name}", k + 1), &Reader(line.as_bytes()).value(), &mut tally);
         }
-        println!("{name}: {} cases, {} events, {} notices, {} refusals; monitor and keeper give what is expected", tally.cases, tally.events, tally.notices, tally.refusals);
+        println!("{name}: {} cases, {} events, {} notices, {} refusals, {} images of {} words; monitor and keeper give what is expected", tally.cases, tally.events, tally.notices, tally.refusals, tally.images, tally.image_words);
     }
 }

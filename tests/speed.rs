@@ -1,4 +1,4 @@
-// What one taking costs: time after 1,000 and after 1,000,000 points, side by side.
+// What one taking costs: time after 1,000 and after 1,000,000 points, side by side; and what a save and a restore cost beside it.
 //
 //   rt staticlib yokemango
 //   rustc -O --edition 2021 -L target/staticlib -o target/speed tests/speed.rs
@@ -166,6 +166,41 @@ fn time(case: &Case) {
     let [few, many] = spent.map(median);
     let (name, kept, open) = (case.name, library::figures(&state).kept, library::figures(&state).open_points);
     println!("{name}: {few:.0} ns an event after {FEW} points, {many:.0} ns after {MANY}, ratio {:.2}; kept {kept}, open {open}", many / few);
+    time_image(name, &state);
+}
+
+// A save of a state and a restore of its image, over and over.
+fn time_image(name: &str, state: &State) {
+    let mut image = vec![0; library::IMAGE_WORDS];
+    let words = library::save(state, &mut image).words as usize;
+    let mut spent = [vec![], vec![]];
+    for _ in 0..41 {
+        let began = Instant::now();
+        for _ in 0..PERIOD {
+            assert_eq!(library::save(black_box(state), &mut image).number, 0);
+        }
+        spent[0].push(began.elapsed().as_nanos() as f64 / PERIOD as f64);
+        let mut read = *state;
+        let began = Instant::now();
+        for _ in 0..PERIOD {
+            assert_eq!(library::restore_in(black_box(&image[..words]), &mut read).number, 0);
+        }
+        spent[1].push(began.elapsed().as_nanos() as f64 / PERIOD as f64);
+        assert!(read == *state);
+    }
+    let [save, restore] = spent.map(median);
+    println!("{name}: {save:.0} ns a save of {words} words, {restore:.0} ns a restore; kept {}", state.count);
+}
+
+// A state that keeps as many entries as it may: 32 blocks read every 120 seconds.
+fn full() -> State {
+    let mut state = started(&half_hour());
+    let rows: Vec<Row> = (0..32).map(|block| (1, vec![block])).collect();
+    for k in 0..40 {
+        assert_eq!(library::take_in(&mut state, &event(k * 120, &rows), &mut [0; 9]).number, 0);
+    }
+    assert_eq!(state.count, 512);
+    state
 }
 
 fn main() {
@@ -173,4 +208,5 @@ fn main() {
     for case in cases() {
         time(&case);
     }
+    time_image("the half-hour rule, 32 blocks every 120 s", &full());
 }

@@ -1,5 +1,6 @@
-// The stack of one call, by painting the stack below it: a usual event and a usual notice, bursts, and the trees that keep most
-// sets alive at once, each settled by an event and by a notice. It fails above the figures of README.md.
+// The stack of one call, by painting the stack below it: a usual event and a usual notice, bursts, the trees that keep most
+// sets alive at once, each settled by an event and by a notice, and a saving and a reading in. It fails above the figures of
+// README.md.
 //
 //   rt staticlib yokemango
 //   rustc -O --edition 2021 -L target/staticlib -o target/stack tests/stack.rs
@@ -72,6 +73,33 @@ fn noted(mut state: Box<State>, time: u32, points: u32) {
 fn of_notice(state: &State, time: u32, points: u32) -> usize {
     let state = Box::new(*state);
     used_by(move || noted(state, time, points))
+}
+
+// A saving of the state, and a reading in of what was saved. Both must be answered by so many words.
+#[inline(never)]
+fn saved(state: Box<State>, mut image: Vec<u32>) {
+    let told = library::save(&state, &mut image);
+    assert_eq!((told.number, told.words as usize), (0, image.len()));
+    black_box((&state, &image));
+}
+
+#[inline(never)]
+fn restored(mut state: Box<State>, image: Vec<u32>) {
+    let told = library::restore_in(&image, &mut state);
+    assert_eq!((told.number, told.words as usize), (0, image.len()));
+    black_box((&state, &image));
+}
+
+fn of_image(name: &str, state: &State) {
+    let mut image = vec![0; library::IMAGE_WORDS];
+    let told = library::save(state, &mut image);
+    assert_eq!(told.number, 0);
+    image.truncate(told.words as usize);
+    let (of_saving, room) = (Box::new(*state), image.clone());
+    let saving = used_by(move || saved(of_saving, room));
+    let (of_reading, words) = (Box::new(*state), image.len());
+    let reading = used_by(move || restored(of_reading, image));
+    println!("{name}, {} kept, an image of {words} words: a saving {saving} bytes, a reading in {reading} bytes", state.count);
 }
 
 // ---- what is measured
@@ -183,12 +211,31 @@ fn leaks(k: u32) -> Vec<u32> {
 // A notice after 1,000 events of rule L: one of the last event's time, which settles nothing, and one that settles the first open
 // point. A point comes every 7 seconds, so that the last 9 are open.
 fn usual_notice(rule: &Rule) -> usize {
-    let mut state = started(rule);
-    for k in 0..1_000 {
-        take(&mut state, &leaks(k));
-    }
+    let state = after(rule, leaks);
     let first_open = 7 * (1_000 - library::figures(&state).open_points);
     of_notice(&state, state.latest, 0).max(of_notice(&state, first_open + 61, 1))
+}
+
+// The state after 1,000 events.
+fn after(rule: &Rule, event_at: impl Fn(u32) -> Vec<u32>) -> State {
+    let mut state = started(rule);
+    (0..1_000).for_each(|k| drop(take(&mut state, &event_at(k))));
+    state
+}
+
+// A valve opened in a block (relation 0) that wasn't read (relation 1) within the last half hour.
+fn half_hour() -> Rule {
+    let nodes = vec![atom(0, &[0]), atom(1, &[0]), node(ONCE, 1, 0, 0, 1_801), node(AND_NOT, 0, 2, 0, 0)];
+    Rule { arities: vec![1, 1], nodes }
+}
+
+// One of 8 blocks is read every 20 seconds; or all of 32 every 120, so that 16 ages of each are kept.
+fn readings(k: u32) -> Vec<u32> {
+    event(20 * k, &[(1, vec![k % 8])])
+}
+
+fn all_blocks(k: u32) -> Vec<u32> {
+    event(120 * k, &(0..32).map(|block| (1, vec![block])).collect::<Vec<Row>>())
 }
 
 fn told(name: &str, bytes: usize, most: usize) -> bool {
@@ -237,5 +284,8 @@ fn main() {
     println!("start: {} bytes", used_by(move || drop(black_box(Box::new(library::start(&own))))));
     let state = Box::new(started(&l));
     println!("figures: {} bytes", used_by(move || assert_eq!(library::figures(&state).number, 0)));
+    of_image("rule L", &after(&l, leaks));
+    of_image("half-hour", &after(&half_hour(), readings));
+    of_image("half-hour", &after(&half_hour(), all_blocks));
     assert!(fine, "a call takes more stack than README.md says");
 }
