@@ -2,11 +2,12 @@
 
    A rule is started once; each event and each clock notice is then taken with the state as the last call left it. The call
    that settles a point reports it. A notice is a time and no point: no event below it is still to come. A program gives one a
-   minute while the field is quiet, so that points are settled then too. No function has memory between calls but the state,
-   and none uses the heap, a system call or a global. Two states may be used by two threads at once.
+   minute while the field is quiet, so that points are settled then too. For a battery change a state is saved to words, an
+   image, and read in again. No function has memory between calls but the state, and none uses the heap, a system call or a
+   global. Two states may be used by two threads at once.
 
-   Addresses are never null, also where the length beside them is 0, and are those of whole words; state, event and report
-   buffer lie apart. Nothing else is asked: bytes and words may be anything, and what is out of form is refused.
+   Addresses are never null, also where the length beside them is 0, and are those of whole words; state, event, report buffer
+   and image lie apart. Nothing else is asked: bytes and words may be anything, and what is out of form is refused.
 
    A refusal is a number with a place, which is 0 where none is named below. */
 #ifndef YOKEMANGO_H
@@ -19,9 +20,9 @@
 extern "C" {
 #endif
 
-#define YOKEMANGO_VERSION "1.2.0-pre"
+#define YOKEMANGO_VERSION "1.3.0-pre"
 #define YOKEMANGO_VERSION_MAJOR 1
-#define YOKEMANGO_VERSION_MINOR 2
+#define YOKEMANGO_VERSION_MINOR 3
 #define YOKEMANGO_VERSION_PATCH 0
 
 /* ---- limits */
@@ -37,6 +38,7 @@ extern "C" {
 #define YOKEMANGO_MAX_WINDOW 604800u       /* seconds */
 #define YOKEMANGO_MAX_EVENT_WORDS 162u     /* the longest event: 2 + 5 * 32 */
 #define YOKEMANGO_MAX_REPORT_WORDS 4326u   /* the longest report; a buffer of this length never meets 16 */
+#define YOKEMANGO_MAX_IMAGE_WORDS 3816u    /* the longest image: 5 + 7 * 512 + 64 + 163; a buffer of this length never meets 19 */
 #define YOKEMANGO_TIME_WORDS 65u           /* places for retained times; at most 64 are used */
 
 /* ---- refusals; 0 is none */
@@ -58,7 +60,9 @@ enum yokemango_refusal {
     YOKEMANGO_REFUSED_BACKLOG = 14,        /* over 32 points not settled */
     YOKEMANGO_REFUSED_KEPT = 15,           /* over 512 kept entries */
     YOKEMANGO_REFUSED_SHORT = 16,          /* a report buffer too short; place: the words needed */
-    YOKEMANGO_REFUSED_REPORT = 17          /* not a report, or no such entry */
+    YOKEMANGO_REFUSED_REPORT = 17,         /* not a report, or no such entry */
+    YOKEMANGO_REFUSED_IMAGE = 18,          /* an image out of form, or whose rule is refused */
+    YOKEMANGO_REFUSED_ROOM = 19            /* a buffer too short for the image; place: the words needed */
 };
 
 /* A refusal in words, without its place. */
@@ -83,6 +87,8 @@ static inline const char *yokemango_refusal_words(uint32_t number)
     case YOKEMANGO_REFUSED_KEPT: return "over 512 entries would be kept";
     case YOKEMANGO_REFUSED_SHORT: return "the report buffer is too short";
     case YOKEMANGO_REFUSED_REPORT: return "not a report, or no such entry";
+    case YOKEMANGO_REFUSED_IMAGE: return "the image is out of form, or its rule is refused";
+    case YOKEMANGO_REFUSED_ROOM: return "the image buffer is too short";
     default: return "no such refusal";
     }
 }
@@ -137,14 +143,28 @@ struct yokemango_figures {
     uint32_t kept;                                /* kept entries: at most 512 of a state that these functions left */
 };
 
+struct yokemango_saved {
+    uint32_t number;                              /* 0, 8 or 19 */
+    uint32_t place;                               /* the words needed for 19, else 0 */
+    uint32_t words;                               /* words written to the front of the image's buffer; 0 on a refusal */
+};
+
+struct yokemango_restored {
+    uint32_t number;                              /* 0 or 18 */
+    uint32_t place;                               /* 0 */
+    uint32_t words;                               /* words read: all of the image's; 0 on a refusal */
+};
+
 /* The layout that the library has. */
 typedef char yokemango_state_has_13220_bytes[sizeof(struct yokemango_state) == 13220 ? 1 : -1];
 typedef char yokemango_checked_has_16_bytes[sizeof(struct yokemango_checked) == 16 ? 1 : -1];
 typedef char yokemango_started_has_13236_bytes[sizeof(struct yokemango_started) == 13236 ? 1 : -1];
 typedef char yokemango_taken_has_12_bytes[sizeof(struct yokemango_taken) == 12 ? 1 : -1];
 typedef char yokemango_figures_has_12_bytes[sizeof(struct yokemango_figures) == 12 ? 1 : -1];
+typedef char yokemango_saved_has_12_bytes[sizeof(struct yokemango_saved) == 12 ? 1 : -1];
+typedef char yokemango_restored_has_12_bytes[sizeof(struct yokemango_restored) == 12 ? 1 : -1];
 
-/* ---- check a rule, start a state, take events and notices */
+/* ---- check a rule, start a state, take events and notices, save and restore */
 
 /* Checks a rule, with no state and next to no stack; refusals are 1 to 7. */
 struct yokemango_checked yokemango_check(const uint8_t *rule, size_t rule_len);
@@ -170,6 +190,19 @@ struct yokemango_figures yokemango_figures(
     const uint8_t *rule, size_t rule_len, uint32_t bytes, uint32_t points, uint32_t latest, const uint32_t *times,
     size_t times_len, uint32_t retained, const uint32_t *owners, size_t owners_len, const uint32_t *numbers,
     size_t numbers_len, const uint32_t *values, size_t values_len, uint32_t count);
+
+/* Saves a state whose fields are lent in the same way. A program calls yokemango_save_in below. */
+struct yokemango_saved yokemango_save(
+    const uint8_t *rule, size_t rule_len, uint32_t bytes, uint32_t points, uint32_t latest, const uint32_t *times,
+    size_t times_len, uint32_t retained, const uint32_t *owners, size_t owners_len, const uint32_t *numbers,
+    size_t numbers_len, const uint32_t *values, size_t values_len, uint32_t count, uint32_t *image, size_t image_len);
+
+/* Reads an image into the memory of a state, all of whose fields are lent to be written. Another length than the field's own
+   is refused by 18. A program calls yokemango_restore_in below. */
+struct yokemango_restored yokemango_restore(
+    const uint32_t *image, size_t image_len, uint8_t *rule, size_t rule_len, uint32_t *bytes, uint32_t *points,
+    uint32_t *latest, uint32_t *times, size_t times_len, uint32_t *retained, uint32_t *owners, size_t owners_len,
+    uint32_t *numbers, size_t numbers_len, uint32_t *values, size_t values_len, uint32_t *count);
 
 /* ---- read a report: P points, F free variables, total rows; P triples of point, time and row count; rows of F words
 
@@ -211,7 +244,8 @@ static inline struct yokemango_checked yokemango_start_in(struct yokemango_state
      nodes                                        2 or 4        8       16       32
      a usual event                                 9,600   10,168   11,896   12,472
      an event that settles 32 points at once      61,872  155,624  156,200  156,776
-   A notice takes 16 bytes less, yokemango_start takes 13,552 and yokemango_figures 1,384. */
+   A notice takes 16 bytes less, yokemango_start takes 13,552, yokemango_figures 1,384, yokemango_save 1,560 and
+   yokemango_restore 6,360. */
 static inline struct yokemango_taken yokemango_take_in(struct yokemango_state *state, const uint32_t *event, size_t event_len, uint32_t *report, size_t report_len)
 {
     return yokemango_take(
@@ -239,6 +273,32 @@ static inline struct yokemango_figures yokemango_figures_in(const struct yokeman
         state->rule, YOKEMANGO_MAX_RULE_BYTES, state->bytes, state->points, state->latest, state->times,
         YOKEMANGO_TIME_WORDS, state->retained, state->owners, YOKEMANGO_MAX_KEPT, state->numbers, YOKEMANGO_MAX_KEPT,
         state->values, 4u * YOKEMANGO_MAX_KEPT, state->count);
+}
+
+/* Saves `state`, which stays as it is, to the front of `image`; words past the image stay. The image is: version 1, points,
+   latest known time, kept entries, retained times; of each entry node, 0 for a point or 1 for an age, and that number; of each
+   entry four values; the retained times; the rule file, four bytes to a word. What is stored has one image. The answer has the
+   words written, at most 3,816, or the first of the refusals 8 and 19 that applies; then no word of `image` is changed. */
+static inline struct yokemango_saved yokemango_save_in(const struct yokemango_state *state, uint32_t *image, size_t image_len)
+{
+    return yokemango_save(
+        state->rule, YOKEMANGO_MAX_RULE_BYTES, state->bytes, state->points, state->latest, state->times,
+        YOKEMANGO_TIME_WORDS, state->retained, state->owners, YOKEMANGO_MAX_KEPT, state->numbers, YOKEMANGO_MAX_KEPT,
+        state->values, 4u * YOKEMANGO_MAX_KEPT, state->count, image, image_len);
+}
+
+/* Reads an image into `state`, which may hold anything before. The rule is in the image, and `image_len` is the words that
+   saving told: a word more or less is out of form. The answer has the words read, or 18; then no word of `state` is changed.
+   Once an image is read in, no call meets 8, and saving gives the same words back. Where this monitor saved it, calls are
+   answered as though it had gone on all the time. An image of other origin harms nothing, and what is reported then may be
+   what no log gave. Words of `state` behind its counts stay as they were, and no answer depends on them: two states that hold
+   the same may differ there. examples/two_images.c keeps two images, so that a loss of power in a save loses nothing. */
+static inline struct yokemango_restored yokemango_restore_in(struct yokemango_state *state, const uint32_t *image, size_t image_len)
+{
+    return yokemango_restore(
+        image, image_len, state->rule, YOKEMANGO_MAX_RULE_BYTES, &state->bytes, &state->points, &state->latest, state->times,
+        YOKEMANGO_TIME_WORDS, &state->retained, state->owners, YOKEMANGO_MAX_KEPT, state->numbers, YOKEMANGO_MAX_KEPT,
+        state->values, 4u * YOKEMANGO_MAX_KEPT, &state->count);
 }
 
 /* A point of a report: `rows` rows of `columns` words each, end to end from `words` on. */

@@ -1,5 +1,5 @@
 /* The header as a program in C uses it, on rule L, whose file is named: what a refusal leaves, what a report gives back, what
-   notices settle, and the constants. Built with the address and undefined-behaviour sanitizers; buffers are of exact length,
+   notices settle, what is saved and read in again, and the constants. Built with the address and undefined-behaviour sanitizers; buffers are of exact length,
    on the heap. */
 #include <stdio.h>
 #include <stdlib.h>
@@ -92,6 +92,20 @@ static void refusals(const uint8_t *rule, size_t length)
         CHECK(refused(taken, YOKEMANGO_REFUSED_STATE, 0) && refused(noticed, YOKEMANGO_REFUSED_STATE, 0));
         CHECK(long_enough[0] == 5 && long_enough[1] == 6 && long_enough[2] == 7);
         CHECK(figures.number == YOKEMANGO_REFUSED_STATE && figures.open_points == 0 && figures.kept == 0);
+        const uint32_t nothing_taken[28] = {1};
+        uint32_t *image = copy(nothing_taken, 28);
+        CHECK(yokemango_save_in(&state, image, 28).words == 28);
+        const struct yokemango_restored read = yokemango_restore(
+            image, 28, state.rule, rule_len, &state.bytes, &state.points, &state.latest, state.times, times_len, &state.retained,
+            state.owners, owners_len, state.numbers, numbers_len, state.values, values_len, &state.count);
+        CHECK(read.number == YOKEMANGO_REFUSED_IMAGE && read.place == 0 && read.words == 0 && same_state());
+        memset(image, 0, 28 * sizeof *image);
+        const struct yokemango_saved saved = yokemango_save(
+            state.rule, rule_len, state.bytes, state.points, state.latest, state.times, times_len, state.retained, state.owners,
+            owners_len, state.numbers, numbers_len, state.values, values_len, state.count, image, 28);
+        CHECK(saved.number == YOKEMANGO_REFUSED_STATE && saved.place == 0 && saved.words == 0);
+        CHECK(image[0] == 0 && memcmp(image, image + 1, 27 * sizeof *image) == 0);
+        free(image);
     }
 
     memset(&state, 0, sizeof state);
@@ -192,6 +206,87 @@ static void notices_of_next(void)
     CHECK(taken.number == 0 && taken.words == 7 && memcmp(report, expected, sizeof expected) == 0);
 }
 
+/* Saving answers so, and leaves every word as it was. */
+static int not_saved(size_t room, uint32_t number, uint32_t place)
+{
+    uint32_t words[40];
+    memset(words, 5, sizeof words);
+    uint32_t *image = copy(words, room);
+    const struct yokemango_saved saved = yokemango_save_in(&state, image, room);
+    const int stays = memcmp(image, words, room * sizeof *image) == 0;
+    free(image);
+    return saved.number == number && saved.place == place && saved.words == 0 && stays;
+}
+
+/* Reading in is refused, and the state is as it was. */
+static int not_read(const uint32_t *image, size_t length)
+{
+    uint32_t *own = copy(image, length);
+    const struct yokemango_restored restored = yokemango_restore_in(&state, own, length);
+    free(own);
+    return restored.number == YOKEMANGO_REFUSED_IMAGE && restored.place == 0 && restored.words == 0 && same_state();
+}
+
+static void images(const uint8_t *rule, size_t length)
+{
+    const uint32_t leaks[] = {100, 2, 0, 0, 9, 0, 0, 0, 7, 0, 0, 0}, closed[] = {130, 1, 1, 9, 0, 0, 0};
+    /* the sizes; two leaks at point 0 and a closing at point 1; their values; the times */
+    const uint32_t front[] = {
+        1, 2, 130, 3, 2, 0, 0, 0, 0, 0, 0, 1, 0, 1, 7, 0, 0, 0, 9, 0, 0, 0, 9, 0, 0, 0, 100, 130};
+    const uint32_t expected[] = {1, 1, 1, 0, 100, 1, 7};
+    enum { FRONT = sizeof front / sizeof *front, WORDS = FRONT + 23 };
+    uint32_t image[WORDS + 2], again[WORDS], report[7];
+    struct yokemango_saved saved;
+    struct yokemango_restored restored;
+    struct yokemango_taken taken;
+
+    CHECK(yokemango_start_in(&state, rule, length).number == 0);
+    CHECK(not_saved(0, YOKEMANGO_REFUSED_ROOM, 28) && not_saved(27, YOKEMANGO_REFUSED_ROOM, 28));
+    CHECK(take(leaks, 12, report, 3).number == 0 && take(closed, 7, report, 3).number == 0);
+    CHECK(not_saved(40, YOKEMANGO_REFUSED_ROOM, WORDS));
+    before = state;
+    image[WORDS] = 5;
+    image[WORDS + 1] = 6;
+    saved = yokemango_save_in(&state, image, WORDS + 2);
+    CHECK(saved.number == 0 && saved.place == 0 && saved.words == WORDS && same_state());
+    CHECK(memcmp(image, front, sizeof front) == 0 && image[WORDS] == 5 && image[WORDS + 1] == 6);
+    for (size_t k = 0; k < 23; k++)
+        for (size_t b = 0; b < 4; b++)
+            CHECK((image[FRONT + k] >> 8 * b & 255) == rule[4 * k + b]);
+
+    /* a word less, a word more, none; another version; entries out of order; a rule that checking refuses */
+    CHECK(not_read(image, WORDS - 1) && not_read(image, WORDS + 1) && not_read(image, 0));
+    for (size_t k = 0; k < 3; k++) {
+        uint32_t damaged[WORDS];
+        memcpy(damaged, image, sizeof damaged);
+        damaged[k == 0 ? 0 : k == 1 ? 14 : FRONT] += 2;
+        CHECK(not_read(damaged, WORDS));
+    }
+
+    /* read into other words: those that the counts leave out stay */
+    memset(&state, 0xa5, sizeof state);
+    before = state;
+    CHECK(not_saved(40, YOKEMANGO_REFUSED_STATE, 0) && not_read(image, WORDS - 1));
+    restored = yokemango_restore_in(&state, image, WORDS);
+    CHECK(restored.number == 0 && restored.place == 0 && restored.words == WORDS);
+    CHECK(memcmp(state.rule, rule, length) == 0 && state.bytes == length && state.points == 2 && state.latest == 130);
+    CHECK(state.retained == 2 && state.times[0] == 100 && state.times[1] == 130 && state.count == 3);
+    CHECK(state.owners[0] == 0 && state.owners[1] == 0 && state.owners[2] == 2);
+    CHECK(state.numbers[0] == 0 && state.numbers[1] == 0 && state.numbers[2] == 1);
+    CHECK(memcmp(state.values, front + 14, 12 * sizeof *front) == 0);
+    CHECK(memcmp(state.rule + length, before.rule + length, sizeof state.rule - length) == 0);
+    CHECK(memcmp(state.times + 2, before.times + 2, sizeof state.times - 2 * sizeof *state.times) == 0);
+    CHECK(memcmp(state.owners + 3, before.owners + 3, sizeof state.owners - 3 * sizeof *state.owners) == 0);
+    CHECK(memcmp(state.numbers + 3, before.numbers + 3, sizeof state.numbers - 3 * sizeof *state.numbers) == 0);
+    CHECK(memcmp(state.values + 12, before.values + 12, sizeof state.values - 12 * sizeof *state.values) == 0);
+
+    /* it saves to itself, and the leak is reported */
+    saved = yokemango_save_in(&state, again, WORDS);
+    CHECK(saved.number == 0 && saved.words == WORDS && memcmp(again, image, sizeof again) == 0);
+    taken = yokemango_notice_in(&state, 161, report, 7);
+    CHECK(taken.number == 0 && taken.words == 7 && memcmp(report, expected, sizeof expected) == 0);
+}
+
 int main(int argc, char **argv)
 {
     uint8_t rule[YOKEMANGO_MAX_RULE_BYTES];
@@ -202,10 +297,12 @@ int main(int argc, char **argv)
     CHECK(length == 92);
     CHECK(YOKEMANGO_MAX_RULE_BYTES == 12 + 20 * YOKEMANGO_MAX_NODES && YOKEMANGO_MAX_EVENT_WORDS == 2 + 5 * YOKEMANGO_MAX_ROWS);
     CHECK(YOKEMANGO_MAX_REPORT_WORDS == 3 + 33 * 3 + 33 * YOKEMANGO_MAX_ROWS * YOKEMANGO_MAX_COLUMNS);
+    CHECK(YOKEMANGO_MAX_IMAGE_WORDS == 5 + 7 * YOKEMANGO_MAX_KEPT + (YOKEMANGO_TIME_WORDS - 1) + YOKEMANGO_MAX_RULE_BYTES / 4);
     refusals(rule, length);
     reports(rule, length);
     notices(rule, length);
     notices_of_next();
+    images(rule, length);
     printf("%u checks of the header\n", checks);
     return 0;
 }

@@ -118,14 +118,14 @@ def try_tables(page, folder):
 #include "yokemango.h"
 int main(void)
 {
-    for (uint32_t k = 0; k < 20; k++)
+    for (uint32_t k = 0; k < 22; k++)
         printf("%s\n", yokemango_refusal_words(k));
     return 0;
 }
 ''')
     subprocess.run(["cc", f"-I{TOP}/include", "-o", folder / "words", folder / "words.c"], check=True)
     words = subprocess.run([folder / "words"], capture_output=True, text=True, check=True).stdout.splitlines()
-    text.same("words of no refusal", [words[0], *words[18:]], ["no refusal"] + ["no such refusal"] * 2, "yokemango.h")
+    text.same("words of no refusal", [words[0], *words[20:]], ["no refusal"] + ["no such refusal"] * 2, "yokemango.h")
     desk = sys.modules["rules_run"].REASONS
     text.same("the desk's words", desk, {k: words[k] for k in desk}, "rules_run.py")
     text.same("the desk has the refusals of rules and events", set(desk) >= set(range(1, 17)), True, "rules_run.py")

@@ -36,7 +36,9 @@
 //! # }
 //! ```
 //!
-//! It needs no heap and no operating system. A state is 13,220 bytes; the longest report is 4,326 words.
+//! For a battery change a state is saved to words, an image, and read in again: [`State::save`] and [`State::restore`].
+//!
+//! It needs no heap and no operating system. A state is 13,220 bytes; the longest report is 4,326 words, the longest image 3,816.
 //!
 //! To build it, the environment variable `YOKEMANGO_LIB` names the folder that has libyokemango.a, the monitor's static
 //! library.
@@ -82,6 +84,8 @@ pub const MAX_WINDOW: u32 = 604_800;
 pub const MAX_EVENT_WORDS: usize = 162;
 /// The words of the longest report: a buffer of this length never meets [`Refusal::Short`].
 pub const MAX_REPORT_WORDS: usize = 4_326;
+/// The words of the longest image: a buffer of this length never meets [`Refusal::Room`].
+pub const MAX_IMAGE_WORDS: usize = 3_816;
 /// The words of a state.
 pub const STATE_WORDS: usize = 3_305;
 
@@ -108,6 +112,7 @@ mod tests {
             ("WINDOW", crate::MAX_WINDOW as usize),
             ("EVENT_WORDS", crate::MAX_EVENT_WORDS),
             ("REPORT_WORDS", crate::MAX_REPORT_WORDS),
+            ("IMAGE_WORDS", crate::MAX_IMAGE_WORDS),
         ];
         for (name, limit) in limits {
             assert_eq!(defined(&std::format!("MAX_{name}")), std::format!("{limit}"), "{name}");

@@ -51,10 +51,25 @@ pub(crate) struct Figures {
     pub(crate) kept: u32,
 }
 
+#[repr(C)]
+pub(crate) struct Saved {
+    pub(crate) number: u32,
+    pub(crate) place: u32,
+    pub(crate) words: u32,
+}
+
+#[repr(C)]
+pub(crate) struct Restored {
+    pub(crate) number: u32,
+    pub(crate) place: u32,
+    words: u32,
+}
+
 // The layout that the library has.
 const _: () = {
     assert!(size_of::<State>() == 4 * STATE_WORDS && align_of::<State>() == 4);
     assert!(size_of::<Checked>() == 16 && size_of::<Started>() == 13_236 && size_of::<Taken>() == 12 && size_of::<Figures>() == 12);
+    assert!(size_of::<Saved>() == 12 && size_of::<Restored>() == 12);
 };
 
 extern "C" {
@@ -118,11 +133,49 @@ extern "C" {
         values_len: usize,
         count: u32,
     ) -> Figures;
+    fn yokemango_save(
+        rule: *const u8,
+        rule_len: usize,
+        bytes: u32,
+        points: u32,
+        latest: u32,
+        times: *const u32,
+        times_len: usize,
+        retained: u32,
+        owners: *const u32,
+        owners_len: usize,
+        numbers: *const u32,
+        numbers_len: usize,
+        values: *const u32,
+        values_len: usize,
+        count: u32,
+        image: *mut u32,
+        image_len: usize,
+    ) -> Saved;
+    fn yokemango_restore(
+        image: *const u32,
+        image_len: usize,
+        rule: *mut u8,
+        rule_len: usize,
+        bytes: *mut u32,
+        points: *mut u32,
+        latest: *mut u32,
+        times: *mut u32,
+        times_len: usize,
+        retained: *mut u32,
+        owners: *mut u32,
+        owners_len: usize,
+        numbers: *mut u32,
+        numbers_len: usize,
+        values: *mut u32,
+        values_len: usize,
+        count: *mut u32,
+    ) -> Restored;
     fn yokemango_check_report(report: *const u32, report_len: usize) -> u32;
 }
 
-// The functions ask nothing of bytes, words or numbers, and keep no address: any slice may be lent to any of them, and a
-// report's buffer is lent to one alone.
+// The functions ask nothing of bytes, words or numbers, and keep no address: any slice may be lent to any of them, and what is
+// written, a report's buffer, an image's or a state, is lent to one alone.
 
 pub(crate) fn check(rule: &[u8]) -> Checked {
     unsafe { yokemango_check(rule.as_ptr(), rule.len()) }
@@ -201,6 +254,54 @@ pub(crate) fn figures(state: &State) -> Figures {
             state.values.as_ptr(),
             4 * ENTRIES,
             state.count,
+        )
+    }
+}
+
+pub(crate) fn save(state: &State, image: &mut [u32]) -> Saved {
+    unsafe {
+        yokemango_save(
+            state.rule.as_ptr(),
+            MAX_RULE_BYTES,
+            state.bytes,
+            state.points,
+            state.latest,
+            state.times.as_ptr(),
+            TIME_WORDS,
+            state.retained,
+            state.owners.as_ptr(),
+            ENTRIES,
+            state.numbers.as_ptr(),
+            ENTRIES,
+            state.values.as_ptr(),
+            4 * ENTRIES,
+            state.count,
+            image.as_mut_ptr(),
+            image.len(),
+        )
+    }
+}
+
+pub(crate) fn restore(state: &mut State, image: &[u32]) -> Restored {
+    unsafe {
+        yokemango_restore(
+            image.as_ptr(),
+            image.len(),
+            state.rule.as_mut_ptr(),
+            MAX_RULE_BYTES,
+            &mut state.bytes,
+            &mut state.points,
+            &mut state.latest,
+            state.times.as_mut_ptr(),
+            TIME_WORDS,
+            &mut state.retained,
+            state.owners.as_mut_ptr(),
+            ENTRIES,
+            state.numbers.as_mut_ptr(),
+            ENTRIES,
+            state.values.as_mut_ptr(),
+            4 * ENTRIES,
+            &mut state.count,
         )
     }
 }

@@ -68,10 +68,17 @@ pub enum Refusal {
     },
     /// 17: words aren't a report.
     Report,
+    /// 18: words aren't an image in form, or the rule in it is refused.
+    Image,
+    /// 19: the buffer is too short for the image.
+    Room {
+        /// The words that the image needs.
+        needed: u32,
+    },
 }
 
 impl Refusal {
-    /// The refusal of this number and place, 1 to 17.
+    /// The refusal of this number and place, 1 to 19.
     pub(crate) fn of(number: u32, place: u32) -> Refusal {
         match number {
             1 => Refusal::Length,
@@ -91,11 +98,13 @@ impl Refusal {
             15 => Refusal::Kept,
             16 => Refusal::Short { needed: place },
             17 => Refusal::Report,
+            18 => Refusal::Image,
+            19 => Refusal::Room { needed: place },
             _ => unreachable!("the library has no refusal {number}"),
         }
     }
 
-    /// The refusal's number, 1 to 17.
+    /// The refusal's number, 1 to 19.
     pub fn number(self) -> u32 {
         match self {
             Refusal::Length => 1,
@@ -115,6 +124,8 @@ impl Refusal {
             Refusal::Kept => 15,
             Refusal::Short { .. } => 16,
             Refusal::Report => 17,
+            Refusal::Image => 18,
+            Refusal::Room { .. } => 19,
         }
     }
 
@@ -138,6 +149,8 @@ impl Refusal {
             Refusal::Kept => "over 512 entries would be kept",
             Refusal::Short { .. } => "the report buffer is too short",
             Refusal::Report => "not a report, or no such entry",
+            Refusal::Image => "the image is out of form, or its rule is refused",
+            Refusal::Room { .. } => "the image buffer is too short",
         }
     }
 
@@ -146,7 +159,7 @@ impl Refusal {
         match self {
             Refusal::Node { node } | Refusal::Window { node } | Refusal::FreeVariables { node } | Refusal::Parent { node } | Refusal::Crowded { node } => node,
             Refusal::Row { row } => row,
-            Refusal::Short { needed } => needed,
+            Refusal::Short { needed } | Refusal::Room { needed } => needed,
             _ => 0,
         }
     }
@@ -158,7 +171,7 @@ impl fmt::Display for Refusal {
         match *self {
             Refusal::Node { node } | Refusal::Window { node } | Refusal::FreeVariables { node } | Refusal::Parent { node } | Refusal::Crowded { node } => write!(out, ": node {node}"),
             Refusal::Row { row } => write!(out, ": row {row}"),
-            Refusal::Short { needed } => write!(out, ": {needed} words are needed"),
+            Refusal::Short { needed } | Refusal::Room { needed } => write!(out, ": {needed} words are needed"),
             _ => Ok(()),
         }
     }
@@ -173,7 +186,7 @@ mod tests {
     #[test]
     fn words_and_names_are_those_of_the_header() {
         let header = include_str!("../../include/yokemango.h");
-        for number in 1..=17 {
+        for number in 1..=19 {
             let refusal = Refusal::of(number, 9);
             // the variant's name in capitals, its words parted by _
             let name = std::format!("{refusal:?}").split(' ').next().unwrap().chars().enumerate().fold(std::string::String::new(), |mut name, (k, c)| {
@@ -191,8 +204,8 @@ mod tests {
 
     #[test]
     fn the_place_is_told() {
-        let said = [(4, "node 9"), (5, "node 9"), (6, "node 9"), (7, "node 9"), (10, "row 9"), (13, "node 9"), (16, "9 words are needed")];
-        for number in 1..=17 {
+        let said = [(4, "node 9"), (5, "node 9"), (6, "node 9"), (7, "node 9"), (10, "row 9"), (13, "node 9"), (16, "9 words are needed"), (19, "9 words are needed")];
+        for number in 1..=19 {
             let refusal = Refusal::of(number, 9);
             let place = said.iter().find(|(n, _)| *n == number);
             let words = place.map_or(std::string::String::from(refusal.words()), |(_, place)| std::format!("{}: {place}", refusal.words()));
@@ -202,8 +215,8 @@ mod tests {
 
     #[test]
     fn number_and_place_come_back() {
-        let placed = [4, 5, 6, 7, 10, 13, 16];
-        for number in 1..=17 {
+        let placed = [4, 5, 6, 7, 10, 13, 16, 19];
+        for number in 1..=19 {
             let refusal = Refusal::of(number, 9);
             let place = if placed.contains(&number) { 9 } else { 0 };
             assert_eq!((refusal.number(), refusal.place()), (number, place));

@@ -37,6 +37,65 @@ impl State {
         answer(taken, buffer)
     }
 
+    /// Saves the state as an image to the front of `buffer`, and gives the image; words past it stay. It needs at most 3,816
+    /// words. Refusals are 8 and 19, and leave the buffer as it was.
+    ///
+    /// The image has the rule in it, and is all that [`State::restore`] asks. What a state holds has one image, so that two
+    /// states hold the same where their images are the same.
+    ///
+    /// ```
+    /// use yokemango::{Event, Refusal, Rule, State, MAX_IMAGE_WORDS};
+    ///
+    /// # fn main() -> Result<(), Box<dyn std::error::Error>> {
+    /// let rule = Rule::check(include_bytes!("../../examples/leak.rule"))?;
+    /// let mut state = State::start(&rule)?;
+    /// state.take(&Event::new(&rule, 100).with(0, &[7])?, &mut [0; 3])?;
+    ///
+    /// // version, points, latest known time, entries, times; node 0 at point 0 has the value 7; the time; 92 bytes of rule
+    /// let mut buffer = [0; MAX_IMAGE_WORDS];
+    /// let image = state.save(&mut buffer)?;
+    /// assert_eq!(image[..13], [1, 1, 100, 1, 1, 0, 0, 0, 7, 0, 0, 0, 100]);
+    /// assert_eq!(image.len(), 13 + 92 / 4);
+    ///
+    /// // the battery is changed, and the leak is reported as though nothing had happened
+    /// let mut state = State::restore(image)?;
+    /// let mut report = [0; 7];
+    /// assert!(state.notice(161, &mut report)?.points().next().unwrap().rows().eq([[7]]));
+    ///
+    /// // a damaged word, a word too few and a buffer too short are refused
+    /// let mut damaged = image.to_vec();
+    /// damaged[3] = 2;
+    /// assert_eq!(State::restore(&damaged).err(), Some(Refusal::Image));
+    /// assert_eq!(State::restore(&image[..35]).err(), Some(Refusal::Image));
+    /// assert_eq!(state.save(&mut [0; 4]).err(), Some(Refusal::Room { needed: 29 }));
+    /// # Ok(())
+    /// # }
+    /// ```
+    pub fn save<'b>(&self, buffer: &'b mut [u32]) -> Result<&'b [u32], Refusal> {
+        let saved = library::save(&self.0, buffer);
+        match saved.number {
+            0 => Ok(&buffer[..saved.words as usize]),
+            number => Err(Refusal::of(number, saved.place)),
+        }
+    }
+
+    /// Reads an image in. It is given with no word more or less than [`State::save`] gave; the refusal is 18.
+    ///
+    /// No call on the state meets 8, and saving it gives the same image back. Where this monitor saved the image, calls are
+    /// answered as though it had gone on all the time. An image of other origin harms nothing, and what is reported then may be
+    /// what no log gave. A damaged word isn't always seen: a unit puts a check sum beside what it keeps.
+    ///
+    /// Words that hold nothing are 0 in the state, and needn't be in the one that was saved, so that `==` may tell the two apart;
+    /// no answer does.
+    pub fn restore(image: &[u32]) -> Result<State, Refusal> {
+        let mut state = library::of_words(&[0; STATE_WORDS]);
+        let restored = library::restore(&mut state, image);
+        match restored.number {
+            0 => Ok(State(state)),
+            number => Err(Refusal::of(number, restored.place)),
+        }
+    }
+
     /// The points taken so far.
     pub fn points(&self) -> u32 {
         self.0.points
@@ -89,7 +148,7 @@ impl fmt::Debug for State {
 #[cfg(test)]
 mod tests {
     use super::State;
-    use crate::{Event, Refusal, Rule, MAX_REPORT_WORDS, STATE_WORDS};
+    use crate::{Event, Refusal, Rule, MAX_IMAGE_WORDS, MAX_REPORT_WORDS, STATE_WORDS};
 
     const LEAK: &[u8] = include_bytes!("../../examples/leak.rule");
 
@@ -132,6 +191,48 @@ mod tests {
         assert_eq!(state.take_words(&[1, 1, 2, 0, 0, 0, 0], &mut buffer).err(), Some(Refusal::Row { row: 0 }));
         assert_eq!(state.notice(1, &mut buffer).err(), Some(Refusal::Short { needed: 3 }));
         assert!(state == before && buffer == [5; 2]);
+    }
+
+    #[test]
+    fn an_image_read_in_is_the_state() {
+        let rule = Rule::check(LEAK).unwrap();
+        let mut state = State::start(&rule).unwrap();
+        let mut buffer = [0; MAX_IMAGE_WORDS];
+        assert_eq!(state.save(&mut buffer).map(<[u32]>::len), Ok(5 + 23));
+        assert!(State::restore(&buffer[..28]).unwrap() == state);
+        state.take(&Event::new(&rule, 100).with(0, &[9]).unwrap().with(0, &[7]).unwrap(), &mut [0; 3]).unwrap();
+        let image = state.save(&mut buffer).unwrap();
+        assert_eq!(image[..20], [1, 1, 100, 2, 1, 0, 0, 0, 0, 0, 0, 7, 0, 0, 0, 9, 0, 0, 0, 100]);
+        assert!(State::restore(image).unwrap() == state);
+
+        // once entries are gone, their words stand behind the count: the states differ there, and their images don't
+        state.notice(161, &mut [0; 8]).unwrap();
+        let image = state.save(&mut buffer).unwrap();
+        let again = State::restore(image).unwrap();
+        assert!(again != state && (again.points(), again.latest(), again.kept()) == (1, 161, 0));
+        assert_eq!(again.save(&mut [0; MAX_IMAGE_WORDS]), Ok(image));
+    }
+
+    #[test]
+    fn a_refused_image_is_told_and_a_short_buffer_stays() {
+        let rule = Rule::check(LEAK).unwrap();
+        let state = State::start(&rule).unwrap();
+        let mut short = [5; 27];
+        assert_eq!(state.save(&mut short).err(), Some(Refusal::Room { needed: 28 }));
+        assert_eq!(State::from_words(&[0; STATE_WORDS]).save(&mut short).err(), Some(Refusal::State));
+        assert_eq!(short, [5; 27]);
+        let mut long = [5; 30];
+        state.save(&mut long).unwrap();
+        assert_eq!(long[28..], [5, 5]);
+        for words in [&long[..], &long[..29], &long[..27], &long[..4], &[]] {
+            assert_eq!(State::restore(words).err(), Some(Refusal::Image));
+        }
+        // another version, a time that no point has, a rule that checking refuses
+        for at in [0, 4, 5] {
+            let mut other = long;
+            other[at] += 1;
+            assert_eq!(State::restore(&other[..28]).err(), Some(Refusal::Image));
+        }
     }
 
     #[test]

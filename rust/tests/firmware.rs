@@ -7,10 +7,13 @@
 //! it stops the run. What is tried:
 //!
 //! - lists of events and notices, some to be refused, each with report buffers of every length from 0 up to enough. The monitor
-//!   written by hand, with which the benchmark compares, takes the accepted ones too;
-//! - notices of four rules, word for word;
+//!   written by hand, with which the benchmark compares, takes the accepted ones too. At random places the state is saved, and
+//!   what its image gives back takes its place;
+//! - notices of four rules, word for word; saves and restores of rule L, word for word, and its reports after them;
 //! - states changed in a word: every bit of the words in use and random values in any word. Refusal 8 comes exactly where
-//!   docs/STATE.md has it (tests/formed.rs), and a refusal leaves state and buffer as they were;
+//!   docs/STATE.md has it (tests/formed.rs), in saving too, and a refusal leaves state and buffer as they were;
+//! - images damaged in a word or cut. Refusal 18 comes exactly where what they hold isn't a well-formed state; the others give
+//!   their own words back, and a taking in them doesn't meet 8;
 //! - rules damaged in a byte or cut;
 //! - reports damaged in a word or cut, read through the iterators.
 #[path = "../../tests/draw.rs"]
@@ -33,7 +36,7 @@ use input::{atom, event, node, rule_l, Random, EVENTUALLY, LONGEST_REPORT, NEXT,
 use keeper::{fed, in_order, Fed, Log, Meaning, MOST_POINTS};
 use std::mem::{offset_of, transmute};
 use std::process::exit;
-use yokemango::{Event, Refusal, Report, Rule, State, Unfit, STATE_WORDS};
+use yokemango::{Event, Refusal, Report, Rule, State, Unfit, MAX_IMAGE_WORDS, STATE_WORDS};
 
 // ---- memory that ends or begins at a page without access
 
@@ -88,8 +91,8 @@ struct Tally {
     events: u64,
     notices: u64,
     settling: u64,
-    refusals: [u64; 18],
-    notices_refused: [u64; 18],
+    refusals: [u64; 20],
+    notices_refused: [u64; 20],
     lengths: u64,
     rows_unfit: u64,
     states: u64,
@@ -99,6 +102,9 @@ struct Tally {
     rules_accepted: u64,
     reports: u64,
     reports_in_form: u64,
+    restored: u64,
+    images: u64,
+    images_in_form: u64,
 }
 
 struct Run {
@@ -106,6 +112,7 @@ struct Run {
     event: Fenced,
     report: Fenced,
     rule: Fenced,
+    image: Fenced,
     tally: Tally,
 }
 
@@ -167,7 +174,13 @@ fn list(run: &mut Run, seed: u64) {
     let mut last_report = vec![];
     // one taking in so many is a notice
     let notices = draw.g.pick(&[2, 4, 8, 100]);
+    // a random run of its own, so that the rules and events are drawn as without saves; before one taking in so many comes one
+    let mut saves = Random(!seed);
+    let cuts = saves.pick(&[1, 2, 4, 16]);
     for _ in 0..draw.g.from(5, 40) {
+        if saves.one_in(cuts) {
+            state = cut(run, &mut saves, &state);
+        }
         let taking = if draw.g.one_in(notices) {
             Fed::Notice(draw.notice(&log, time))
         } else {
@@ -194,6 +207,7 @@ fn list(run: &mut Run, seed: u64) {
     }
     let late = time.saturating_add(604_800);
     let takings = [Fed::Event(event(time, &draw.rows())), Fed::Notice(late), Fed::Event(event(late, &draw.rows()))];
+    damaged_images(run, &mut saves, &state, &takings);
     other_states(run, &mut draw.g, &state, &takings);
     damaged_rules(run, &mut draw.g, &bytes);
     damaged_reports(run, &mut draw.g, &last_report);
@@ -358,6 +372,213 @@ fn notices(run: &mut Run, g: &mut Random) {
     }
 }
 
+// ---- images
+
+/// The image of what a state holds, by the request's text.
+fn image_of(raw: &library::State) -> Vec<u32> {
+    let (kept, retained) = (raw.count as usize, raw.retained as usize);
+    let mut image = vec![1, raw.points, raw.latest, raw.count, raw.retained];
+    image.extend((0..kept).flat_map(|k| [raw.owners[k] / 2, raw.owners[k] % 2, raw.numbers[k]]));
+    image.extend(&raw.values[..4 * kept]);
+    image.extend(&raw.times[..retained]);
+    image.extend(raw.rule[..raw.bytes as usize].chunks(4).map(|bytes| u32::from_le_bytes(bytes.try_into().unwrap())));
+    image
+}
+
+/// What an image holds, with 0 in all other words; or nothing where its sizes aren't within its words or don't fit a state, or it
+/// isn't well formed.
+fn read_image(image: &[u32]) -> Option<library::State> {
+    let [version, points, latest, kept, retained] = *image.first_chunk::<5>()?;
+    if version != 1 || kept as usize > library::ENTRIES || retained as usize > library::RETAINED {
+        return None;
+    }
+    let (owners, rest) = image[5..].split_at_checked(3 * kept as usize)?;
+    let (values, rest) = rest.split_at_checked(4 * kept as usize)?;
+    let (times, rule) = rest.split_at_checked(retained as usize)?;
+    if 4 * rule.len() > library::RULE_BYTES {
+        return None;
+    }
+    let mut raw = library::State { bytes: 4 * rule.len() as u32, points, latest, retained, count: kept, ..library::NO_STATE };
+    for (k, owner) in owners.chunks(3).enumerate() {
+        // no mark is above 1, and no node above 31
+        if owner[0] > 31 || owner[1] > 1 {
+            return None;
+        }
+        (raw.owners[k], raw.numbers[k]) = (2 * owner[0] + owner[1], owner[2]);
+    }
+    raw.values[..values.len()].copy_from_slice(values);
+    raw.times[..times.len()].copy_from_slice(times);
+    rule.iter().enumerate().for_each(|(k, word)| raw.rule[4 * k..4 * k + 4].copy_from_slice(&word.to_le_bytes()));
+    formed::well_formed(&raw).then_some(raw)
+}
+
+/// Saves with room for so many words. What it answers, the words of the image where it is saved; the words past them, or all on a
+/// refusal, must be as they were.
+fn save(run: &mut Run, g: &mut Random, state: &State, room: usize) -> Result<Vec<u32>, Refusal> {
+    let at_end = g.one_in(2);
+    let buffer = run.image.words(room, at_end);
+    buffer.iter_mut().for_each(|w| *w = g.next() as u32);
+    let before = buffer.to_vec();
+    let answer = state.save(buffer).map(<[u32]>::to_vec);
+    let after = buffer.to_vec();
+    let written = answer.as_ref().map_or(&[][..], |image| image);
+    if !after.starts_with(written) || after[written.len()..] != before[written.len()..] {
+        run.differ(&format!("{answer:?} is saved, and the buffer is then {after:?}"));
+    }
+    if let Err(refusal) = answer {
+        run.tally.refusals[refusal.number() as usize] += 1;
+    }
+    answer
+}
+
+/// Reads in, from words that end or begin at a page without access.
+fn restore(run: &mut Run, g: &mut Random, image: &[u32]) -> Result<State, Refusal> {
+    let restored = State::restore(run.image.copy(image, g.one_in(2)));
+    if let Err(refusal) = restored {
+        run.tally.refusals[refusal.number() as usize] += 1;
+    }
+    restored
+}
+
+/// The battery is changed: the state that is read in from the image of this one. Buffers too short are tried before.
+fn cut(run: &mut Run, g: &mut Random, state: &State) -> State {
+    let image = image_of(&raw_of(state.words()));
+    let needed = image.len();
+    for room in [0, g.below(needed), needed - 1] {
+        let answer = save(run, g, state, room);
+        if answer != Err(Refusal::Room { needed: needed as u32 }) {
+            run.differ(&format!("saving to {room} words is answered {answer:?}, and {needed} are needed"));
+        }
+    }
+    let room = g.pick(&[needed, needed, needed + 1, MAX_IMAGE_WORDS]);
+    let answer = save(run, g, state, room);
+    if answer.as_ref() != Ok(&image) {
+        run.differ(&format!("{answer:?} is saved, and the image is {image:?}"));
+    }
+    let answer = restore(run, g, &image);
+    let Ok(restored) = answer else { run.differ(&format!("the image that was saved is answered {answer:?}")) };
+    if read_image(&image) != Some(raw_of(restored.words())) {
+        run.differ("the state that is read in isn't the image's");
+    }
+    // what it holds is what the state holds, and it saves to the same words
+    let figures = |state: &State| (state.points(), state.latest(), state.open_points(), state.kept());
+    if figures(&restored) != figures(state) || save(run, g, &restored, needed) != Ok(image) {
+        run.differ("the state that is read in isn't the one that was saved");
+    }
+    run.tally.restored += 1;
+    restored
+}
+
+fn damaged_images(run: &mut Run, g: &mut Random, state: &State, takings: &[Fed; 3]) {
+    let image = image_of(&raw_of(state.words()));
+    let (kept, retained) = (image[3] as usize, image[4] as usize);
+    // the first words of the parts, and of what comes after them
+    let parts = [0, 5, 5 + 3 * kept, 5 + 7 * kept, 5 + 7 * kept + retained, image.len()];
+    for _ in 0..50 {
+        let mut words = image.clone();
+        for _ in 0..g.pick(&[1, 1, 1, 2]) {
+            let part = g.below(5);
+            let within = if parts[part] < parts[part + 1] { parts[part]..parts[part + 1] } else { 0..5 };
+            let at = g.from(within.start, within.end - 1);
+            words[at] = match g.below(5) {
+                0 => words[at].wrapping_add(1),
+                1 => words[at].wrapping_sub(1),
+                2 => words[at] ^ 1 << g.below(32),
+                3 => g.pick(&[0, 1, 2, 32, 64, 65, 512, 513, 10_000_000, 10_000_001, 0x8000_0000, u32::MAX]),
+                _ => words[g.below(words.len())],
+            };
+        }
+        match g.below(8) {
+            0 => words.truncate(g.below(words.len())),
+            1 => (0..g.from(1, 5)).for_each(|_| words.push(g.pick(&[0, 0, 1, u32::MAX]))),
+            _ => {}
+        }
+        other_image(run, g, &words, takings);
+    }
+    for length in [image.len() - 1, image.len() + 1, 0, MAX_IMAGE_WORDS + 1] {
+        let mut words = image.clone();
+        words.resize(length, 0);
+        other_image(run, g, &words, takings);
+    }
+}
+
+fn other_image(run: &mut Run, g: &mut Random, words: &[u32], takings: &[Fed; 3]) {
+    run.tally.images += 1;
+    let expected = read_image(words);
+    let answer = restore(run, g, words);
+    if answer.as_ref().map(|state| raw_of(state.words())).map_err(|r| *r) != expected.ok_or(Refusal::Image) {
+        run.differ(&format!("{words:?} is read in as {answer:?}"));
+    }
+    let Ok(mut state) = answer else { return };
+    run.tally.images_in_form += 1;
+    if save(run, g, &state, words.len()).as_deref() != Ok(words) {
+        run.differ(&format!("{words:?} is read in, and saves to other words"));
+    }
+    for taking in takings {
+        let answer = run.call(g, &mut state, taking, LONGEST_REPORT).0;
+        if answer == Err(Refusal::State) || state.open_points().is_err() {
+            run.differ(&format!("{words:?} is read in, and a taking is answered {answer:?}"));
+        }
+    }
+}
+
+/// Rule L with its leaks at 100: the image word for word, what is refused, and the reports after it.
+fn images(run: &mut Run, g: &mut Random) {
+    let rule = rule_l();
+    let rows = |relation: u32, value: u32| Fed::Event(event(if relation == 0 { 100 } else { 130 }, &[(relation, vec![value])]));
+    let file: Vec<u32> = rule.bytes().chunks(4).map(|bytes| u32::from_le_bytes(bytes.try_into().unwrap())).collect();
+    let mut state = answers(run, g, rule, &[(rows(0, 9), 3, Ok(&[0, 1, 0])), (rows(0, 7), 3, Ok(&[0, 1, 0])), (rows(1, 9), 3, Ok(&[0, 1, 0]))]);
+    // the leaks at points 0 and 1 and the closing at 2 are kept, and all times are retained
+    let mut image = vec![1, 3, 130, 3, 3];
+    image.extend([0, 0, 0, 0, 0, 1, 1, 0, 2]);
+    image.extend([9, 0, 0, 0, 7, 0, 0, 0, 9, 0, 0, 0]);
+    image.extend([100, 100, 130]);
+    image.extend(&file);
+    let needed = image.len();
+    let saved = save(run, g, &state, needed + 2);
+    if saved.as_ref() != Ok(&image) {
+        run.differ(&format!("rule L is saved as {saved:?}"));
+    }
+    let short = save(run, g, &state, needed - 1);
+    if short != Err(Refusal::Room { needed: needed as u32 }) {
+        run.differ(&format!("saving to a word too few is answered {short:?}"));
+    }
+    // another version; more points; a time below the last; an entry, a time more than there are; a mark; entries out of order; a
+    // word past the rule; a rule that checking refuses
+    let damages: [&dyn Fn(&mut Vec<u32>); 9] = [
+        &|w| w[0] = 2,
+        &|w| w[1] = 4,
+        &|w| w[2] = 129,
+        &|w| w[3] = 4,
+        &|w| w[4] = 4,
+        &|w| w[9] = 1,
+        &|w| w.swap(7, 10),
+        &|w| w.push(0),
+        &|w| w[29] ^= 2,
+    ];
+    for (k, damage) in damages.iter().enumerate() {
+        let mut words = image.clone();
+        damage(&mut words);
+        let answer = restore(run, g, &words);
+        if answer != Err(Refusal::Image) {
+            run.differ(&format!("damaged image {k} is answered {answer:?}"));
+        }
+    }
+    let (first, second) = (restore(run, g, &image), restore(run, g, &image));
+    if first != second || first.as_ref().is_ok_and(|first| *first != state) {
+        run.differ("an image is read in as two states, or as another than was saved");
+    }
+    let Ok(mut restored) = first else { run.differ("the image of rule L is refused") };
+    let end = [(Fed::Notice(160), vec![0, 1, 0]), (Fed::Notice(161), vec![2, 1, 1, 0, 100, 0, 1, 100, 1, 7]), (Fed::Notice(191), vec![1, 1, 0, 2, 130, 0])];
+    for (taking, report) in end {
+        let (whole, _, without) = run.call(g, &mut state, &taking, report.len());
+        let (answer, _, after) = run.call(g, &mut restored, &taking, report.len());
+        if whole != Ok(report.len()) || answer != whole || without != report || after != report {
+            run.differ(&format!("{without:?} is reported, and {after:?} after an image was read in"));
+        }
+    }
+}
+
 // ---- states changed in a word
 
 // The words at which the fields begin.
@@ -423,6 +644,10 @@ fn other_state(run: &mut Run, g: &mut Random, words: &[u32; STATE_WORDS], taking
     run.tally.states += 1;
     let well_formed = formed::well_formed(&raw_of(words));
     let mut state = State::from_words(words);
+    let saved = save(run, g, &state, MAX_IMAGE_WORDS);
+    if saved != if well_formed { Ok(image_of(&raw_of(words))) } else { Err(Refusal::State) } {
+        run.differ(&format!("a state that is well formed: {well_formed} is saved as {saved:?}"));
+    }
     // a state that is taken is taken on
     for k in 0..3 {
         let before = state.clone();
@@ -593,9 +818,11 @@ fn main() {
     let mut args = std::env::args().skip(1).filter_map(|a| a.parse::<u64>().ok());
     let (lists, seed) = (args.next().unwrap_or(500), args.next().unwrap_or(1));
     let words = 4 * (LONGEST_REPORT + 16);
-    let mut run = Run { seed, event: Fenced::new(PAGE), report: Fenced::new(words), rule: Fenced::new(PAGE), tally: Tally::default() };
+    let (image, tally) = (Fenced::new(4 * (MAX_IMAGE_WORDS + 16)), Tally::default());
+    let mut run = Run { seed, event: Fenced::new(PAGE), report: Fenced::new(words), rule: Fenced::new(PAGE), image, tally };
     crowded_states(&mut run, &mut Random(seed));
     notices(&mut run, &mut Random(seed));
+    images(&mut run, &mut Random(seed));
     for k in 0..lists {
         list(&mut run, seed.wrapping_add(k));
     }
@@ -605,10 +832,12 @@ fn main() {
     println!("{} rows that the builder refused", t.rows_unfit);
     println!("{} changed states: {} refused by 8, {} events and notices taken from the others", t.states, t.states_refused, t.states_taken);
     println!("{} damaged rules, {} of them accepted; {} reports, {} of them in form", t.rules, t.rules_accepted, t.reports, t.reports_in_form);
+    println!("{} times the state read in went on for the one saved; {} damaged images, {} of them in form", t.restored, t.images, t.images_in_form);
     let least = lists / 25;
-    let mut rare: Vec<String> = (1..=17).filter(|n| t.refusals[*n] < least && *n != 12).map(|n| format!("refusal {n}")).collect();
+    let mut rare: Vec<String> = (1..=19).filter(|n| t.refusals[*n] < least && *n != 12).map(|n| format!("refusal {n}")).collect();
     rare.extend([8, 11, 13, 16].iter().filter(|n| t.notices_refused[**n] < least).map(|n| format!("refusal {n} of a notice")));
     rare.extend((t.settling < least).then(|| "a notice that reports".to_string()));
+    rare.extend((t.images_in_form < least).then(|| "a damaged image in form".to_string()));
     for (number, met) in t.refusals.iter().enumerate().skip(1) {
         println!("refusal {number}: {met}, of notices {}", t.notices_refused[number]);
     }
