@@ -69,7 +69,7 @@ with version sizes owner row times rule = version ∷ (sizes ++ owner ++ row ++ 
 
 -- In form; then another version, a word behind the rule file, a word too few, a mark of 2, a value that isn't free, an age for a node that has none, the last point that all nodes have settled forgotten, the latest known time below the last retained, and a rule file twice, which checking refuses: all out of form.
 forms : map isImage
-    ( with 1 (2 ∷ 161 ∷ 1 ∷ 2 ∷ []) (1 ∷ 0 ∷ 1 ∷ []) (9 ∷ 0 ∷ 0 ∷ 0 ∷ []) (100 ∷ 130 ∷ []) wordsL
+    (with 1 (2 ∷ 161 ∷ 1 ∷ 2 ∷ []) (1 ∷ 0 ∷ 1 ∷ []) (9 ∷ 0 ∷ 0 ∷ 0 ∷ []) (100 ∷ 130 ∷ []) wordsL
     ∷ with 2 (2 ∷ 161 ∷ 1 ∷ 2 ∷ []) (1 ∷ 0 ∷ 1 ∷ []) (9 ∷ 0 ∷ 0 ∷ 0 ∷ []) (100 ∷ 130 ∷ []) wordsL
     ∷ with 1 (2 ∷ 161 ∷ 1 ∷ 2 ∷ []) (1 ∷ 0 ∷ 1 ∷ []) (9 ∷ 0 ∷ 0 ∷ 0 ∷ []) (100 ∷ 130 ∷ []) (wordsL ++ 0 ∷ [])
     ∷ with 1 (2 ∷ 161 ∷ 1 ∷ 2 ∷ []) (1 ∷ 0 ∷ 1 ∷ []) (9 ∷ 0 ∷ 0 ∷ 0 ∷ []) (100 ∷ []) wordsL
@@ -79,7 +79,7 @@ forms : map isImage
     ∷ with 1 (2 ∷ 161 ∷ 1 ∷ 1 ∷ []) (1 ∷ 0 ∷ 1 ∷ []) (9 ∷ 0 ∷ 0 ∷ 0 ∷ []) (130 ∷ []) wordsL
     ∷ with 1 (2 ∷ 129 ∷ 1 ∷ 2 ∷ []) (1 ∷ 0 ∷ 1 ∷ []) (9 ∷ 0 ∷ 0 ∷ 0 ∷ []) (100 ∷ 130 ∷ []) wordsL
     ∷ with 1 (2 ∷ 161 ∷ 1 ∷ 2 ∷ []) (1 ∷ 0 ∷ 1 ∷ []) (9 ∷ 0 ∷ 0 ∷ 0 ∷ []) (100 ∷ 130 ∷ []) (wordsL ++ wordsL)
-    ∷ [] )
+    ∷ [])
     ≡ true ∷ replicate 9 false
 unfolding wordAt sizesFit headAt bodyAt nodeOf nodeAt formulaAt shapeFits rangeFits timesChild weighNode checking parentOf held heldPairs untilCount wantedFrom countsStored countBefore openStored ownEntries nodeFits wellFormed imageOf ruleWords ruleBytes readIn isImage
 forms = refl

@@ -146,7 +146,7 @@ cut-list b bytes r start a ok cs s calls =
       keeps = kept-then b a ok es (k .follows .reached) (lentOf s) (k .follows .stores);
       opens = open-then b a ok es (k .follows .reached) (lentOf s) (k .follows .stores);
       uncut =
-        λ n.
-        let u : Uncut b nothingHeld (map actOf cs) = none-lost b nothingHeld (map actOf cs) n in
-        (k .answers ∙ u .gives, ap (takingsGiven (map actOf cs)) (k .answers) ∙ u .takes, u .holds);
+          λ n.
+          let u : Uncut b nothingHeld (map actOf cs) = none-lost b nothingHeld (map actOf cs) n in
+          (k .answers ∙ u .gives, ap (takingsGiven (map actOf cs)) (k .answers) ∙ u .takes, u .holds);
     }

@@ -276,8 +276,8 @@ module _ (b : List ℕ) (a : Accepted) (ok : checking b ≡ given a) where
       record {
         gives = g ∙ read-given h images m f bytes k (c .into) (fit (f .stores .fits));
         follows =
-          subst (Follows (heldAfter b h (restoring k)) images) (sym (n ∙ ap (λ (q : Given). lentAfterRead (q .answer) m (lentRead (q .answer) (getD images k []) (c .into))) g))
-          (read-follows h images m f bytes k (c .into) (fit (f .stores .fits)));
+            subst (Follows (heldAfter b h (restoring k)) images) (sym (n ∙ ap (λ (q : Given). lentAfterRead (q .answer) m (lentRead (q .answer) (getD images k []) (c .into))) g))
+            (read-follows h images m f bytes k (c .into) (fit (f .stores .fits)));
       }
 
   pub cut-along : (h : Held) (images : List (List ℕ)) (m : Lent) → Follows h images m → (cs : List LentCall) (m' : Lent) → ((act : Act) → List·Memᴰ act (map (λ c. c .act) cs) → Asks b act) → LentCalls m images cs m' → CutAlong h cs m'

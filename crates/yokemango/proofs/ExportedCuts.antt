@@ -116,7 +116,7 @@ exported-cuts b bytes r start a ok xs s calls =
       answers = answers;
       figures = figures-then (lentOf s) (h .stores .fits) (kept-then b a ok es (h .reached) (lentOf s) (h .stores)) (open-then b a ok es (h .reached) (lentOf s) (h .stores));
       uncut =
-        λ n.
-        let u : Uncut b nothingHeld (map actOf xs) = none-lost b nothingHeld (map actOf xs) n in
-        (answers ∙ ap (map toldGiven) (u .gives), u .holds);
+          λ n.
+          let u : Uncut b nothingHeld (map actOf xs) = none-lost b nothingHeld (map actOf xs) n in
+          (answers ∙ ap (map toldGiven) (u .gives), u .holds);
     }
