@@ -56,7 +56,7 @@ pub struct Restored {
 }
 
 // How many entries and times an image has, where its sizes fit a state; or they don't.
-pub enum Layout {
+enum Layout {
     Within(usize, usize),
     Out,
 }
@@ -106,7 +106,7 @@ fn put_rule(rule: &[u8], n: usize, image: &mut [u32], at: usize)
     }
 }
 
-// Puts the image of what is stored, of a rule whose words are whole, to the front; how many words it is.
+// Puts the image of what is stored, under a rule whose bytes fill their words, to the front.
 fn put_image(
     rule: &[u8],
     log: LogEnd,
