@@ -4,7 +4,7 @@ use native.Mathlib.Omega.{arith}
 use mathlib.Core.Path.{_≡_, refl, sym, _∙_, ap, ap₂, subst}
 use mathlib.Core.Bool.{true, false}
 use mathlib.Core.List.{List, [], _∷_, _++_, map, List·Memᴰ, List·Memᴰ·head, List·Memᴰ·tail, List·Memᴰ·not-nil}
-use lib.ListN.{length, getD, take, drop}
+use lib.ListN.{length, getD, take, drop, length-map, List·getD-map, List·getD-eq-default}
 use lib.Seq.{take-append-seam}
 use lib.Dec.{ltb}
 use borrow.Author.Tests.{ltb-true, ltb-false, lt-ltb, le-ltb}
@@ -67,27 +67,11 @@ LentCalls m images (c ∷ cs) m' = Does m images (c .act) c × LentCalls (c .aft
 
 -- ---- images by their number
 
-module _ {A B : Type 0} (f : A → B) where
-  mapped-at : (xs : List A) (k : ℕ) (y : B) (x : A) → k < length xs → getD (map f xs) k y ≡ f (getD xs k x)
-  mapped-at [] k y x l = absurd (omega arith)
-  mapped-at (a ∷ xs) zero y x l = refl
-  mapped-at (a ∷ xs) (suc k) y x l = mapped-at xs k y x (omega arith)
-
-  mapped-past : (xs : List A) (k : ℕ) (y : B) → length xs ≤ k → getD (map f xs) k y ≡ y
-  mapped-past [] k y l = refl
-  mapped-past (a ∷ xs) zero y l = absurd (omega arith)
-  mapped-past (a ∷ xs) (suc k) y l = mapped-past xs k y (omega arith)
-
 module _ {A : Type 0} where
   member-at : (xs : List A) (k : ℕ) (x : A) → k < length xs → List·Memᴰ (getD xs k x) xs
   member-at [] k x l = absurd (omega arith)
   member-at (a ∷ xs) zero x l = List·Memᴰ·head refl
   member-at (a ∷ xs) (suc k) x l = List·Memᴰ·tail (member-at xs k x (omega arith))
-
-  past-end : (xs : List A) (k : ℕ) (x : A) → length xs ≤ k → getD xs k x ≡ x
-  past-end [] k x l = refl
-  past-end (a ∷ xs) zero x l = absurd (omega arith)
-  past-end (a ∷ xs) (suc k) x l = past-end xs k x (omega arith)
 
   pub same-default : (xs : List A) (k : ℕ) (x y : A) → k < length xs → getD xs k x ≡ getD xs k y
   same-default [] k x y l = absurd (omega arith)
@@ -204,7 +188,9 @@ module _ (b : List ℕ) (a : Accepted) (ok : checking b ≡ given a) where
         there = f .images-reached then (member-at (h .images) k [] l)
 
         words-are : words ≡ imageOn b then
-        words-are = ap (λ is. getD is k []) (f .images-are) ∙ mapped-at (imageOn b) (h .images) k [] [] l
+        words-are =
+            let n : k < length (map (imageOn b) (h .images)) = rw (length-map (h .images) (imageOn b)) l in
+            ap (λ is. getD is k []) (f .images-are) ∙ same-default (map (imageOn b) (h .images)) k [] (imageOn b []) n ∙ List·getD-map (imageOn b) (h .images) k []
 
         read-there : readingIn z words ≡ given (length (imageOn b then))
         unfolding readingIn reading
@@ -229,7 +215,9 @@ module _ (b : List ℕ) (a : Accepted) (ok : checking b ≡ given a) where
       module _ (l : length (h .images) ≤ k) where
         none-there : readingIn z words ≡ refused notAnImage 0
         unfolding readingIn reading
-        none-there = rw (fit, ap (λ is. getD is k []) (f .images-are) ∙ mapped-past (imageOn b) (h .images) k [] l, no-image)
+        none-there =
+            let n : length (map (imageOn b) (h .images)) ≤ k = rw (length-map (h .images) (imageOn b)) l in
+            rw (fit, ap (λ is. getD is k []) (f .images-are) ∙ List·getD-eq-default (map (imageOn b) (h .images)) [] n, no-image)
 
         given-none : readBack z words ≡ givenFor b h (restoring k)
         given-none = rw (none-there, le-ltb k (length (h .images)) l)
@@ -237,7 +225,7 @@ module _ (b : List ℕ) (a : Accepted) (ok : checking b ≡ given a) where
         follows-none : Follows (heldAfter b h (restoring k)) images (lentAfterRead (readingIn z words) m (lentRead (readingIn z words) words z))
         follows-none =
             subst (λ o. Follows (heldAfter b h (restoring k)) images (lentAfterRead o m (lentRead o words z))) (sym none-there)
-            (subst (λ es. Follows (record { log = es; images = h .images }) images m) (sym (past-end (h .images) k (h .log) l)) f)
+            (subst (λ es. Follows (record { log = es; images = h .images }) images m) (sym (List·getD-eq-default (h .images) (h .log) l)) f)
 
       pub read-given : readBack z words ≡ givenFor b h (restoring k)
       read-given = go (tested (ltb k (length (h .images))))
