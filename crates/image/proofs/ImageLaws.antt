@@ -1,5 +1,5 @@
 -- What an image promises holds.
-use Prim.Native.Nat.{ℕ, _≤_}
+use Prim.Native.Nat.{ℕ, _+_, _*_, _≤_}
 use native.Mathlib.Omega.{arith}
 use mathlib.Core.Path.{_≡_, refl, sym, _∙_, ap}
 use mathlib.Core.Bool.{true}
@@ -7,14 +7,16 @@ use mathlib.Core.List.{List}
 use lib.ListN.{length, getD, drop}
 use borrow.Author.Tests.{eqb-true, leb-true, le-leb}
 use Rattle.meaning.proofs.Points.{first, second}
+use Rattle.meaning.specs.RuleFile.{nodeCount}
 use Rattle.method.specs.Stored.{Stored}
 use Rattle.method.specs.WellFormed.{wellFormed, Formed}
 use Rattle.method.proofs.Formed.{formed}
+use Rattle.method.proofs.Rowed.{rowed}
 use Rattle.image.specs.Image.{imageOf, ruleAt, readIn, isImage}
 use Rattle.image.specs.ImageLaws.{Bytes, Sound, ImageLaws}
 use Rattle.image.proofs.RuleWords.{bytes-read}
 use Rattle.image.proofs.Ascent.{entries-ascend}
-use Rattle.image.proofs.Images.{kept-told, retained-told, reads-back, image-long, image-most, saves-itself}
+use Rattle.image.proofs.Images.{kept-told, retained-told, reads-back, image-long, rule-words, image-most, saves-itself}
 
 -- ---- the form
 
@@ -32,13 +34,15 @@ unfolding imageOf
 version-told s = refl
 
 pub reads : (s : Stored) → Sound s → readIn (imageOf s) ≡ s
-reads s h = reads-back s (formed s (h .formed)) (h .bytes)
+reads s h =
+    let f : Formed s = formed s (h .formed) in
+    reads-back s (rowed f) (3 + 5 * nodeCount (s .rule)) (rule-words s f) (h .bytes)
 
 pub saves-in-form : (s : Stored) → Sound s → isImage (imageOf s) ≡ true
 unfolding isImage
 saves-in-form s h =
     let f : Formed s = formed s (h .formed) in
-    let l : ruleAt (imageOf s) ≤ length (imageOf s) = omega (arith, image-long s f, kept-told s f, retained-told s f) in
+    let l : ruleAt (imageOf s) ≤ length (imageOf s) = omega (arith, image-long s (rowed f) (3 + 5 * nodeCount (s .rule)) (rule-words s f), kept-told s, retained-told s) in
     rw (version-told s, le-leb (ruleAt (imageOf s)) (length (imageOf s)) l, reads s h, h .formed)
 
 rule-read : (ws : List ℕ) → Bytes (readIn ws .rule)

@@ -1,25 +1,25 @@
 -- What an image of something stored reads in to, and what words that are read in save to.
-use Prim.Native.Nat.{ℕ, suc, _+_, _*_, _/_, _≤_}
+use Prim.Native.Nat.{ℕ, suc, _+_, _*_, _≤_}
 use native.Mathlib.Omega.{arith}
 use mathlib.Core.Path.{_≡_, refl, sym, _∙_, ap, ap₂}
 use mathlib.Core.List.{List, [], _∷_, _++_, map, append-assoc, List·Memᴰ, List·Memᴰ·head, List·Memᴰ·tail}
 use lib.ListN.{length, getD, take, drop, length-append, length-drop, length-map, take-append-drop}
 use lib.Seq.{drop-at, take-add, take-append-seam, getD-drop, length-take-le}
 use Rattle.meaning.specs.Lists.{range, gather}
-use Rattle.meaning.specs.RuleFile.{wordAt, nodeCount}
+use Rattle.meaning.specs.RuleFile.{nodeCount}
 use Rattle.meaning.specs.Kept.{Entry, entryOf}
 use Rattle.meaning.proofs.Lists.{range-length}
 use Rattle.meaning.proofs.Accepted.{accepted, nodes-most}
 use Rattle.method.specs.Stored.{Stored}
 use Rattle.method.specs.WellFormed.{Formed}
 use Rattle.method.proofs.Rowed.{Rowed, rowed, values-long}
-use Rattle.method.proofs.Lists.{gather-map}
+use Rattle.method.proofs.Lists.{gather-length, gather-map}
 use Rattle.rowset.specs.Rows.{rowAt}
 use Rattle.entries.proofs.Listed.{listed-same, listed-moved}
 use Rattle.image.specs.Image.{sizes, ownerWords, ruleWords, imageOf, mostImage, ruleBytes, keptIn, retainedIn, valuesAt, timesAt, ruleAt, entryIn, readIn}
 use Rattle.image.specs.ImageLaws.{Bytes, Words}
-use Rattle.image.proofs.Flat.{flat, three-at, rows-flat}
-use Rattle.image.proofs.RuleWords.{words-long, bytes-back, words-back}
+use Rattle.image.proofs.Flat.{flat, words-at, three-at, rows-flat}
+use Rattle.image.proofs.RuleWords.{words-many, bytes-back, words-back}
 
 -- ---- entries read off their owners' words and their values
 
@@ -54,10 +54,7 @@ read-all (e ∷ es) h os vs =
     ∙ ap (λ fs. e ∷ fs) (read-all es (λ f m. h f (List·Memᴰ·tail m)) os vs)
 
 owners-long : (es : List Entry) → length (gather ownerWords es) ≡ length es * 3
-owners-long [] = refl
-owners-long (e ∷ es) =
-    let n : length (gather ownerWords es) ≡ length es * 3 = owners-long es in
-    omega arith
+owners-long es = omega (arith, gather-length ownerWords 3 (λ e. refl) es)
 
 entry-read : (ws : List ℕ) (k : ℕ) → entryIn ws k ≡ readAt (drop 5 ws) (drop (valuesAt ws) ws) k
 entry-read ws k =
@@ -65,9 +62,28 @@ entry-read ws k =
     let b : 5 + k * 3 + 2 ≡ 5 + (k * 3 + 2) = omega arith in
     rw (a, b, getD-drop 5 ws (k * 3) 0, getD-drop 5 ws (k * 3 + 1) 0, getD-drop 5 ws (k * 3 + 2) 0)
 
+-- ---- what an image's sizes tell
+
+pub kept-told : (s : Stored) → keptIn (imageOf s) ≡ length (s .entries)
+unfolding imageOf
+kept-told s = refl
+
+pub retained-told : (s : Stored) → retainedIn (imageOf s) ≡ length (s .times)
+unfolding imageOf
+retained-told s = refl
+
+points-told : (s : Stored) → getD (imageOf s) 1 0 ≡ s .points
+unfolding imageOf
+points-told s = refl
+
+latest-told : (s : Stored) → getD (imageOf s) 2 0 ≡ s .latest .0
+unfolding imageOf
+latest-told s = refl
+
 -- ---- an image's parts, and what is read off them
 
-module _ (s : Stored) (f : Formed s) where
+-- of entries that have a mark and four values each, under a rule whose bytes fill so many words
+module _ (s : Stored) (rows : (e : Entry) → List·Memᴰ e (s .entries) → Rowed e) (words : ℕ) (whole : length (s .rule) ≡ words * 4) where
   abbrev owned : List ℕ
   owned = gather ownerWords (s .entries)
 
@@ -77,23 +93,16 @@ module _ (s : Stored) (f : Formed s) where
   abbrev ruled : List ℕ
   ruled = ruleWords (s .rule)
 
-  -- the rule's bytes fill words
-  abbrev rule-words : ℕ
-  rule-words = 3 + 5 * nodeCount (s .rule)
-
-  rule-long : length (s .rule) ≡ rule-words * 4
-  rule-long = omega (arith, accepted (s .rule) (f .accepted .0) (f .accepted .1) .long)
-
-  sized-long : length (sizes s ++ owned) ≡ 5 + length (s .entries) * 3
+  pub sized-long : length (sizes s ++ owned) ≡ 5 + length (s .entries) * 3
   sized-long = length-append (sizes s) owned ∙ ap (λ n. 5 + n) (owners-long (s .entries))
 
-  entered-long : length (sizes s ++ owned ++ valued) ≡ 5 + length (s .entries) * 7
+  pub entered-long : length (sizes s ++ owned ++ valued) ≡ 5 + length (s .entries) * 7
   entered-long =
-      let v : length valued ≡ length (s .entries) * 4 = values-long (s .entries) (rowed f) in
+      let v : length valued ≡ length (s .entries) * 4 = values-long (s .entries) rows in
       let o : length (sizes s ++ owned) ≡ 5 + length (s .entries) * 3 = sized-long in
       length-append (sizes s ++ owned) valued ∙ omega arith
 
-  timed-long : length (sizes s ++ owned ++ valued ++ s .times) ≡ 5 + length (s .entries) * 7 + length (s .times)
+  pub timed-long : length (sizes s ++ owned ++ valued ++ s .times) ≡ 5 + length (s .entries) * 7 + length (s .times)
   timed-long = length-append (sizes s ++ owned ++ valued) (s .times) ∙ ap (λ n. n + length (s .times)) entered-long
 
   from-times : drop (5 + length (s .entries) * 7) (imageOf s) ≡ s .times ++ ruled
@@ -114,48 +123,35 @@ module _ (s : Stored) (f : Formed s) where
   unfolding imageOf
   from-rule = drop-at (sizes s ++ owned ++ valued ++ s .times) ruled (5 + length (s .entries) * 7 + length (s .times)) timed-long
 
-  pub kept-told : keptIn (imageOf s) ≡ length (s .entries)
-  unfolding imageOf
-  kept-told = refl
-
-  pub retained-told : retainedIn (imageOf s) ≡ length (s .times)
-  unfolding imageOf
-  retained-told = refl
-
-  points-told : getD (imageOf s) 1 0 ≡ s .points
-  unfolding imageOf
-  points-told = refl
-
-  latest-told : getD (imageOf s) 2 0 ≡ s .latest .0
-  unfolding imageOf
-  latest-told = refl
-
   entries-back : map (entryIn (imageOf s)) (range 0 (keptIn (imageOf s))) ≡ s .entries
   entries-back =
       listed-same (entryIn (imageOf s)) (readAt (drop 5 (imageOf s)) (drop (valuesAt (imageOf s)) (imageOf s))) 0 (keptIn (imageOf s)) (λ k u v. entry-read (imageOf s) k)
-      ∙ ap (λ n. map (readAt (drop 5 (imageOf s)) (drop (5 + n * 3) (imageOf s))) (range 0 n)) kept-told
+      ∙ ap (λ n. map (readAt (drop 5 (imageOf s)) (drop (5 + n * 3) (imageOf s))) (range 0 n)) (kept-told s)
       ∙ ap₂ (λ os vs. map (readAt os vs) (range 0 (length (s .entries)))) from-owners from-values
-      ∙ read-all (s .entries) (rowed f) (valued ++ (s .times ++ ruled)) (s .times ++ ruled)
+      ∙ read-all (s .entries) rows (valued ++ (s .times ++ ruled)) (s .times ++ ruled)
 
   times-back : take (retainedIn (imageOf s)) (drop (timesAt (imageOf s)) (imageOf s)) ≡ s .times
-  times-back = ap₂ (λ k n. take k (drop (5 + n * 7) (imageOf s))) retained-told kept-told ∙ ap (take (length (s .times))) from-times ∙ take-append-seam (s .times) ruled
+  times-back = ap₂ (λ k n. take k (drop (5 + n * 7) (imageOf s))) (retained-told s) (kept-told s) ∙ ap (take (length (s .times))) from-times ∙ take-append-seam (s .times) ruled
 
   rule-back : Bytes (s .rule) → ruleBytes (drop (ruleAt (imageOf s)) (imageOf s)) ≡ s .rule
-  rule-back h = ap₂ (λ k n. ruleBytes (drop (5 + n * 7 + k) (imageOf s))) retained-told kept-told ∙ ap ruleBytes from-rule ∙ bytes-back (s .rule) rule-words rule-long h
+  rule-back h = ap₂ (λ k n. ruleBytes (drop (5 + n * 7 + k) (imageOf s))) (retained-told s) (kept-told s) ∙ ap ruleBytes from-rule ∙ bytes-back (s .rule) words whole h
 
   pub reads-back : Bytes (s .rule) → readIn (imageOf s) ≡ s
   unfolding readIn
-  reads-back h = rw (entries-back, times-back, rule-back h, points-told, latest-told)
+  reads-back h = rw (entries-back, times-back, rule-back h, points-told s, latest-told s)
 
   -- how long an image is
-  pub image-long : length (imageOf s) ≡ 5 + length (s .entries) * 7 + length (s .times) + rule-words
-  unfolding imageOf ruleWords
-  image-long =
-      let n : (length (s .rule) + 3) / 4 ≡ rule-words = words-long (s .rule) rule-words rule-long in
-      length-append (sizes s ++ owned ++ valued ++ s .times) ruled ∙ ap₂ (λ k m. k + m) timed-long (length-map (range 0 ((length (s .rule) + 3) / 4)) (λ k. wordAt (s .rule) (k * 4)) ∙ range-length 0 ((length (s .rule) + 3) / 4) ∙ n)
+  pub image-long : length (imageOf s) ≡ 5 + length (s .entries) * 7 + length (s .times) + words
+  unfolding imageOf
+  image-long = length-append (sizes s ++ owned ++ valued ++ s .times) ruled ∙ ap₂ (λ k m. k + m) timed-long (words-many (s .rule) words whole)
+
+-- what is well formed is such: its rule has 3 words, and 5 for each node
+module _ (s : Stored) (f : Formed s) where
+  pub rule-words : length (s .rule) ≡ (3 + 5 * nodeCount (s .rule)) * 4
+  rule-words = omega (arith, accepted (s .rule) (f .accepted .0) (f .accepted .1) .long)
 
   pub image-most : length (imageOf s) ≤ mostImage
-  image-most = omega (arith, image-long, f .few-kept, f .few-times, nodes-most (s .rule) (f .accepted .0) (f .accepted .1))
+  image-most = omega (arith, image-long s (rowed f) (3 + 5 * nodeCount (s .rule)) rule-words, f .few-kept, f .few-times, nodes-most (s .rule) (f .accepted .0) (f .accepted .1))
 
 -- ---- words that are read in
 
@@ -174,23 +170,15 @@ module _ (ws : List ℕ) (within : ruleAt ws ≤ length ws) where
   unfolding readIn
   times-many = length-take-le r (drop (timesAt ws) ws) (simp length-drop (omega arith))
 
-  first-five : (us : List ℕ) → 5 ≤ length us → take 5 us ≡ getD us 0 0 ∷ getD us 1 0 ∷ getD us 2 0 ∷ getD us 3 0 ∷ getD us 4 0 ∷ []
-  first-five [] l = absurd (omega arith)
-  first-five (a ∷ []) l = absurd (omega arith)
-  first-five (a ∷ b ∷ []) l = absurd (omega arith)
-  first-five (a ∷ b ∷ c ∷ []) l = absurd (omega arith)
-  first-five (a ∷ b ∷ c ∷ d ∷ []) l = absurd (omega arith)
-  first-five (a ∷ b ∷ c ∷ d ∷ e ∷ us) l = refl
-
   sizes-same : getD ws 0 0 ≡ 1 → sizes (readIn ws) ≡ take 5 ws
   unfolding readIn
-  sizes-same v = rw (entries-many ws, times-many) (ap (λ a. a ∷ getD ws 1 0 ∷ getD ws 2 0 ∷ getD ws 3 0 ∷ getD ws 4 0 ∷ []) (sym v) ∙ sym (first-five ws (omega arith)))
+  sizes-same v = rw (entries-many ws, times-many) (ap (λ a. a ∷ getD ws 1 0 ∷ getD ws 2 0 ∷ getD ws 3 0 ∷ getD ws 4 0 ∷ []) (sym v) ∙ sym (words-at 5 ws 0 (omega arith)))
 
   owners-same : gather ownerWords (readIn ws .entries) ≡ take (n * 3) (drop 5 ws)
   unfolding readIn
   owners-same = gather-map ownerWords (entryIn ws) (range 0 n) ∙ flat 3 (drop 5 ws) (λ k. ownerWords (entryIn ws k)) n (λ k l. ap ownerWords (entry-read ws k) ∙ sym (three-at (drop 5 ws) k (simp length-drop (omega arith))))
 
-  values-same : gather (λ e. e .values) (readIn ws .entries) ≡ take (n * 4) (drop (valuesAt ws) ws)
+  pub values-same : gather (λ e. e .values) (readIn ws .entries) ≡ take (n * 4) (drop (valuesAt ws) ws)
   unfolding readIn
   values-same = gather-map (λ e. e .values) (entryIn ws) (range 0 n) ∙ rows-flat (drop (valuesAt ws) ws) n (simp length-drop (omega arith))
 

@@ -3,12 +3,13 @@ use Prim.Native.Nat.{ℕ, zero, suc, _+_, _*_, _/_, _%_, _<_}
 use native.Mathlib.Omega.{arith}
 use mathlib.Core.Path.{_≡_, refl, sym, _∙_, ap, ap₂}
 use mathlib.Core.List.{List, [], _∷_, map}
-use lib.ListN.{length, getD}
+use lib.ListN.{length, getD, length-map}
 use lib.Arith.{digits-div, digits-mod, mod-mul}
 use lib.Seq.{take-all}
 use Rattle.meaning.specs.Lists.{range, gather}
 use Rattle.meaning.specs.RuleFile.{wordAt}
-use Rattle.method.proofs.Lists.{gather-map}
+use Rattle.meaning.proofs.Lists.{range-length}
+use Rattle.method.proofs.Lists.{gather-length, gather-map}
 use Rattle.entries.proofs.Listed.{listed-moved}
 use Rattle.image.specs.Image.{ruleWords, bytesOf, ruleBytes}
 use Rattle.image.specs.ImageLaws.{Bytes, Words}
@@ -39,8 +40,12 @@ bytes-word w l =
     let h : w % 65536 ≡ (w / 256 % 256) * 256 + w % 256 = mod-mul w {m = 256} {c = 256} (omega arith) (omega arith) in
     omega arith
 
-pub words-long : (b : List ℕ) (m : ℕ) → length b ≡ m * 4 → (length b + 3) / 4 ≡ m
+words-long : (b : List ℕ) (m : ℕ) → length b ≡ m * 4 → (length b + 3) / 4 ≡ m
 words-long b m e = omega arith
+
+pub words-many : (b : List ℕ) (m : ℕ) → length b ≡ m * 4 → length (ruleWords b) ≡ m
+unfolding ruleWords
+words-many b m e = length-map (range 0 ((length b + 3) / 4)) (λ k. wordAt b (k * 4)) ∙ range-length 0 ((length b + 3) / 4) ∙ words-long b m e
 
 -- ---- from bytes to words and back
 
@@ -56,10 +61,7 @@ bytes-back b m e s =
 
 pub bytes-long : (ws : List ℕ) → length (ruleBytes ws) ≡ length ws * 4
 unfolding ruleBytes
-bytes-long [] = refl
-bytes-long (w ∷ ws) =
-    let n : length (gather bytesOf ws) ≡ length ws * 4 = bytes-long ws in
-    omega arith
+bytes-long ws = omega (arith, gather-length bytesOf 4 (λ w. refl) ws)
 
 one-more : (a b c d : ℕ) (bs : List ℕ) (k : ℕ) → wordAt (a ∷ b ∷ c ∷ d ∷ bs) ((1 + k) * 4) ≡ wordAt bs ((0 + k) * 4)
 unfolding wordAt

@@ -39,9 +39,8 @@ use Rattle.call.specs.Stores.{ownerOf}
 use Rattle.call.proofs.Fronts.{put-two, front-more}
 use Rattle.image.specs.Image.{bytesOf, ruleBytes, keptIn, retainedIn, valuesAt, timesAt, ruleAt, entryIn, readIn, isImage}
 use Rattle.image_words.specs.Parts.{SizesFit, ownerFits, OwnersRead, EntriesRead, PartsStored}
-use Rattle.image.proofs.Flat.{rows-flat}
 use Rattle.image.proofs.RuleWords.{bytes-long}
-use Rattle.image.proofs.Images.{entries-many, times-many}
+use Rattle.image.proofs.Images.{entries-many, times-many, values-same}
 
 -- ---- lists end to end
 
@@ -213,11 +212,7 @@ module _ (ws : List ℕ) where
 
     -- the values of what is read in
     pub values-are : take (kept * 4) (drop (valuesAt ws) ws) ≡ gather (λ e. e .values) (readIn ws .entries)
-    unfolding readIn
-    values-are =
-        let l : kept * 4 ≤ length (drop (valuesAt ws) ws) = omega (arith, length-drop (valuesAt ws) ws, z .kept-are, z .within) in
-        sym (rows-flat (drop (valuesAt ws) ws) kept l) ∙ ap (λ n. gather (rowAt (drop (valuesAt ws) ws)) (range 0 n)) (z .kept-are)
-        ∙ sym (gather-map (λ e. e .values) (entryIn ws) (range 0 (keptIn ws)))
+    values-are = ap (λ n. take (n * 4) (drop (valuesAt ws) ws)) (z .kept-are) ∙ sym (values-same ws (z .within))
 
     -- the parts put to the front of a state's words
     pub parts-stored : {os ns rule times owners numbers values rule' times' owners' numbers' values' : List ℕ}

@@ -34,13 +34,13 @@ module _ (b : List ℕ) (m : Lent) where
 -- memory of a state's lengths, in which s is stored
 pub record Holds (s : Stored) (m : Lent) : Type 0 where
   pub fits : fitting m ≡ true
-  pub holds : stored m ≡ s
+  pub stores : stored m ≡ s
 
 pub put-in : (s : Stored) → Formed s → (m : Lent) → fitting m ≡ true → Holds s (lentWith s (ruledBy (s .rule) m))
 put-in s f m fit =
     record {
       fits = fitting-with (ruledBy (s .rule) m) s f (ruled-fits (s .rule) m (omega (arith, accepted (s .rule) (f .accepted .0) (f .accepted .1) .long, nodes-most (s .rule) (f .accepted .0) (f .accepted .1))) fit);
-      holds = stored-with (ruledBy (s .rule) m) s f (sym (ruled-read (s .rule) m));
+      stores = stored-with (ruledBy (s .rule) m) s f (sym (ruled-read (s .rule) m));
     }
 
 -- reading is answered with words only where memory has a state's lengths and the words are in form
@@ -73,5 +73,5 @@ pub restored : (m : Lent) (ws : List ℕ) → Words ws → (r : Read) (m' : Lent
 restored m ws words r m' h n e =
     let k : Holds (readIn ws) m' = restored-holds m ws r m' h n e in
     let (f, t) = read-given m ws n (sym (h .answered) ∙ e) in
-    let w : wellFormed (stored m') ≡ true = rw (k .holds) (in-form ws t .well) in
-    record { fits = k .fits; formed = w; holds = k .holds; saves = saves-back m' ws (k .fits) w (ap imageOf (k .holds) ∙ image-laws .saves-itself ws words t) }
+    let w : wellFormed (stored m') ≡ true = rw (k .stores) (in-form ws t .well) in
+    record { fits = k .fits; formed = w; holds = k .stores; saves = saves-back m' ws (k .fits) w (ap imageOf (k .stores) ∙ image-laws .saves-itself ws words t) }

@@ -3,19 +3,21 @@ use Prim.Native.Nat.{ℕ, _+_, _*_, _/_, _%_, _≤_, _<_}
 use native.Mathlib.Omega.{arith}
 use mathlib.Core.Path.{_≡_, refl, sym, ap, subst, _∙_}
 use mathlib.Core.Bool.{true, false}
-use mathlib.Core.List.{List, [], _∷_, _++_}
-use lib.ListN.{length, getD, set, take, length-set, length-append, length-map}
+use mathlib.Core.List.{List, [], _∷_, _++_, List·Memᴰ, Memᴰ·of-map}
+use lib.ListN.{length, getD, set, take, length-set}
 use lib.Seq.{length-take-le, getD-take}
 use lib.Dec.{ltb}
 use borrow.Author.Tests.{lt-ltb, le-ltb}
 use Rattle.meaning.specs.Lists.{range, gather}
 use Rattle.meaning.specs.RuleFile.{wordAt, nodeCount}
+use Rattle.meaning.specs.Kept.{Entry}
 use Rattle.meaning.specs.declared.LogEnd.{LogEnd}
 use Rattle.meaning.proofs.Lists.{range-length}
 use Rattle.meaning.proofs.Accepted.{accepted}
 use Rattle.method.specs.Stored.{Stored}
 use Rattle.method.specs.WellFormed.{wellFormed}
 use Rattle.method.proofs.Formed.{formed}
+use Rattle.method.proofs.Rowed.{Rowed}
 use Rattle.method.proofs.Lists.{gather-length, gather-map, gather-more}
 use Rattle.entries.specs.Entries.{EntriesWithin, entryAt, entriesFrom}
 use Rattle.entries.specs.Appended.{WordsPut, atFront}
@@ -25,12 +27,14 @@ use Rattle.figures.proofs.Slices.{run-many}
 use Rattle.call.specs.Blocks.{ListPut}
 use Rattle.call.proofs.Fronts.{listed-at, list-put, put-two, front-more}
 use Rattle.lent_state.specs.Lent.{Lent, fitting, stored}
-use Rattle.image.specs.Image.{imageVersion, ownerWords, ruleWords, imageOf}
+use Rattle.image.specs.Image.{imageVersion, sizes, ownerWords, ruleWords, imageOf}
 use Rattle.image_words.specs.Parts.{ownersFrom, imageNeeds}
 use Rattle.image_words.specs.Contracts.{saving, savingIn, SavesStored, SavesLent}
 use Rattle.image_words.specs.declared.Saved.{Saved}
 use Rattle.image_words.specs.declared.Saved.the-variants.{Written, NotWellFormed, Short}
 use Rattle.image.proofs.Flat.{rows-flat}
+use Rattle.image.proofs.RuleWords.{words-many}
+use Rattle.image.proofs.Images.{sized-long, entered-long, timed-long, image-long as long-image}
 
 -- ---- words put one behind the other
 
@@ -90,8 +94,7 @@ values-words os ns vs count l = gather-map (λ e. e .values) (entryAt os ns vs) 
 
 module _ (b : List ℕ) (long : length b ≡ 12 + 20 * nodeCount b) where
   rule-long : length (ruleWords b) ≡ length b / 4
-  unfolding ruleWords
-  rule-long = length-map (range 0 ((length b + 3) / 4)) (λ k. wordAt b (k * 4)) ∙ range-length 0 ((length b + 3) / 4) ∙ omega arith
+  rule-long = words-many b (length b / 4) (omega arith)
 
   rule-at : (i : ℕ) → i < length b / 4 → wordAt b (i * 4) ≡ getD (ruleWords b) i 0
   unfolding ruleWords
@@ -102,50 +105,46 @@ module _ (b : List ℕ) (long : length b ≡ 12 + 20 * nodeCount b) where
 -- ---- the whole image
 
 module _ (rule : List ℕ) (log : LogEnd) (times os ns vs : List ℕ) (count : ℕ) (within : EntriesWithin os ns vs count) (long : length rule ≡ 12 + 20 * nodeCount rule) where
-  abbrev sizeWords : List ℕ
-  sizeWords = imageVersion ∷ log .points ∷ log .latest .0 ∷ count ∷ length times ∷ []
+  abbrev saved : Stored
+  saved = storedIn rule log times os ns vs count
 
-  parts : imageOf (storedIn rule log times os ns vs count) ≡ sizeWords ++ ownersFrom os ns count ++ take (count * 4) vs ++ times ++ ruleWords rule
-  unfolding imageOf
-  parts = rw (run-many os ns vs 0 count, owners-words os ns vs count, values-words os ns vs count (within .valuesThere))
+  -- each entry has a mark and four values, and the rule's bytes fill their words
+  rows : (e : Entry) → List·Memᴰ e (saved .entries) → Rowed e
+  unfolding entriesFrom
+  rows e m =
+      let (k, n, is) = Memᴰ·of-map (entryAt os ns vs) (range 0 count) m in
+      subst Rowed is (omega arith, refl)
 
-  -- the parts up to the values, to the times and to the rule, and where they end
-  abbrev toValues : List ℕ
-  toValues = sizeWords ++ ownersFrom os ns count
+  whole : length rule ≡ length rule / 4 * 4
+  whole = omega arith
 
-  abbrev toTimes : List ℕ
-  toTimes = toValues ++ take (count * 4) vs
+  many : length (saved .entries) ≡ count
+  many = run-many os ns vs 0 count
 
-  values-long : length (take (count * 4) vs) ≡ count * 4
-  values-long = length-take-le (count * 4) vs (within .valuesThere)
-
-  values-from : length toValues ≡ 5 + count * 3
-  values-from = omega (arith, length-append sizeWords (ownersFrom os ns count), owners-long os ns count)
-
-  times-from : length toTimes ≡ 5 + count * 7
-  times-from = omega (arith, length-append toValues (take (count * 4) vs), values-from, values-long)
-
-  rule-from : length (toTimes ++ times) ≡ 5 + count * 7 + length times
-  rule-from = omega (arith, length-append toTimes times, times-from)
-
-  pub image-long : length (imageOf (storedIn rule log times os ns vs count)) ≡ imageNeeds (length rule) (length times) count
-  image-long = rw parts (omega (arith, length-append (toTimes ++ times) (ruleWords rule), rule-from, rule-long rule long))
+  pub image-long : length (imageOf saved) ≡ imageNeeds (length rule) (length times) count
+  image-long = omega (arith, long-image saved rows (length rule / 4) whole, many)
 
   -- the parts put one behind the other from the front on
   pub image-put : {i₀ i₁ i₂ i₃ i₄ i₅ : List ℕ} → imageNeeds (length rule) (length times) count ≤ length i₀
-      → ListPut i₀ 0 i₁ sizeWords → ListPut i₁ 5 i₂ (ownersFrom os ns count)
+      → ListPut i₀ 0 i₁ (imageVersion ∷ log .points ∷ log .latest .0 ∷ count ∷ length times ∷ []) → ListPut i₁ 5 i₂ (ownersFrom os ns count)
       → WordsPut i₂ (5 + count * 3) i₃ (count * 4) (λ k. getD vs k 0)
       → WordsPut i₃ (5 + count * 7) i₄ (length times) (λ k. getD times k 0)
       → WordsPut i₄ (5 + count * 7 + length times) i₅ (length rule / 4) (λ k. wordAt rule (k * 4))
-      → i₅ ≡ atFront (imageOf (storedIn rule log times os ns vs count)) i₀
+      → i₅ ≡ atFront (imageOf saved) i₀
+  unfolding imageOf
   image-put {i₀} {i₁} {i₂} {i₃} {i₄} {i₅} room s o v t r =
+      let owned : List ℕ = gather ownerWords (saved .entries) in
+      let valued : List ℕ = gather (λ e. e .values) (saved .entries) in
+      let sizes-put : ListPut i₀ 0 i₁ (sizes saved) = subst (λ n. ListPut i₀ 0 i₁ (imageVersion ∷ log .points ∷ log .latest .0 ∷ n ∷ length times ∷ [])) (sym many) s in
+      let owners-put : ListPut i₁ 5 i₂ owned = subst (ListPut i₁ 5 i₂) (sym (owners-words os ns vs count)) o in
+      let is : valued ≡ take (count * 4) vs = values-words os ns vs count (within .valuesThere) in
+      let values-put : ListPut i₂ (5 + count * 3) i₃ valued = list-put valued v (ap length is ∙ length-take-le (count * 4) vs (within .valuesThere)) (λ i u. sym (ap (λ us. getD us i 0) is ∙ getD-take (count * 4) vs i 0 u)) in
       let rule-put : ListPut i₄ (5 + count * 7 + length times) i₅ (ruleWords rule) = list-put (ruleWords rule) r (rule-long rule long) (rule-at rule long) in
-      let values-put : ListPut i₂ (5 + count * 3) i₃ (take (count * 4) vs) = list-put (take (count * 4) vs) v values-long (λ i u. sym (getD-take (count * 4) vs i 0 u)) in
-      let to-values : ListPut i₀ 0 i₂ toValues = put-next sizeWords (ownersFrom os ns count) s refl o in
-      let to-times : ListPut i₀ 0 i₃ toTimes = put-next toValues (take (count * 4) vs) to-values (omega (arith, values-from)) values-put in
-      let to-rule : ListPut i₀ 0 i₄ (toTimes ++ times) = put-next toTimes times to-times (omega (arith, times-from)) t in
-      let whole : ListPut i₀ 0 i₅ (imageOf (storedIn rule log times os ns vs count)) = rw parts (put-next (toTimes ++ times) (ruleWords rule) to-rule (omega (arith, rule-from)) rule-put) in
-      front-more [] (imageOf (storedIn rule log times os ns vs count)) i₀ whole (omega (arith, image-long))
+      let to-values : ListPut i₀ 0 i₂ (sizes saved ++ owned) = put-next (sizes saved) owned sizes-put refl owners-put in
+      let to-times : ListPut i₀ 0 i₃ (sizes saved ++ owned ++ valued) = put-next (sizes saved ++ owned) valued to-values (omega (arith, sized-long saved rows (length rule / 4) whole, many)) values-put in
+      let to-rule : ListPut i₀ 0 i₄ (sizes saved ++ owned ++ valued ++ times) = put-next (sizes saved ++ owned ++ valued) times to-times (omega (arith, entered-long saved rows (length rule / 4) whole, many)) t in
+      let all : ListPut i₀ 0 i₅ (imageOf saved) = put-next (sizes saved ++ owned ++ valued ++ times) (ruleWords rule) to-rule (omega (arith, timed-long saved rows (length rule / 4) whole, many)) rule-put in
+      front-more [] (imageOf saved) i₀ all (omega (arith, image-long))
 
 -- ---- what is answered
 

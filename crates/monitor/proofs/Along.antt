@@ -18,6 +18,7 @@ use Rattle.method.proofs.Reached.{reached, stored-well-formed}
 use Rattle.lent_state.specs.Answers.{takeAnswer}
 use Rattle.lent_state.specs.Lent.{Lent, fitting, stored, lentWith, answerIn, lentAfter}
 use Rattle.lent_state.proofs.Stores.{stored-with, fitting-with}
+use Rattle.image_words.proofs.RestoredState.{Holds}
 use Rattle.monitor.specs.Reports.{takenOver, logOver}
 use Rattle.monitor.proofs.Logs.{log-then}
 
@@ -29,9 +30,8 @@ abbrev pub lentBy : Lent → Taking → Lent
 lentBy m t = lentAfter (answerIn m (t .fed) (length (t .buffer))) m (t .fed)
 
 -- memory of a state's lengths in which a log is stored
-pub record Stores (b : List ℕ) (l : Log) (m : Lent) : Type 0 where
-  pub fits : fitting m ≡ true
-  pub stores : stored m ≡ storedOf b l
+abbrev pub Stores : List ℕ → Log → Lent → Type 0
+Stores b l m = Holds (storedOf b l) m
 
 -- memory once a log is stored in it, or left as it was
 after : (b : List ℕ) (l : Log) (m : Lent) (f : Fed) → fitting m ≡ true → Formed (storedOf b l) → storedOf b l .rule ≡ stored m .rule → (o : Outcome ℕ) → storedAfter (stored m) (wordsOf f) o ≡ storedOf b l → Stores b l (lentAfter o m f)

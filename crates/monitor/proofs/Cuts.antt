@@ -21,7 +21,7 @@ use Rattle.image.specs.Image.{imageOf, readIn, isImage}
 use Rattle.image_words.specs.Contracts.{savedIn, saving as savingOf, savingIn, reading, readingIn, ruledBy, lentRead}
 use Rattle.image.specs.ImageLaws.{Bytes, Sound}
 use Rattle.image.proofs.ImageLaws.{reads, saves-in-form}
-use Rattle.image_words.proofs.RestoredState.{Holds, put-in}
+use Rattle.image_words.proofs.RestoredState.{put-in}
 use Rattle.monitor.specs.Reports.{takenOver, logOver}
 use Rattle.monitor.specs.Cuts.{Act, taking, saving, restoring, imageOn, Held, nothingHeld, givenFor, imagesAfter, heldAfter, cutKeeper, heldOver}
 use Rattle.monitor.specs.CutList.{written}
@@ -202,8 +202,7 @@ module _ (b : List ℕ) (a : Accepted) (ok : checking b ≡ given a) where
         stores-there : Stores b (logOf then) (lentRead (given (length (imageOn b then))) words z)
         stores-there =
             let e : readIn words ≡ storedOf b (logOf then) = ap readIn words-are ∙ reads (storedOf b (logOf then)) (sound bytes then there) in
-            let held : Holds (storedOf b (logOf then)) (lentWith (storedOf b (logOf then)) (ruledBy (storedOf b (logOf then) .rule) z)) = put-in (storedOf b (logOf then)) (formed _ (sound bytes then there .formed)) z fit in
-            subst (λ (s : Stored). Stores b (logOf then) (lentWith s (ruledBy (s .rule) z))) (sym e) (record { fits = held .fits; stores = held .holds })
+            subst (λ (s : Stored). Stores b (logOf then) (lentWith s (ruledBy (s .rule) z))) (sym e) (put-in (storedOf b (logOf then)) (formed _ (sound bytes then there .formed)) z fit)
 
         follows-there : Follows (heldAfter b h (restoring k)) images (lentAfterRead (readingIn z words) m (lentRead (readingIn z words) words z))
         follows-there =
