@@ -1,4 +1,4 @@
--- Demand 3 with cuts (#104): one claim about a whole list of takings, saves and restores. Whatever bytes a start accepted, and whatever was then handed in, what the operations promise (Contracts.antt) makes each answer, every word of each buffer and every image the keeper's. It is proved as `cut-list` (proofs/CutList.antt); the claim about takings alone (WholeList.antt) is an instance of it.
+-- Demand 3 with cuts (#104): one claim about a whole list of takings, saves and restores. Whatever bytes a start accepted, and whatever was then handed in, what the operations promise (Contracts.antt) makes each answer, every word of each buffer and every image the keeper's. It is proved as `cut-list` (proofs/CutList.antt), for a rule of bytes; the claim about takings alone (WholeList.antt) is the same induction's, over a list without saves and restores, and asks nothing of the rule.
 use Prim.Native.Nat.{ℕ}
 use mathlib.Core.Path.{_≡_}
 use mathlib.Core.Bool.{true}
