@@ -2,6 +2,7 @@
 use meaning::Comparison;
 use meaning::Term;
 use meaning::Terms;
+use readings::shifted_less;
 use rowset::Gathered;
 use rowset::Row;
 ghost use mathlib.Core.Path.{_≡_};
@@ -167,6 +168,7 @@ fn compare(c: Comparison, a: u32, b: u32) -> bool
         Comparison::Different => a != b,
         Comparison::Less => a < b,
         Comparison::NotLess => !(a < b),
+        Comparison::ShiftedLess(k) => shifted_less(a, k, b),
     }
 }
 

@@ -10,12 +10,16 @@ use native.Mathlib.Omega.{arith}
 use Rattle.meaning.specs.Lists.{all, range}
 use Rattle.meaning.specs.Outcome.{Outcome, given, when}
 use Rattle.meaning.specs.Formula.{free, reach, freeFits, within, termWithin, termsOf}
-use Rattle.meaning.specs.RuleFile.{Accepted, checking, nodeCount, sizesFit, headAt, bodyAt, bodies, arity, nodeOf, nodeAt, formulaOf, formulaAt, lastNode, pattern, shapeFits, rangeFits, windowFits, atomFits, atomWordFits, termOf, termsOfBody, bit, isOneOf, timesChild, weighNode, weighNodes, weighParents, maskOf}
+use Rattle.meaning.specs.RuleFile.{Accepted, checking, nodeCount, sizesFit, headAt, bodyAt, bodies, arity, nodeOf, nodeAt, formulaOf, formulaAt, lastNode, pattern, shapeFits, rangeFits, windowFits, atomFits, atomWordFits, termOf, termsOfBody, sidesOf, comparisonOf, bit, isOneOf, timesChild, weighNode, weighNodes, weighParents, maskOf}
+use Rattle.meaning.specs.Readings.{twosComplement}
+use Rattle.meaning.specs.declared.Comparison.{Comparison}
+use Rattle.meaning.specs.declared.Comparison.the-variants.{ShiftedLess}
 use Rattle.meaning.specs.declared.Head.{Head}
 use Rattle.meaning.specs.declared.Body.{Body}
 use Rattle.meaning.specs.declared.Term.{Term}
 use Rattle.meaning.specs.declared.Term.the-variants.{Variable, Constant}
 use Rattle.meaning.specs.declared.Node.{Node}
+use Rattle.meaning.specs.declared.Node.the-variants.{Keep}
 use Rattle.meaning.proofs.Points.{both, first, second, from-first}
 use Rattle.meaning.proofs.Fine.{named, Fine}
 use Rattle.meaning.proofs.Tree.{ChildrenLower, formula-step}
@@ -130,13 +134,20 @@ module _ (b : List ℕ) (x : ℕ) (below : (c : ℕ) → c < x → Fine (formula
   by-node : {n m : Node} → n ≡ m → Asked m → Asked n
   by-node e k f = rw e (k (rw e at f))
 
+  keep-fine : (c : Comparison) → h .left < x → Asked (Keep (h .left) c (sidesOf (h .mask) w))
+  keep-fine c l f =
+      let g = free (formulaAt b (h .left)) in
+      let s = termWithin (termOf (h .mask) 1 (w .word0)) g in
+      let t = termWithin (termOf (h .mask) 2 (w .word1)) g in
+      (below (h .left) l, first s t f, second s t f)
+
   fine-node : shapeFits b x h w ≡ true → rangeFits h w ≡ true → Asked (nodeOf (arity b (h .left)) h w)
   fine-node s r =
       Shapes.by-kind b x h w s
       (λ e p. by-node (Shapes.node-1 (arity b (h .left)) h w e) (λ f. atom-fine b h w p))
       (λ e p. by-node (Shapes.node-2 (arity b (h .left)) h w e) (λ f. ((below (h .left) (ltb-true (h .left) x (search (first, second)))), (below (h .right) (ltb-true (h .right) x (search (first, second)))))))
       (λ e p. by-node (Shapes.node-3 (arity b (h .left)) h w e) (λ f. ((below (h .left) (ltb-true (h .left) x (search (first, second)))), (below (h .right) (ltb-true (h .right) x (search (first, second)))), f)))
-      (λ e p. by-node (Shapes.node-4 (arity b (h .left)) h w e) (λ f. ((below (h .left) (ltb-true (h .left) x (search (first, second)))), first (termWithin (termOf (h .mask) 1 (w .word0)) (free (formulaAt b (h .left)))) (termWithin (termOf (h .mask) 2 (w .word1)) (free (formulaAt b (h .left)))) f, second (termWithin (termOf (h .mask) 1 (w .word0)) (free (formulaAt b (h .left)))) (termWithin (termOf (h .mask) 2 (w .word1)) (free (formulaAt b (h .left)))) f)))
+      (λ e p. by-node (Shapes.node-4 (arity b (h .left)) h w e) (keep-fine (comparisonOf (h .right)) (ltb-true (h .left) x (search (first, second)))))
       (λ e p. by-node (Shapes.node-5 (arity b (h .left)) h w e) (λ f. ((below (h .left) (ltb-true (h .left) x (search (first, second)))), (below (h .right) (ltb-true (h .right) x (search (first, second)))), first (within (free (formulaAt b (h .left))) (free (formulaAt b (h .right)))) (within (free (formulaAt b (h .right))) (free (formulaAt b (h .left)))) f, second (within (free (formulaAt b (h .left))) (free (formulaAt b (h .right)))) (within (free (formulaAt b (h .right))) (free (formulaAt b (h .left)))) f)))
       (λ e p. by-node (Shapes.node-6 (arity b (h .left)) h w e) (λ f. ((below (h .left) (ltb-true (h .left) x (search (first, second)))), f)))
       (λ e p. by-node (Shapes.node-7 (arity b (h .left)) h w e) (λ f. below (h .left) (ltb-true (h .left) x (search (first, second)))))
@@ -147,6 +158,7 @@ module _ (b : List ℕ) (x : ℕ) (below : (c : ℕ) → c < x → Fine (formula
       (λ e p. by-node (Shapes.node-12 (arity b (h .left)) h w e) (λ f. ((below (h .left) (ltb-true (h .left) x (search (first, second)))), (below (h .right) (ltb-true (h .right) x (search (first, second)))), f, ended h w (rw e) r)))
       (λ e p. by-node (Shapes.node-13 (arity b (h .left)) h w e) (λ f. below (h .left) (ltb-true (h .left) x (search (first, second)))))
       (λ e p. by-node (Shapes.node-14 (arity b (h .left)) h w e) (λ f. ((below (h .left) (ltb-true (h .left) x (search (first, second)))), ended h w (rw e) r)))
+      (λ e p. by-node (Shapes.node-15 (arity b (h .left)) h w e) (keep-fine (ShiftedLess (twosComplement (w .word2))) (ltb-true (h .left) x (search (first, second)))))
 
 module _ (b : List ℕ) (n : ℕ) (each : (x : ℕ) → x < n → Passes b x) where
   pub lower : (x : ℕ) → x < n → ChildrenLower b x

@@ -4,6 +4,7 @@ pub mod Rows
 pub mod Points
 pub mod Order
 pub mod OrderLaws
+pub mod ReadingLaws
 pub mod LookUp
 pub mod Fine
 pub mod Tree

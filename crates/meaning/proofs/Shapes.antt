@@ -1,4 +1,4 @@
--- A node that passes 4 is one of the fourteen kinds, and its children are lower than itself.
+-- A node that passes 4 is one of the fifteen kinds, and its children are lower than itself.
 use Prim.Native.Nat.{ℕ, _<_}
 use mathlib.Core.Path.{_≡_, refl}
 use mathlib.Core.Bool.{Bool, true, false, cond, _||_, false≢true}
@@ -6,7 +6,9 @@ use mathlib.Core.Logic.{_⊎_, inl, inr}
 use mathlib.Core.List.{List, [], _∷_, List·Memᴰ, List·Memᴰ·cases-cons, List·Memᴰ·not-nil}
 use lib.Dec.{eqb}
 use borrow.Author.Tests.{ltb-true, eqb-true, ne-eqb}
-use Rattle.meaning.specs.RuleFile.{atomFits, twoFit, keepFits, existsFits, oneWindowFits, twoWindowFits, isOneOf, shapeFits, nodeOf, childrenOf, termsOfBody, termOf, comparisonOf, windowOf}
+use Rattle.meaning.specs.RuleFile.{atomFits, twoFit, keepFits, shiftedFits, existsFits, oneWindowFits, twoWindowFits, isOneOf, shapeFits, nodeOf, childrenOf, termsOfBody, sidesOf, comparisonOf, windowOf}
+use Rattle.meaning.specs.Readings.{twosComplement}
+use Rattle.meaning.specs.declared.Comparison.the-variants.{ShiftedLess}
 use Rattle.meaning.specs.declared.Head.{Head}
 use Rattle.meaning.specs.declared.Body.{Body}
 use Rattle.meaning.specs.declared.Node.{Node}
@@ -42,16 +44,18 @@ module _ {P : Type 0} (b : List ℕ) (x : ℕ) (h : Head) (w : Body) where
       → (h .kind ≡ 12 → twoWindowFits x h w ≡ true → P)
       → (h .kind ≡ 13 → oneWindowFits x h w ≡ true → P)
       → (h .kind ≡ 14 → oneWindowFits x h w ≡ true → P)
+      → (h .kind ≡ 15 → shiftedFits x h w ≡ true → P)
       → P
   unfolding shapeFits
-  by-kind e k1 k2 k3 k4 k5 k6 k7 k8 k9 k10 k11 k12 k13 k14 =
+  by-kind e k1 k2 k3 k4 k5 k6 k7 k8 k9 k10 k11 k12 k13 k14 k15 =
       choose (eqb (h .kind) 1) (atomFits b h w) _ (λ t. k1 (eqb-true (h .kind) 1 t))
       (choose (isOneOf (2 ∷ 3 ∷ 5 ∷ []) (h .kind)) (twoFit x h w) _ (λ t p. (among (h .kind) 2 (3 ∷ 5 ∷ []) (λ y. k2 y p) (among (h .kind) 3 (5 ∷ []) (λ y. k3 y p) (among (h .kind) 5 ([]) (λ y. k5 y p) (λ e. absurd (false≢true e))))) t)
       (choose (eqb (h .kind) 4) (keepFits x h w) _ (λ t. k4 (eqb-true (h .kind) 4 t))
       (choose (eqb (h .kind) 6) (existsFits x h w) _ (λ t. k6 (eqb-true (h .kind) 6 t))
       (choose (isOneOf (7 ∷ 8 ∷ 13 ∷ 14 ∷ []) (h .kind)) (oneWindowFits x h w) _ (λ t p. (among (h .kind) 7 (8 ∷ 13 ∷ 14 ∷ []) (λ y. k7 y p) (among (h .kind) 8 (13 ∷ 14 ∷ []) (λ y. k8 y p) (among (h .kind) 13 (14 ∷ []) (λ y. k13 y p) (among (h .kind) 14 ([]) (λ y. k14 y p) (λ e. absurd (false≢true e)))))) t)
-      (choose (isOneOf (9 ∷ 10 ∷ 11 ∷ 12 ∷ []) (h .kind)) (twoWindowFits x h w) false (λ t p. (among (h .kind) 9 (10 ∷ 11 ∷ 12 ∷ []) (λ y. k9 y p) (among (h .kind) 10 (11 ∷ 12 ∷ []) (λ y. k10 y p) (among (h .kind) 11 (12 ∷ []) (λ y. k11 y p) (among (h .kind) 12 ([]) (λ y. k12 y p) (λ e. absurd (false≢true e)))))) t)
-      (λ e. absurd (false≢true e))))))) e
+      (choose (isOneOf (9 ∷ 10 ∷ 11 ∷ 12 ∷ []) (h .kind)) (twoWindowFits x h w) _ (λ t p. (among (h .kind) 9 (10 ∷ 11 ∷ 12 ∷ []) (λ y. k9 y p) (among (h .kind) 10 (11 ∷ 12 ∷ []) (λ y. k10 y p) (among (h .kind) 11 (12 ∷ []) (λ y. k11 y p) (among (h .kind) 12 ([]) (λ y. k12 y p) (λ e. absurd (false≢true e)))))) t)
+      (choose (eqb (h .kind) 15) (shiftedFits x h w) false (λ t. k15 (eqb-true (h .kind) 15 t))
+      (λ e. absurd (false≢true e)))))))) e
 
 -- the node of a kind
 module _ (a : ℕ) (h : Head) (w : Body) where
@@ -67,7 +71,7 @@ module _ (a : ℕ) (h : Head) (w : Body) where
   unfolding nodeOf
   node-3 e = rw e
 
-  pub node-4 : h .kind ≡ 4 → nodeOf a h w ≡ Keep (h .left) (comparisonOf (h .right)) (record { first = termOf (h .mask) 1 (w .word0); second = termOf (h .mask) 2 (w .word1) })
+  pub node-4 : h .kind ≡ 4 → nodeOf a h w ≡ Keep (h .left) (comparisonOf (h .right)) (sidesOf (h .mask) w)
   unfolding nodeOf
   node-4 e = rw e
 
@@ -111,14 +115,18 @@ module _ (a : ℕ) (h : Head) (w : Body) where
   unfolding nodeOf
   node-14 e = rw e
 
--- a node of none of the first thirteen kinds
+  pub node-15 : h .kind ≡ 15 → nodeOf a h w ≡ Keep (h .left) (ShiftedLess (twosComplement (w .word2))) (sidesOf (h .mask) w)
+  unfolding nodeOf
+  node-15 e = rw e
+
+-- a node of none of the other kinds is read as one of kind 14
 pub node-rest : (a : ℕ) (h : Head) (w : Body)
     → (h .kind ≡ 1 → ⊥) → (h .kind ≡ 2 → ⊥) → (h .kind ≡ 3 → ⊥) → (h .kind ≡ 4 → ⊥) → (h .kind ≡ 5 → ⊥) → (h .kind ≡ 6 → ⊥) → (h .kind ≡ 7 → ⊥)
-    → (h .kind ≡ 8 → ⊥) → (h .kind ≡ 9 → ⊥) → (h .kind ≡ 10 → ⊥) → (h .kind ≡ 11 → ⊥) → (h .kind ≡ 12 → ⊥) → (h .kind ≡ 13 → ⊥)
+    → (h .kind ≡ 8 → ⊥) → (h .kind ≡ 9 → ⊥) → (h .kind ≡ 10 → ⊥) → (h .kind ≡ 11 → ⊥) → (h .kind ≡ 12 → ⊥) → (h .kind ≡ 13 → ⊥) → (h .kind ≡ 15 → ⊥)
     → nodeOf a h w ≡ Eventually (h .left) (windowOf w)
 unfolding nodeOf
-node-rest a h w e1 e2 e3 e4 e5 e6 e7 e8 e9 e10 e11 e12 e13 =
-    simp (ne-eqb (h .kind) 1 e1, ne-eqb (h .kind) 2 e2, ne-eqb (h .kind) 3 e3, ne-eqb (h .kind) 4 e4, ne-eqb (h .kind) 5 e5, ne-eqb (h .kind) 6 e6, ne-eqb (h .kind) 7 e7, ne-eqb (h .kind) 8 e8, ne-eqb (h .kind) 9 e9, ne-eqb (h .kind) 10 e10, ne-eqb (h .kind) 11 e11, ne-eqb (h .kind) 12 e12, ne-eqb (h .kind) 13 e13)
+node-rest a h w e1 e2 e3 e4 e5 e6 e7 e8 e9 e10 e11 e12 e13 e15 =
+    simp (ne-eqb (h .kind) 1 e1, ne-eqb (h .kind) 2 e2, ne-eqb (h .kind) 3 e3, ne-eqb (h .kind) 4 e4, ne-eqb (h .kind) 5 e5, ne-eqb (h .kind) 6 e6, ne-eqb (h .kind) 7 e7, ne-eqb (h .kind) 8 e8, ne-eqb (h .kind) 9 e9, ne-eqb (h .kind) 10 e10, ne-eqb (h .kind) 11 e11, ne-eqb (h .kind) 12 e12, ne-eqb (h .kind) 13 e13, ne-eqb (h .kind) 15 e15)
 
 -- "left and right name children, each lower than the node itself"
 module _ (b : List ℕ) (x a : ℕ) (h : Head) (w : Body) where
@@ -158,3 +166,4 @@ module _ (b : List ℕ) (x a : ℕ) (h : Head) (w : Body) where
       (λ e p. two-children (h .left) (h .right) _ refl (node-12 a h w e) (ltb-true (h .left) x (search (first, second))) (ltb-true (h .right) x (search (first, second))))
       (λ e p. one-child (h .left) _ refl (node-13 a h w e) (ltb-true (h .left) x (search (first, second))))
       (λ e p. one-child (h .left) _ refl (node-14 a h w e) (ltb-true (h .left) x (search (first, second))))
+      (λ e p. one-child (h .left) _ refl (node-15 a h w e) (ltb-true (h .left) x (search (first, second))))

@@ -139,16 +139,27 @@ reaching r f = given (record { reach = r; free = f })
 abbrev comparing : ℕ → List ℕ
 comparing comparison = sizes 2 0 2 ++ head 1 0 0 ++ head 4 0 comparison ++ body 0 1 ++ body 0 1
 
-abbrev keeping : ℕ → List ℕ → Case
-keeping comparison words =
+-- the same, kept where the first and k make less than the second; and where two constants do
+abbrev shifting : ℕ → List ℕ
+shifting k = sizes 2 0 2 ++ head 1 0 0 ++ head 15 0 0 ++ body 0 1 ++ word 0 ++ word 1 ++ word k ++ word 0
+
+abbrev constants : ℕ → ℕ → ℕ → List ℕ
+constants k c d = sizes 2 0 2 ++ head 1 0 0 ++ (15 ∷ 0 ∷ 0 ∷ 3 ∷ []) ++ body 0 1 ++ word c ++ word d ++ word k ++ word 0
+
+-- such a rule on one event's rows
+abbrev compared : List ℕ → List (List ℕ) → List ℕ → Case
+compared b rows words =
     record {
-      rule = comparing comparison;
-      fed = events (event 3 ((0 ∷ 1 ∷ 2 ∷ []) ∷ (0 ∷ 2 ∷ 1 ∷ []) ∷ (0 ∷ 2 ∷ 2 ∷ []) ∷ []) ∷ []);
+      rule = b;
+      fed = events (event 3 (map (λ r. 0 ∷ r) rows) ∷ []);
       checked = reaching 0 3;
       givens = written words ∷ [];
       kepts = 0 ∷ [];
       left = 0;
     }
+
+abbrev keeping : ℕ → List ℕ → Case
+keeping comparison = compared (comparing comparison) ((1 ∷ 2 ∷ []) ∷ (2 ∷ 1 ∷ []) ∷ (2 ∷ 2 ∷ []) ∷ [])
 
 -- a kind with [0, 5) over relation 0 of variable 0 and relation 1 of variables 0 and 1: left is asked for its own variable alone
 abbrev asking : ℕ → ℕ → List Given → List ℕ → ℕ → Case
@@ -217,8 +228,8 @@ rules =
     ++ map (λ kind. checks (binary kind 5 0) (reaching 0 0)) (9 ∷ 10 ∷ [])
     ++ map (λ kind. checks (binary kind 5 0) (refused 5 2)) (11 ∷ 12 ∷ [])
     ++ map (λ kind. checks (unary kind 5 0) (refused 5 1)) (14 ∷ [])
-    -- 4 of an atom, and, keep, exists, once and since: kind, child, relation, variable, comparison, and each field that isn't named
-    ++ spoilt ruleL 0 15 (12 ∷ [])
+    -- 4 of an atom, and, keep, keep-shifted, exists, once and since: kind, child, relation, variable, comparison, and each field that isn't named
+    ++ spoilt ruleL 0 16 (12 ∷ [])
     ++ spoilt ruleL 0 2 (13 ∷ 15 ∷ [])
     ++ spoilt ruleL 0 16 (15 ∷ [])
     ++ spoilt ruleL 0 4 (28 ∷ [])
@@ -227,6 +238,10 @@ rules =
     ++ spoilt (binary 2 0 0) 2 1 (23 ∷ 56 ∷ 60 ∷ 64 ∷ 68 ∷ [])
     ++ spoilt (comparing 2) 1 4 (18 ∷ 19 ∷ 36 ∷ 40 ∷ [])
     ++ spoilt (comparing 2) 1 1 (17 ∷ 44 ∷ 48 ∷ [])
+    ++ spoilt (shifting 250) 1 4 (36 ∷ 40 ∷ [])
+    ++ spoilt (shifting 250) 1 1 (17 ∷ 18 ∷ 48 ∷ [])
+    ++ map (λ mask. changed (shifting 250) 19 mask (refused 4 1)) (4 ∷ 8 ∷ 16 ∷ 32 ∷ 64 ∷ 128 ∷ [])
+    ++ map (λ at. changed (shifting 250) at 2 (refused 6 1)) (36 ∷ 40 ∷ [])
     ++ spoilt existing 1 4 (36 ∷ [])
     ++ spoilt existing 1 1 (17 ∷ 18 ∷ 19 ∷ 40 ∷ 44 ∷ 48 ∷ [])
     ++ spoilt (unary 13 0 5) 1 1 (17 ∷ 18 ∷ 19 ∷ 44 ∷ 48 ∷ [])
@@ -236,7 +251,8 @@ rules =
     ++ map (λ kind. checks (over kind 0 0) (reaching 5 0)) (2 ∷ 3 ∷ 5 ∷ [])
     ++ map (λ kind. checks (over kind 0 2) (reaching 5 0)) (9 ∷ 10 ∷ [])
     ++ map (λ kind. checks (over kind 0 2) (reaching 7 0)) (11 ∷ 12 ∷ [])
-    ++ checks (sizes 0 0 3 ++ head 1 0 0 ++ head 14 0 0 ++ head 8 1 0 ++ body 0 0 ++ body 0 5 ++ body 0 2) (reaching 5 0) ∷ []
+    ++ checks (sizes 0 0 3 ++ head 1 0 0 ++ head 14 0 0 ++ head 8 1 0 ++ body 0 0 ++ body 0 5 ++ body 0 2) (reaching 5 0)
+    ∷ checks (sizes 2 0 3 ++ head 1 0 0 ++ head 14 0 0 ++ head 15 1 0 ++ body 0 1 ++ body 0 5 ++ body 0 1) (reaching 5 3) ∷ []
 
 abbrev pub cases : List Case
 cases =
@@ -415,6 +431,14 @@ cases =
     ∷ keeping 1 (1 ∷ 2 ∷ 2 ∷ 0 ∷ 3 ∷ 2 ∷ 1 ∷ 2 ∷ 2 ∷ 1 ∷ [])
     ∷ keeping 2 (1 ∷ 2 ∷ 1 ∷ 0 ∷ 3 ∷ 1 ∷ 1 ∷ 2 ∷ [])
     ∷ keeping 3 (1 ∷ 2 ∷ 2 ∷ 0 ∷ 3 ∷ 2 ∷ 2 ∷ 2 ∷ 2 ∷ 1 ∷ [])
+    -- keep-shifted: "where the first term + k < the second, over whole numbers", with k of 250, −250, −2,147,483,648 and 2,147,483,647, terms at 0 and 4,294,967,295, and equal sums, which don't satisfy it
+    ∷ compared (shifting 250) ((0 ∷ 250 ∷ []) ∷ (0 ∷ 251 ∷ []) ∷ (4294967295 ∷ 4294967295 ∷ []) ∷ (4294967045 ∷ 4294967295 ∷ []) ∷ (4294967044 ∷ 4294967295 ∷ []) ∷ (4294967295 ∷ 0 ∷ []) ∷ (0 ∷ 0 ∷ []) ∷ []) (1 ∷ 2 ∷ 2 ∷ 0 ∷ 3 ∷ 2 ∷ 0 ∷ 251 ∷ 4294967044 ∷ 4294967295 ∷ [])
+    ∷ compared (shifting 4294967046) ((250 ∷ 0 ∷ []) ∷ (249 ∷ 0 ∷ []) ∷ (0 ∷ 0 ∷ []) ∷ (0 ∷ 4294967295 ∷ []) ∷ (4294967295 ∷ 4294967045 ∷ []) ∷ (4294967295 ∷ 4294967046 ∷ []) ∷ (4294967295 ∷ 0 ∷ []) ∷ []) (1 ∷ 2 ∷ 4 ∷ 0 ∷ 3 ∷ 4 ∷ 0 ∷ 4294967295 ∷ 0 ∷ 0 ∷ 249 ∷ 0 ∷ 4294967295 ∷ 4294967046 ∷ [])
+    ∷ compared (shifting 2147483648) ((2147483648 ∷ 0 ∷ []) ∷ (2147483647 ∷ 0 ∷ []) ∷ (0 ∷ 0 ∷ []) ∷ (0 ∷ 4294967295 ∷ []) ∷ (4294967295 ∷ 0 ∷ []) ∷ (4294967295 ∷ 2147483647 ∷ []) ∷ (4294967295 ∷ 2147483648 ∷ []) ∷ (4294967295 ∷ 4294967295 ∷ []) ∷ []) (1 ∷ 2 ∷ 5 ∷ 0 ∷ 3 ∷ 5 ∷ 0 ∷ 4294967295 ∷ 0 ∷ 0 ∷ 2147483647 ∷ 0 ∷ 4294967295 ∷ 4294967295 ∷ 4294967295 ∷ 2147483648 ∷ [])
+    ∷ compared (shifting 2147483647) ((0 ∷ 2147483647 ∷ []) ∷ (0 ∷ 2147483648 ∷ []) ∷ (0 ∷ 0 ∷ []) ∷ (0 ∷ 4294967295 ∷ []) ∷ (4294967295 ∷ 0 ∷ []) ∷ (4294967295 ∷ 4294967295 ∷ []) ∷ (2147483648 ∷ 4294967295 ∷ []) ∷ (2147483647 ∷ 4294967295 ∷ []) ∷ []) (1 ∷ 2 ∷ 3 ∷ 0 ∷ 3 ∷ 3 ∷ 0 ∷ 4294967295 ∷ 0 ∷ 2147483648 ∷ 2147483647 ∷ 4294967295 ∷ [])
+    -- two constants: 0 and 250 make less than 251, and not less than 250
+    ∷ compared (constants 250 0 251) ((5 ∷ 5 ∷ []) ∷ []) (1 ∷ 2 ∷ 1 ∷ 0 ∷ 3 ∷ 1 ∷ 5 ∷ 5 ∷ [])
+    ∷ compared (constants 250 0 250) ((5 ∷ 5 ∷ []) ∷ []) (1 ∷ 2 ∷ 0 ∷ 0 ∷ 3 ∷ 0 ∷ [])
     -- and: rows that agree where both have the variable, here variable 1
     ∷ record {
       rule = sizes 2 2 3 ++ joinHeads ++ joinBodies;

@@ -1,18 +1,20 @@
--- A rule as a tree of the fourteen kinds: its free variables and its reach.
+-- A rule as a tree of the fifteen kinds: its free variables and its reach.
 use Prim.Native.Nat.{ℕ, _+_, max}
 use mathlib.Core.Bool.{Bool, true, false, not, _&&_, _||_}
 use mathlib.Core.List.{List, [], _∷_}
 use lib.ListN.{take}
 use lib.Dec.{ltb, leb, eqb}
+use lib.IntN.{pos, _+ℤ_}
+use lib.Signed.{ltZ}
 use Rattle.meaning.specs.Lists.{all, any, firstOr}
 use Rattle.meaning.specs.declared.Term.{Term}
 use Rattle.meaning.specs.declared.Term.the-variants.{Variable, Constant}
 use Rattle.meaning.specs.declared.Terms.{Terms}
 use Rattle.meaning.specs.declared.Window.{Window}
 use Rattle.meaning.specs.declared.Comparison.{Comparison}
-use Rattle.meaning.specs.declared.Comparison.the-variants.{Equal, Different, Less, NotLess}
+use Rattle.meaning.specs.declared.Comparison.the-variants.{Equal, Different, Less, NotLess, ShiftedLess}
 
--- "The desk's words and their meaning", 1 to 14
+-- "The desk's words and their meaning", 1 to 14; kind 15 is a keep: "Terms, free variables, settling, reach and kept follow kind 4"
 pub data Formula : Type 0 where
   atom : ℕ → List Term → Formula
   and andNot : Formula → Formula → Formula
@@ -31,12 +33,13 @@ termsOf t = take (t .count) (t .first ∷ t .second ∷ t .third ∷ t .fourth �
 abbrev pub inWindow : Window → ℕ → Bool
 inWindow w t = leb (w .start) t && (eqb (w .end) 0 || ltb t (w .end))
 
--- "0 equal, 1 different, 2 less, 3 not less"
+-- "0 equal, 1 different, 2 less, 3 not less"; "it holds where the first term + k < the second, over whole numbers"
 abbrev pub compares : Comparison → ℕ → ℕ → Bool
 compares Equal a b = eqb a b
 compares Different a b = not (eqb a b)
 compares Less a b = ltb a b
 compares NotLess a b = not (ltb a b)
+compares (ShiftedLess k) a b = ltZ (pos a +ℤ k) (pos b)
 
 -- the variable is the term
 abbrev pub isVariable : ℕ → Term → Bool

@@ -2,6 +2,7 @@
 pub mod Lists
 pub mod Outcome
 pub mod Log
+pub mod Readings
 pub mod Formula
 pub mod Definition2
 pub mod Order
@@ -16,5 +17,6 @@ pub mod Event
 pub mod Report
 pub mod Keeper
 pub mod OrderLaws
+pub mod ReadingLaws
 pub mod Limits
 pub mod WithoutNotices

@@ -8,12 +8,14 @@ use Rattle.meaning.specs.Lists.{all, any, range, gather, occurrences}
 use Rattle.meaning.specs.Outcome.{Outcome, refused, given, when, cut, otherVersion, sizeOut, misshapen, windowOut, freeBroken, notOneParent, mostNodes, longestWindow}
 use Rattle.meaning.specs.Formula.{Formula, atom, and, andNot, keep, or, exists, previous, next, since, notSince, until, notUntil, once, eventually, termsOf, free, reach, freeFits}
 use Rattle.meaning.specs.View.{viewOf, childrenIn}
+use Rattle.meaning.specs.Readings.{twosComplement}
 use Rattle.meaning.specs.declared.Term.{Term}
 use Rattle.meaning.specs.declared.Term.the-variants.{Variable, Constant}
 use Rattle.meaning.specs.declared.Terms.{Terms}
+use Rattle.meaning.specs.declared.Sides.{Sides}
 use Rattle.meaning.specs.declared.Window.{Window}
 use Rattle.meaning.specs.declared.Comparison.{Comparison}
-use Rattle.meaning.specs.declared.Comparison.the-variants.{Equal, Different, Less, NotLess}
+use Rattle.meaning.specs.declared.Comparison.the-variants.{Equal, Different, Less, NotLess, ShiftedLess}
 use Rattle.meaning.specs.declared.Head.{Head}
 use Rattle.meaning.specs.declared.Body.{Body}
 use Rattle.meaning.specs.declared.Node.{Node}
@@ -69,13 +71,17 @@ windowOf w = record { start = w .word0; end = w .word1 }
 abbrev pub termsOfBody : ℕ → ℕ → Body → Terms
 termsOfBody count m w = record { count = count; first = termOf m 1 (w .word0); second = termOf m 2 (w .word1); third = termOf m 4 (w .word2); fourth = termOf m 8 (w .word3) }
 
--- "An accepted node is one of these fourteen kinds with its children, terms or window"; the first argument is the arity of the relation that left names
+-- "terms in words 0 and 1"
+abbrev pub sidesOf : ℕ → Body → Sides
+sidesOf m w = record { first = termOf m 1 (w .word0); second = termOf m 2 (w .word1) }
+
+-- "An accepted node is one of these fourteen kinds with its children, terms or window"; "kind 15, keep-shifted: .. word 2 a signed two's complement number of hundredths, k"; the first argument is the arity of the relation that left names
 unfoldable pub nodeOf : ℕ → Head → Body → Node
 nodeOf a h w =
     cond (eqb (h .kind) 1) (Atom (h .left) (termsOfBody a (h .mask) w))
     (cond (eqb (h .kind) 2) (And (h .left) (h .right))
     (cond (eqb (h .kind) 3) (AndNot (h .left) (h .right))
-    (cond (eqb (h .kind) 4) (Keep (h .left) (comparisonOf (h .right)) (record { first = termOf (h .mask) 1 (w .word0); second = termOf (h .mask) 2 (w .word1) }))
+    (cond (eqb (h .kind) 4) (Keep (h .left) (comparisonOf (h .right)) (sidesOf (h .mask) w))
     (cond (eqb (h .kind) 5) (Or (h .left) (h .right))
     (cond (eqb (h .kind) 6) (Exists (h .left) (w .word0))
     (cond (eqb (h .kind) 7) (Previous (h .left) (windowOf w))
@@ -85,7 +91,8 @@ nodeOf a h w =
     (cond (eqb (h .kind) 11) (Until (h .left) (h .right) (windowOf w))
     (cond (eqb (h .kind) 12) (NotUntil (h .left) (h .right) (windowOf w))
     (cond (eqb (h .kind) 13) (Once (h .left) (windowOf w))
-    (Eventually (h .left) (windowOf w))))))))))))))
+    (cond (eqb (h .kind) 15) (Keep (h .left) (ShiftedLess (twosComplement (w .word2))) (sidesOf (h .mask) w))
+    (Eventually (h .left) (windowOf w)))))))))))))))
 
 unfoldable pub nodeAt : List ℕ → ℕ → Node
 nodeAt b x = nodeOf (arity b (headAt b x .left)) (headAt b x) (bodyAt (bodies b) x)
@@ -141,8 +148,16 @@ atomFits b h w =
 abbrev pub twoFit : ℕ → Head → Body → Bool
 twoFit x h w = ltb (h .left) x && ltb (h .right) x && eqb (h .mask) 0 && eqb (w .word0) 0 && eqb (w .word1) 0 && eqb (w .word2) 0 && eqb (w .word3) 0
 
+-- words 0 and 1 are terms, and word 3 isn't named
+abbrev pub sidesFit : Head → Body → Bool
+sidesFit h w = ltb (h .mask) 4 && (bit (h .mask) 1 || ltb (w .word0) 4) && (bit (h .mask) 2 || ltb (w .word1) 4) && eqb (w .word3) 0
+
 abbrev pub keepFits : ℕ → Head → Body → Bool
-keepFits x h w = ltb (h .left) x && leb (h .right) 3 && ltb (h .mask) 4 && (bit (h .mask) 1 || ltb (w .word0) 4) && (bit (h .mask) 2 || ltb (w .word1) 4) && eqb (w .word2) 0 && eqb (w .word3) 0
+keepFits x h w = ltb (h .left) x && leb (h .right) 3 && sidesFit h w && eqb (w .word2) 0
+
+-- "Every word 2 is a k, so it is never refused"
+abbrev pub shiftedFits : ℕ → Head → Body → Bool
+shiftedFits x h w = ltb (h .left) x && eqb (h .right) 0 && sidesFit h w
 
 abbrev pub existsFits : ℕ → Head → Body → Bool
 existsFits x h w = ltb (h .left) x && eqb (h .right) 0 && eqb (h .mask) 0 && ltb (w .word0) 4 && eqb (w .word1) 0 && eqb (w .word2) 0 && eqb (w .word3) 0
@@ -165,7 +180,8 @@ shapeFits b x h w =
     (cond (eqb (h .kind) 6) (existsFits x h w)
     (cond (isOneOf (7 ∷ 8 ∷ 13 ∷ 14 ∷ []) (h .kind)) (oneWindowFits x h w)
     (cond (isOneOf (9 ∷ 10 ∷ 11 ∷ 12 ∷ []) (h .kind)) (twoWindowFits x h w)
-    false)))))
+    (cond (eqb (h .kind) 15) (shiftedFits x h w)
+    false))))))
 
 -- "d above c and at most 604,800; d = 0 means no end, and then c is at most 604,799"
 abbrev pub windowFits : ℕ → ℕ → Bool

@@ -1,4 +1,4 @@
--- A node by its view: its children, the points of theirs that it looks at, what it asks of left, and its window. What isn't about the fourteen kinds themselves goes by the view; of the definitions here its children alone do.
+-- A node by its view: its children, the points of theirs that it looks at, what it asks of left, and its window. What isn't about the fifteen kinds themselves goes by the view; of the definitions here its children alone do.
 use Prim.Native.Nat.{ℕ}
 use mathlib.Core.Bool.{Bool, true, not}
 use mathlib.Core.List.{List, [], _∷_}

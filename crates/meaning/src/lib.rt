@@ -55,11 +55,13 @@ pub struct Sides {
     pub second: Term,
 }
 
+// How "keep" compares them. With `ShiftedLess` it is "keep-shifted": the number is added to the first term.
 pub enum Comparison {
     Equal,
     Different,
     Less,
     NotLess,
+    ShiftedLess(i32),
 }
 
 // The window [start, end); an end of 0 means no end.
@@ -68,7 +70,7 @@ pub struct Window {
     pub end: u32,
 }
 
-// A node of a rule file: one of the fourteen kinds with its children, by number, its terms or its window.
+// A node of a rule file: one of the fifteen kinds with its children, by number, its terms or its window. "keep" and "keep-shifted" are one case, and differ in the comparison.
 pub enum Node {
     Atom(u8, Terms),
     And(u8, u8),

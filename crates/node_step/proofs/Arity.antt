@@ -7,7 +7,7 @@ use Rattle.meaning.specs.declared.Terms.{Terms}
 use Rattle.meaning.specs.declared.Node.{Node}
 use Rattle.meaning.specs.declared.Node.the-variants.{Atom}
 use Rattle.meaning.proofs.Accepted.{Passes}
-use Rattle.meaning.proofs.Shapes.{by-kind, node-1, node-2, node-3, node-4, node-5, node-6, node-7, node-8, node-9, node-10, node-11, node-12, node-13, node-14}
+use Rattle.meaning.proofs.Shapes.{by-kind, node-1, node-2, node-3, node-4, node-5, node-6, node-7, node-8, node-9, node-10, node-11, node-12, node-13, node-14, node-15}
 
 module _ (b : List ℕ) where
   abbrev pub AsMany : Node → Type 0
@@ -43,3 +43,4 @@ module _ (b : List ℕ) where
       (λ e p. is-node (node-12 _ _ _ e) (no-atom refl))
       (λ e p. is-node (node-13 _ _ _ e) (no-atom refl))
       (λ e p. is-node (node-14 _ _ _ e) (no-atom refl))
+      (λ e p. is-node (node-15 _ _ _ e) (no-atom refl))

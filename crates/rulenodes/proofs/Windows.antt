@@ -34,7 +34,8 @@ module _ (a : ℕ) (h : Head) (w : Body) where
       (choice (eqb (h .kind) 10) _ _ (λ k. refl)
       (choice (eqb (h .kind) 11) _ _ (λ k. refl)
       (choice (eqb (h .kind) 12) _ _ (λ k. refl)
-      (choice (eqb (h .kind) 13) _ _ (λ k. refl) (λ k. refl)))))))))))))
+      (choice (eqb (h .kind) 13) _ _ (λ k. refl)
+      (choice (eqb (h .kind) 15) _ _ (λ k. absurd (k refl)) (λ k. refl))))))))))))))
 
 pub window-read : (b : List ℕ) (x : ℕ) → (viewOf (nodeAt b x) .times ≡ Here → ⊥) → viewOf (nodeAt b x) .window ≡ windowOf (bodyAt (bodies b) x)
 unfolding nodeAt

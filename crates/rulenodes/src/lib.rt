@@ -1,4 +1,4 @@
-// Reading a rule file: its words, heads, bodies, and each node as one of the fourteen kinds.
+// Reading a rule file: its words, heads, bodies, and each node as one of the fifteen kinds.
 use meaning::Body;
 use meaning::Children;
 use meaning::Comparison;
@@ -11,13 +11,16 @@ use meaning::Terms;
 use meaning::Times;
 use meaning::View;
 use meaning::Window;
+use readings::twos_complement;
 ghost use mathlib.Core.Path.{_≡_};
 ghost use mathlib.Core.List.{[]};
 ghost use Prim.Native.Nat.{ℕ, _+_, _*_, _≤_, _<_, max};
 ghost use lib.ListN.{length};
+ghost use Rattle.meaning.specs.Readings.{twosComplement};
 ghost use Rattle.meaning.specs.View.{here, viewOf, childrenIn};
-ghost use Rattle.meaning.specs.RuleFile.{wordAt, nodeCount, arity, headAt, bodyAt, bodies, bit, termOf, comparisonOf, termsOfBody, nodeOf, nodeAt, childrenOf, oneIf};
+ghost use Rattle.meaning.specs.RuleFile.{wordAt, nodeCount, arity, headAt, bodyAt, bodies, bit, termOf, comparisonOf, termsOfBody, sidesOf, nodeOf, nodeAt, childrenOf, oneIf};
 ghost use Rattle.meaning.specs.declared.Body.{Body};
+ghost use Rattle.meaning.specs.declared.Comparison.the-variants.{ShiftedLess};
 ghost use Rattle.meaning.specs.declared.Node.the-variants.{Atom};
 
 // A byte as a word.
@@ -125,6 +128,13 @@ fn comparison_of(n: u8) -> Comparison
     }
 }
 
+// The comparison of "keep-shifted", with the word of its number.
+fn shifted_by(w: u32) -> Comparison
+    ensures { λ r. ⌜ r ≡ ShiftedLess (twosComplement w) ⌝ }
+{
+    Comparison::ShiftedLess(twos_complement(w))
+}
+
 fn terms_of(count: u8, mask: u8, w: Body) -> Terms
     ensures { λ r. ⌜ r ≡ termsOfBody count mask w ⌝ }
 {
@@ -134,6 +144,16 @@ fn terms_of(count: u8, mask: u8, w: Body) -> Terms
         third: term_of(mask, 4, w.word2),
         fourth: term_of(mask, 8, w.word3),
         count,
+    }
+}
+
+// The two terms that "keep" and "keep-shifted" compare.
+fn sides_of(mask: u8, w: Body) -> Sides
+    ensures { λ r. ⌜ r ≡ sidesOf mask w ⌝ }
+{
+    Sides {
+        first: term_of(mask, 1, w.word0),
+        second: term_of(mask, 2, w.word1),
     }
 }
 
@@ -150,14 +170,7 @@ pub fn node_of(arity: u8, h: Head, w: Body) -> Node
         1 => Node::Atom(h.left, terms_of(arity, h.mask, w)),
         2 => Node::And(h.left, h.right),
         3 => Node::AndNot(h.left, h.right),
-        4 => Node::Keep(
-            h.left,
-            comparison_of(h.right),
-            Sides {
-                first: term_of(h.mask, 1, w.word0),
-                second: term_of(h.mask, 2, w.word1),
-            },
-        ),
+        4 => Node::Keep(h.left, comparison_of(h.right), sides_of(h.mask, w)),
         5 => Node::Or(h.left, h.right),
         6 => Node::Exists(h.left, w.word0),
         7 => Node::Previous(h.left, window),
@@ -167,6 +180,7 @@ pub fn node_of(arity: u8, h: Head, w: Body) -> Node
         11 => Node::Until(h.left, h.right, window),
         12 => Node::NotUntil(h.left, h.right, window),
         13 => Node::Once(h.left, window),
+        15 => Node::Keep(h.left, shifted_by(w.word2), sides_of(h.mask, w)),
         _ => Node::Eventually(h.left, window),
     }
 }
@@ -336,6 +350,7 @@ pub fn times_at(rule: &[u8], x: u8) -> Times
         11 => Times::Future,
         12 => Times::Future,
         13 => Times::Past,
+        15 => Times::Here,
         _ => Times::Future,
     }
 }

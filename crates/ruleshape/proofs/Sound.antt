@@ -13,7 +13,7 @@ use Rattle.meaning.specs.declared.Body.{Body}
 use Rattle.meaning.specs.declared.Node.{Node}
 use Rattle.meaning.specs.declared.Term.the-variants.{Variable, Constant}
 use Rattle.meaning.proofs.Points.{first, second}
-use Rattle.meaning.proofs.Shapes.{by-kind, children-lower, node-1, node-2, node-3, node-4, node-5, node-6, node-7, node-8, node-9, node-10, node-11, node-12, node-13, node-14}
+use Rattle.meaning.proofs.Shapes.{by-kind, children-lower, node-1, node-2, node-3, node-4, node-5, node-6, node-7, node-8, node-9, node-10, node-11, node-12, node-13, node-14, node-15}
 use Rattle.ruleshape.specs.Sound.{NodeFits, TermBelow, VariablesBelow, windowReach, NodeSound}
 
 term-below : (mask p w : ℕ) → (bit mask p || ltb w 4) ≡ true → TermBelow (termOf mask p w)
@@ -62,6 +62,7 @@ module _ (b : List ℕ) (x a : ℕ) (h : Head) (w : Body) where
       (λ e p. of-kind _ (node-12 a h w e) (tt, bounded h w (rw e) r))
       (λ e p. of-kind _ (node-13 a h w e) (tt, zero-le))
       (λ e p. of-kind _ (node-14 a h w e) (tt, bounded h w (rw e) r))
+      (λ e p. of-kind _ (node-15 a h w e) ((term-below (h .mask) 1 (w .word0) (search (first, second)), term-below (h .mask) 2 (w .word1) (search (first, second))), zero-le))
 
 pub node-sound : (b : List ℕ) (x : ℕ) → NodeFits b x → NodeSound x (nodeAt b x)
 unfolding nodeAt

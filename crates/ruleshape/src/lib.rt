@@ -6,7 +6,7 @@ use rulenodes::has_bit;
 ghost use mathlib.Core.Path.{_≡_};
 ghost use Prim.Native.Nat.{_≤_, _<_};
 ghost use lib.ListN.{length};
-ghost use Rattle.meaning.specs.RuleFile.{atomWordFits, atomFits, twoFit, keepFits, existsFits, oneWindowFits, twoWindowFits, shapeFits, windowFits, rangeFits};
+ghost use Rattle.meaning.specs.RuleFile.{atomWordFits, atomFits, twoFit, sidesFit, keepFits, shiftedFits, existsFits, oneWindowFits, twoWindowFits, shapeFits, windowFits, rangeFits};
 
 // The longest window, in seconds.
 const LONGEST: u32 = 604800;
@@ -50,16 +50,26 @@ fn two_fit(x: u8, h: Head, w: Body) -> bool
         & (w.word3 == 0)
 }
 
+// The two terms that "keep" and "keep-shifted" compare.
+fn sides_fit(h: Head, w: Body) -> bool
+    ensures { λ r. ⌜ r ≡ sidesFit h w ⌝ }
+{
+    (h.mask < 4)
+        & (has_bit(h.mask, 1) | (w.word0 < 4))
+        & (has_bit(h.mask, 2) | (w.word1 < 4))
+        & (w.word3 == 0)
+}
+
 fn keep_fits(x: u8, h: Head, w: Body) -> bool
     ensures { λ r. ⌜ r ≡ keepFits x h w ⌝ }
 {
-    (h.left < x)
-        & (h.right <= 3)
-        & (h.mask < 4)
-        & (has_bit(h.mask, 1) | (w.word0 < 4))
-        & (has_bit(h.mask, 2) | (w.word1 < 4))
-        & (w.word2 == 0)
-        & (w.word3 == 0)
+    (h.left < x) & (h.right <= 3) & sides_fit(h, w) & (w.word2 == 0)
+}
+
+fn shifted_fits(x: u8, h: Head, w: Body) -> bool
+    ensures { λ r. ⌜ r ≡ shiftedFits x h w ⌝ }
+{
+    (h.left < x) & (h.right == 0) & sides_fit(h, w)
 }
 
 fn exists_fits(x: u8, h: Head, w: Body) -> bool
@@ -107,6 +117,7 @@ pub fn shape_fits(rule: &[u8], x: u8, h: Head, w: Body) -> bool
         12 => two_window_fits(x, h, w),
         13 => one_window_fits(x, h, w),
         14 => one_window_fits(x, h, w),
+        15 => shifted_fits(x, h, w),
         _ => false,
     }
 }

@@ -4,7 +4,7 @@ use borrow.Author.Needs.{needs}
 use Rattle.meaning.specs.View.{viewOf}
 use Rattle.meaning.specs.RuleFile.{arity, headAt, bodies, bodyAt, nodeOf, nodeAt}
 use Rattle.meaning.specs.declared.Node.{Node}
-use Rattle.meaning.proofs.Shapes.{node-1, node-2, node-3, node-4, node-5, node-6, node-7, node-8, node-9, node-10, node-11, node-12, node-13, node-rest}
+use Rattle.meaning.proofs.Shapes.{node-1, node-2, node-3, node-4, node-5, node-6, node-7, node-8, node-9, node-10, node-11, node-12, node-13, node-15, node-rest}
 use Rattle.rulenodes.proofs.times_at.Statement.{statement}
 use Rattle.rulenodes.proofs.times_at.Tie as tie
 
@@ -54,10 +54,13 @@ returns-13 : tie.Need-returns-13
 returns-13 c = answered (c .before .before .before) (node-13 _ _ _ (sym (c .before .kind-at .ensures) ∙ c .match .keys13))
 
 returns-14 : tie.Need-returns-14
-returns-14 c =
+returns-14 c = answered (c .before .before .before) (node-15 _ _ _ (sym (c .before .kind-at .ensures) ∙ c .match .keys14))
+
+returns-15 : tie.Need-returns-15
+returns-15 c =
     let r = c .match .rest in
     let k = c .before .kind-at .ensures in
-    answered (c .before .before .before) (node-rest _ _ _ (λ e. (r .0 .0 .0 .0 .0 .0 .0 .0 .0 .0 .0 .0 .1) (k ∙ e)) (λ e. (r .0 .0 .0 .0 .0 .0 .0 .0 .0 .0 .0 .1) (k ∙ e)) (λ e. (r .0 .0 .0 .0 .0 .0 .0 .0 .0 .0 .1) (k ∙ e)) (λ e. (r .0 .0 .0 .0 .0 .0 .0 .0 .0 .1) (k ∙ e)) (λ e. (r .0 .0 .0 .0 .0 .0 .0 .0 .1) (k ∙ e)) (λ e. (r .0 .0 .0 .0 .0 .0 .0 .1) (k ∙ e)) (λ e. (r .0 .0 .0 .0 .0 .0 .1) (k ∙ e)) (λ e. (r .0 .0 .0 .0 .0 .1) (k ∙ e)) (λ e. (r .0 .0 .0 .0 .1) (k ∙ e)) (λ e. (r .0 .0 .0 .1) (k ∙ e)) (λ e. (r .0 .0 .1) (k ∙ e)) (λ e. (r .0 .1) (k ∙ e)) (λ e. (r .1) (k ∙ e)))
+    answered (c .before .before .before) (node-rest _ _ _ (λ e. (r .0 .0 .0 .0 .0 .0 .0 .0 .0 .0 .0 .0 .0 .1) (k ∙ e)) (λ e. (r .0 .0 .0 .0 .0 .0 .0 .0 .0 .0 .0 .0 .1) (k ∙ e)) (λ e. (r .0 .0 .0 .0 .0 .0 .0 .0 .0 .0 .0 .1) (k ∙ e)) (λ e. (r .0 .0 .0 .0 .0 .0 .0 .0 .0 .0 .1) (k ∙ e)) (λ e. (r .0 .0 .0 .0 .0 .0 .0 .0 .0 .1) (k ∙ e)) (λ e. (r .0 .0 .0 .0 .0 .0 .0 .0 .1) (k ∙ e)) (λ e. (r .0 .0 .0 .0 .0 .0 .0 .1) (k ∙ e)) (λ e. (r .0 .0 .0 .0 .0 .0 .1) (k ∙ e)) (λ e. (r .0 .0 .0 .0 .0 .1) (k ∙ e)) (λ e. (r .0 .0 .0 .0 .1) (k ∙ e)) (λ e. (r .0 .0 .0 .1) (k ∙ e)) (λ e. (r .0 .0 .1) (k ∙ e)) (λ e. (r .0 .1) (k ∙ e)) (λ e. (r .1) (k ∙ e)))
 
 pub times-at-spec : {M : Type 1} → statement M
 times-at-spec =
@@ -77,4 +80,5 @@ times-at-spec =
     returns-11
     returns-12
     returns-13
-    returns-14)
+    returns-14
+    returns-15)
