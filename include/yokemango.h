@@ -20,9 +20,9 @@
 extern "C" {
 #endif
 
-#define YOKEMANGO_VERSION "1.3.0-pre"
+#define YOKEMANGO_VERSION "1.4.0-pre"
 #define YOKEMANGO_VERSION_MAJOR 1
-#define YOKEMANGO_VERSION_MINOR 3
+#define YOKEMANGO_VERSION_MINOR 4
 #define YOKEMANGO_VERSION_PATCH 0
 
 /* ---- limits */
@@ -223,6 +223,17 @@ size_t yokemango_rows_len(const uint32_t *report, size_t report_len, size_t k);
 
 /* Word i of them, or YOKEMANGO_NONE past their end and for 17. */
 uint64_t yokemango_rows_word(const uint32_t *report, size_t report_len, size_t k, size_t i);
+
+/* ---- readings in signed hundredths, as 1250 for 12.50 and -325 for -3.25
+
+   Events, a rule's constants and reports have a reading as a word, with 2,147,483,648 added, so that words stand in the order of
+   the readings. Each word is one reading's and each reading one word's: nothing is refused, and nothing is lost. */
+
+/* The reading that a word stores. */
+int32_t yokemango_reading_of(uint32_t word);
+
+/* The word that stores a reading. */
+uint32_t yokemango_word_of(int32_t hundredths);
 
 /* ---- what a program calls, on a state that stays where it is */
 

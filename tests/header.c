@@ -63,7 +63,7 @@ static void refusals(const uint8_t *rule, size_t length)
     before = state;
     CHECK(answers(yokemango_start_in(&state, rule, length - 1), YOKEMANGO_REFUSED_LENGTH, 0, 0, 0) && same_state());
     memcpy(other, rule, length);
-    other[12 + 4 * 2] = 15;
+    other[12 + 4 * 2] = 16;
     CHECK(answers(yokemango_start_in(&state, other, length), YOKEMANGO_REFUSED_NODE, 2, 0, 0) && same_state());
     CHECK(answers(yokemango_check(other, length), YOKEMANGO_REFUSED_NODE, 2, 0, 0));
 
@@ -287,6 +287,19 @@ static void images(const uint8_t *rule, size_t length)
     CHECK(taken.number == 0 && taken.words == 7 && memcmp(report, expected, sizeof expected) == 0);
 }
 
+/* Readings at the edges, each word's and back. */
+static void readings(void)
+{
+    static const struct {
+        int32_t reading;
+        uint32_t word;
+    } edges[] = {{INT32_MIN, 0}, {INT32_MIN + 1, 1}, {-325, 2147483323u}, {-1, 2147483647u}, {0, 2147483648u}, {250, 2147483898u}, {INT32_MAX, UINT32_MAX}};
+    for (size_t k = 0; k < sizeof edges / sizeof *edges; k++) {
+        CHECK(yokemango_word_of(edges[k].reading) == edges[k].word);
+        CHECK(yokemango_reading_of(edges[k].word) == edges[k].reading);
+    }
+}
+
 int main(int argc, char **argv)
 {
     uint8_t rule[YOKEMANGO_MAX_RULE_BYTES];
@@ -303,6 +316,7 @@ int main(int argc, char **argv)
     notices(rule, length);
     notices_of_next();
     images(rule, length);
+    readings();
     printf("%u checks of the header\n", checks);
     return 0;
 }

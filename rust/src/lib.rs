@@ -36,6 +36,8 @@
 //! # }
 //! ```
 //!
+//! Moisture and temperature are readings in signed hundredths, which words store: [`word_of`] and [`reading_of`].
+//!
 //! For a battery change a state is saved to words, an image, and read in again: [`State::save`] and [`State::restore`].
 //!
 //! It needs no heap and no operating system. A state is 13,220 bytes; the longest report is 4,326 words, the longest image 3,816.
@@ -51,12 +53,14 @@ extern crate std;
 
 mod event;
 mod library;
+mod reading;
 mod refusal;
 mod report;
 mod rule;
 mod state;
 
 pub use event::{Event, Unfit};
+pub use reading::{reading_of, word_of};
 pub use refusal::Refusal;
 pub use report::{Point, Points, Report, Rows};
 pub use rule::Rule;

@@ -172,6 +172,8 @@ extern "C" {
         count: *mut u32,
     ) -> Restored;
     fn yokemango_check_report(report: *const u32, report_len: usize) -> u32;
+    fn yokemango_reading_of(word: u32) -> i32;
+    fn yokemango_word_of(hundredths: i32) -> u32;
 }
 
 // The functions ask nothing of bytes, words or numbers, and keep no address: any slice may be lent to any of them, and what is
@@ -319,4 +321,12 @@ pub(crate) fn words(state: &State) -> &[u32; STATE_WORDS] {
 
 pub(crate) fn of_words(words: &[u32; STATE_WORDS]) -> State {
     unsafe { core::mem::transmute(*words) }
+}
+
+pub(crate) fn reading_of(word: u32) -> i32 {
+    unsafe { yokemango_reading_of(word) }
+}
+
+pub(crate) fn word_of(hundredths: i32) -> u32 {
+    unsafe { yokemango_word_of(hundredths) }
 }

@@ -17,7 +17,7 @@ impl<'a> Rule<'a> {
     ///
     /// let mut file = *include_bytes!("../../examples/leak.rule");
     /// assert!(Rule::check(&file).is_ok());
-    /// file[12] = 15;
+    /// file[12] = 16;
     /// assert_eq!(Rule::check(&file), Err(Refusal::Node { node: 0 }));
     /// assert_eq!(Rule::check(&file[..11]), Err(Refusal::Length));
     /// ```

@@ -16,6 +16,7 @@ use rulefile::Checked;
 use rulefile::check;
 ghost use mathlib.Core.Path.{_≡_};
 ghost use Rattle.meaning.specs.RuleFile.{checking};
+ghost use Rattle.meaning.specs.Readings.{wordOf, readingOf};
 ghost use Rattle.meaning.specs.Keeper.{event as eventOf, notice};
 ghost use Rattle.rulefile.specs.Checked.{answerOf};
 ghost use Rattle.yokemango.specs.Parts.{partsOf};
@@ -436,4 +437,20 @@ pub extern "C" fn yokemango_restore(
     *count = read.count;
     let answer = read.answer;
     told_read(answer)
+}
+
+// The reading that a word stores, in signed hundredths.
+#[no_mangle]
+pub extern "C" fn yokemango_reading_of(word: u32) -> i32
+    ensures { λ h. ⌜ h ≡ readingOf word ⌝ }
+{
+    readings::reading_of(word)
+}
+
+// The word that stores a reading.
+#[no_mangle]
+pub extern "C" fn yokemango_word_of(hundredths: i32) -> u32
+    ensures { λ w. ⌜ w ≡ wordOf hundredths ⌝ }
+{
+    readings::word_of(hundredths)
 }
