@@ -1,6 +1,6 @@
 #!/usr/bin/env python3
-"""A plain evaluator of 01, of the clock notices of request 101, of the looking up of request 102, of the order of request 103 and of the
-images of request 104, written from their text alone: it holds the whole log and works every answer out from the definitions.
+"""A plain evaluator of 01, of the clock notices of request 101, of the looking up of request 102, of the order of request 103, of the
+images of request 104 and of the shifted comparison of request 105, written from their text alone: it holds the whole log and works every answer out from the definitions.
 
     plain.py < INPUT     the listing of a rule and its events
     plain.py FILE.in ..  compares the listing of each FILE.in with FILE.out
@@ -10,9 +10,11 @@ import struct
 import sys
 
 LONGEST, MOST_ROWS, MOST_OPEN, MOST_KEPT, MOST_POINTS = 604_800, 32, 32, 512, 10_000_000
-ATOM, AND, ANDNOT, KEEP, OR, EXISTS, PREVIOUS, NEXT, SINCE, NOTSINCE, UNTIL, NOTUNTIL, ONCE, EVENTUALLY = range(1, 15)
+ATOM, AND, ANDNOT, KEEP, OR, EXISTS, PREVIOUS, NEXT, SINCE, NOTSINCE, UNTIL, NOTUNTIL, ONCE, EVENTUALLY, SHIFTED = range(1, 16)
 FUTURE = (UNTIL, NOTUNTIL, EVENTUALLY)
 PAST = (SINCE, NOTSINCE, ONCE)
+COMPARING = (KEEP, SHIFTED)
+WINDOWED = range(PREVIOUS, EVENTUALLY + 1)
 
 
 class Node:
@@ -48,7 +50,7 @@ def check(data):
     rule = Rule(data)
     for x, n in enumerate(rule.nodes):
         k, w = n.kind, n.words
-        if not 1 <= k <= 14:
+        if not 1 <= k <= 15:
             return 4, x
         if k == ATOM:
             if n.left >= relations or n.right:
@@ -57,19 +59,19 @@ def check(data):
         else:
             if any(c >= x for c in n.children):
                 return 4, x
-            terms = 2 if k == KEEP else 0
-            if k == KEEP and n.right > 3 or k in (EXISTS, PREVIOUS, NEXT, ONCE, EVENTUALLY) and n.right:
+            terms = 2 if k in COMPARING else 0
+            if k == KEEP and n.right > 3 or k in (EXISTS, PREVIOUS, NEXT, ONCE, EVENTUALLY, SHIFTED) and n.right:
                 return 4, x
-        used = terms if k in (ATOM, KEEP) else 1 if k == EXISTS else 2 if k >= PREVIOUS else 0
+        used = 3 if k == SHIFTED else terms if k in (ATOM, KEEP) else 1 if k == EXISTS else 2 if k in WINDOWED else 0
         if n.mask >> terms or any(w[used:]) or any(w[j] > 3 and not n.mask >> j & 1 for j in range(terms)) or k == EXISTS and w[0] > 3:
             return 4, x
-        if k >= PREVIOUS:
+        if k in WINDOWED:
             c, d = w[0], w[1]
             if (c >= LONGEST if d == 0 else not c < d <= LONGEST) or k in FUTURE and d == 0:
                 return 5, x
         f = [rule.free[c] for c in n.children]
-        variables = {v for t, v in rule.terms(x) if t == "v"} if k in (ATOM, KEEP) else set()
-        if k == ANDNOT and not f[1] <= f[0] or k == KEEP and not variables <= f[0] or k == OR and f[0] != f[1] or k == EXISTS and w[0] not in f[0] \
+        variables = {v for t, v in rule.terms(x) if t == "v"} if k == ATOM or k in COMPARING else set()
+        if k == ANDNOT and not f[1] <= f[0] or k in COMPARING and not variables <= f[0] or k == OR and f[0] != f[1] or k == EXISTS and w[0] not in f[0] \
                 or k in (SINCE, NOTSINCE, UNTIL, NOTUNTIL) and not f[0] <= f[1]:
             return 6, x
         rule.free.append(variables if k == ATOM else f[0] | f[1] if k == AND else f[0] - {w[0]} if k == EXISTS else f[1] if k in (SINCE, NOTSINCE, UNTIL, NOTUNTIL) else f[0])
@@ -87,6 +89,11 @@ def inside(n, t):
 
 def compare(how, a, b):
     return (a == b, a != b, a < b, a >= b)[how]
+
+
+def signed(word):
+    """The number of which a word is the two's complement."""
+    return word - 2 ** 32 if word >= 2 ** 31 else word
 
 
 class Log:
@@ -125,9 +132,11 @@ class Log:
                         out.add(frozenset(both.items()))
         elif k == ANDNOT:
             out = {u for u in self.vals(n.left, i) if not self.has(n.right, i, u)}
-        elif k == KEEP:
-            s, t = rule.terms(x)
-            out = {u for u in self.vals(n.left, i) if compare(n.right, *(dict(u)[y[1]] if y[0] == "v" else y[1] for y in (s, t)))}
+        elif k in COMPARING:
+            for u in self.vals(n.left, i):
+                first, second = (dict(u)[y[1]] if y[0] == "v" else y[1] for y in rule.terms(x))
+                if first + signed(n.words[2]) < second if k == SHIFTED else compare(n.right, first, second):
+                    out.add(u)
         elif k == OR:
             out = self.vals(n.left, i) | self.vals(n.right, i)
         elif k == EXISTS:

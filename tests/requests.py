@@ -3,10 +3,10 @@
 
     requests.py FILE.jsonl ..
 
-A line is a case: a rule in hex, with the reach and free variables that checking answers, or its refusal; and calls, each an event's words
-(`take`) or a notice's time (`notice`) with a report buffer of `room` words. Then come the `words` written and the `report`, or the `number` and
-`place` of a refusal, and the figures `kept` and `open` after the call. From request 104 on `image` is the image after the last call. Exits
-with 1 on any difference.
+A line is a case: a rule in hex, with the reach and free variables that checking answers (`check`), or its refusal (`refused`), the other of
+the two null or left out; and calls, each an event's words (`take`) or a notice's time (`notice`) with a report buffer of `room` words. Then
+come the `words` written and the `report`, or the `number` and `place` of a refusal, and the figures `kept` and `open` after the call. From
+request 104 on `image` is the image after the last call. Exits with 1 on any difference.
 """
 import collections
 import json
@@ -43,7 +43,8 @@ def run(where, case, met):
     met["cases"] += 1
     file = bytes.fromhex(case["rule"])
     rule = plain.check(file)
-    expected = {key: case[key] for key in ("check", "refused") if key in case}
+    met["rule", rule[0] if isinstance(rule, tuple) else 0] += 1
+    expected = {key: case[key] for key in ("check", "refused") if case.get(key) is not None}
     if checked(rule) != expected:
         yield f"{where}: checking answers {checked(rule)} for {expected}"
         return
@@ -76,8 +77,8 @@ def main():
                 for difference in run(f"{name}, line {number}", json.loads(line), met):
                     print(difference)
                     differences += 1
-        refusals = {kind: ", ".join(f"{met[kind, n]} by {n}" for n in range(1, 17) if met[kind, n]) for kind in ("take", "notice")}
-        print(f"{name}: {met['cases']} cases; {met['take']} events, refused {refusals['take'] or 'none'}; {met['notice']} notices, refused {refusals['notice'] or 'none'}; {met['images']} images of {met['image words']} words")
+        refusals = {kind: ", ".join(f"{met[kind, n]} by {n}" for n in range(1, 17) if met[kind, n]) for kind in ("rule", "take", "notice")}
+        print(f"{name}: {met['cases']} cases, rules refused {refusals['rule'] or 'none'}; {met['take']} events, refused {refusals['take'] or 'none'}; {met['notice']} notices, refused {refusals['notice'] or 'none'}; {met['images']} images of {met['image words']} words")
     print(f"{differences} differ")
     sys.exit(differences > 0)
 
