@@ -14,6 +14,10 @@ pub enum Aim {
     Open,
 }
 
+// Values at the ends of what a word holds, and around that of the reading 0.
+const EDGES: [u32; 8] = [0, 1, 7, ZERO - 1, ZERO, ZERO + 1, u32::MAX - 1, u32::MAX];
+const ZERO: u32 = 1 << 31;
+
 // The choices that hold for a whole list.
 pub struct Draw {
     pub g: Random,
@@ -37,7 +41,7 @@ impl Draw {
         let arities = (0..relations).map(|_| g.pick(arities)).collect();
         let few = g.from(1, 4);
         let values = match aim {
-            Aim::Any | Aim::Open if g.one_in(3) => (0..few).map(|_| g.pick(&[0, 1, 7, 0x8000_0000, u32::MAX - 1, u32::MAX])).collect(),
+            Aim::Any | Aim::Open if g.one_in(3) => (0..few).map(|_| g.pick(&EDGES)).collect(),
             Aim::Any | Aim::Open => (0..few as u32).collect(),
             Aim::Rows | Aim::Kept | Aim::Raised => (0..40).collect(),
         };
@@ -94,9 +98,9 @@ impl Draw {
         let kinds: &[u8] = match self.aim {
             Aim::Raised if below == ATOM => &[EVENTUALLY],
             Aim::Raised if below == EVENTUALLY => &[ONCE, ONCE, ONCE, NEXT],
-            Aim::Open => &[KEEP, EXISTS, PREVIOUS, NEXT, NEXT, ONCE, EVENTUALLY, EVENTUALLY, EVENTUALLY],
-            Aim::Kept => &[KEEP, EXISTS, PREVIOUS, NEXT, ONCE, ONCE, ONCE, EVENTUALLY, EVENTUALLY],
-            _ => &[KEEP, EXISTS, PREVIOUS, NEXT, ONCE, EVENTUALLY],
+            Aim::Open => &[KEEP, SHIFTED, EXISTS, PREVIOUS, NEXT, NEXT, ONCE, EVENTUALLY, EVENTUALLY, EVENTUALLY],
+            Aim::Kept => &[KEEP, SHIFTED, EXISTS, PREVIOUS, NEXT, ONCE, ONCE, ONCE, EVENTUALLY, EVENTUALLY],
+            _ => &[KEEP, SHIFTED, EXISTS, PREVIOUS, NEXT, ONCE, EVENTUALLY],
         };
         let mut n = Node { kind: self.g.pick(kinds), left, right: 0, mask: 0, words: [0; 4] };
         match n.kind {
@@ -111,6 +115,21 @@ impl Draw {
                     }
                 }
             }
+            SHIFTED => {
+                // values that the terms may have
+                let mut met = [0; 2];
+                for k in 0..2 {
+                    met[k] = self.value(1);
+                    if variables.is_empty() || self.g.one_in(3) {
+                        met[k] = if self.g.one_in(3) { self.g.pick(&[0, ZERO, u32::MAX]) } else { met[k] };
+                        n.mask |= 1 << k;
+                        n.words[k] = met[k];
+                    } else {
+                        n.words[k] = self.g.pick(&variables);
+                    }
+                }
+                n.words[2] = self.shift(met);
+            }
             EXISTS if variables.is_empty() => {
                 n.kind = ONCE;
                 n.words = self.window(false);
@@ -119,6 +138,21 @@ impl Draw {
             _ => n.words = self.window(n.kind == EVENTUALLY),
         }
         n
+    }
+
+    // The k of a "keep-shifted": one that brings the first of these values to the second, one less or one more; one at an end of
+    // what a word holds; or a small one. As two's complement.
+    fn shift(&mut self, [first, second]: [u32; 2]) -> u32 {
+        let g = &mut self.g;
+        let k = match g.below(4) {
+            0 => g.pick(&[0, 1, -1, 250, -250, i32::MIN, i32::MIN + 1, i32::MAX - 1, i32::MAX]),
+            1 => g.below(9) as i32 - 4,
+            _ => {
+                let apart = second as i64 - first as i64 + g.below(3) as i64 - 1;
+                apart.clamp(i32::MIN as i64, i32::MAX as i64) as i32
+            }
+        };
+        k as u32
     }
 
     fn two_children(&mut self, a: (u8, [bool; 4]), b: (u8, [bool; 4])) -> Node {

@@ -598,7 +598,7 @@ fn other_rules(draw: &mut Draw, list: &mut List, image: &[u32]) {
     for _ in 0..4 {
         let mut bytes = whole.bytes();
         let at = draw.g.below(bytes.len());
-        bytes[at] = draw.g.pick(&[0, 1, 2, 4, 9, 14, 15, 255]);
+        bytes[at] = draw.g.pick(&[0, 1, 2, 4, 9, 14, 15, 16, 255]);
         let accepted = library::check(&bytes).0 == 0;
         let rule: Vec<u32> = bytes.chunks(4).map(word_of).collect();
         let fits = list.read_any(draw, &Parts { rule: rule.clone(), ..whole.clone() }.words());

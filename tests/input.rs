@@ -1,4 +1,4 @@
-// Rule files and events as 01 lays them out, and numbers to draw them by.
+// Rule files and events as 01 and request 105 lay them out, and numbers to draw them by.
 #![allow(dead_code)]
 use std::fmt;
 
@@ -16,9 +16,10 @@ pub const UNTIL: u8 = 11;
 pub const NOT_UNTIL: u8 = 12;
 pub const ONCE: u8 = 13;
 pub const EVENTUALLY: u8 = 14;
-pub const NAMES: [&str; 15] = [
+pub const SHIFTED: u8 = 15;
+pub const NAMES: [&str; 16] = [
     "", "atom", "and", "and-not", "keep", "or", "exists", "previous", "next", "since", "not-since", "until", "not-until",
-    "once", "eventually",
+    "once", "eventually", "keep-shifted",
 ];
 
 pub const LONGEST_WINDOW: u32 = 604_800;
@@ -45,7 +46,7 @@ impl Node {
     }
 
     pub fn has_window(&self) -> bool {
-        self.kind >= PREVIOUS
+        (PREVIOUS..=EVENTUALLY).contains(&self.kind)
     }
 
     pub fn children(&self) -> impl Iterator<Item = usize> {
@@ -77,11 +78,11 @@ pub struct Rule {
 }
 
 impl Rule {
-    // The terms of an atom or a "keep": a constant, or a variable's number.
+    // The terms of an atom, a "keep" or a "keep-shifted": a constant, or a variable's number.
     pub fn terms(&self, n: &Node) -> impl Iterator<Item = Term> {
         let count = match n.kind {
             ATOM => self.arities[n.left as usize] as usize,
-            KEEP => 2,
+            KEEP | SHIFTED => 2,
             _ => 0,
         };
         let (mask, words) = (n.mask, n.words);
@@ -127,6 +128,9 @@ impl fmt::Display for Rule {
                     Term::Constant(c) => write!(out, " {c}")?,
                     Term::Variable(v) => write!(out, " v{v}")?,
                 }
+            }
+            if n.kind == SHIFTED {
+                write!(out, " by {}", n.words[2] as i32)?;
             }
             if n.kind == EXISTS {
                 write!(out, " of v{}", n.words[0])?;

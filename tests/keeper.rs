@@ -1,6 +1,6 @@
-// The keeper of 01 and of requests 101, 103 and 104, which holds the whole log: Definition 2, "When a point is settled", "What is
-// kept", "Take an event", clock notices and images, each worked out as it is defined. Written from these texts alone; nothing
-// here is shared with the monitor.
+// The keeper of 01 and of requests 101, 103, 104 and 105, which holds the whole log: Definition 2, "When a point is settled", "What
+// is kept", "Take an event", clock notices, images and the shifted comparison, each worked out as it is defined. Written from these
+// texts alone; nothing here is shared with the monitor.
 #![allow(dead_code)]
 use crate::input::*;
 use std::cell::RefCell;
@@ -89,6 +89,13 @@ fn compares(how: u8, a: u32, b: u32) -> bool {
         2 => a < b,
         _ => a >= b,
     }
+}
+
+// Whether the first word and k, of which a word is the two's complement, are together less than the second, over whole numbers.
+fn shifted_less(first: u32, k: u32, second: u32) -> bool {
+    let below_zero = k >= 1 << 31;
+    let k = k as i64 - if below_zero { 1 << 32 } else { 0 };
+    first as i64 + k < second as i64
 }
 
 // The valuation of an atom's terms that a row's values give, if there is one.
@@ -245,14 +252,17 @@ impl<'m> Log<'m> {
                 us.iter().flat_map(|u| ws.iter().filter_map(move |w| joined(u, w))).collect()
             }
             AND_NOT => left(i).iter().filter(|u| !self.holds(n.right, i, u)).copied().collect(),
-            KEEP => {
+            KEEP | SHIFTED => {
                 let fits = |u: &Valuation| {
                     let word = |t| match t {
                         Term::Constant(c) => c,
                         Term::Variable(v) => u[v].unwrap(),
                     };
                     let words: Vec<u32> = self.meaning.rule.terms(n).map(word).collect();
-                    compares(n.right, words[0], words[1])
+                    match n.kind {
+                        SHIFTED => shifted_less(words[0], n.words[2], words[1]),
+                        _ => compares(n.right, words[0], words[1]),
+                    }
                 };
                 left(i).iter().filter(|u| fits(u)).copied().collect()
             }

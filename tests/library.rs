@@ -38,7 +38,7 @@ pub const NO_STATE: State = State {
 
 // Number 0: accepted. Otherwise the refusal.
 #[repr(C)]
-#[derive(Clone, Copy)]
+#[derive(Clone, Copy, PartialEq, Eq, Debug)]
 pub struct Checked {
     pub number: u32,
     pub place: u32,
@@ -184,12 +184,29 @@ extern "C" {
         values_len: usize,
         count: *mut u32,
     ) -> Told;
+    fn yokemango_reading_of(word: u32) -> i32;
+    fn yokemango_word_of(hundredths: i32) -> u32;
+}
+
+// What checking answers.
+pub fn checked(rule: &[u8]) -> Checked {
+    unsafe { yokemango_check(rule.as_ptr(), rule.len()) }
 }
 
 // The refusal's number, or 0, and its place.
 pub fn check(rule: &[u8]) -> (u32, u32) {
-    let checked = unsafe { yokemango_check(rule.as_ptr(), rule.len()) };
+    let checked = checked(rule);
     (checked.number, checked.place)
+}
+
+// The reading, in hundredths, that a word stores.
+pub fn reading_of(word: u32) -> i32 {
+    unsafe { yokemango_reading_of(word) }
+}
+
+// The word that stores a reading.
+pub fn word_of(hundredths: i32) -> u32 {
+    unsafe { yokemango_word_of(hundredths) }
 }
 
 pub fn start(rule: &[u8]) -> Started {

@@ -16,6 +16,7 @@ use std::process::exit;
 // ---- JSON: what a line of the files has
 
 enum Json {
+    Null,
     Number(u32),
     Text(String),
     List(Vec<Json>),
@@ -23,9 +24,10 @@ enum Json {
 }
 
 impl Json {
+    // What stands under a name; null is as though it were left out.
     fn get(&self, name: &str) -> Option<&Json> {
         let Json::Object(fields) = self else { panic!("no object where {name} is looked for") };
-        fields.iter().find(|f| f.0 == name).map(|f| &f.1)
+        fields.iter().find(|f| f.0 == name).map(|f| &f.1).filter(|value| !matches!(value, Json::Null))
     }
 
     fn number(&self) -> u32 {
@@ -103,6 +105,10 @@ impl Reader<'_> {
                 r.pass(b':');
                 (name, r.value())
             })),
+            b'n' => {
+                b"null".iter().for_each(|c| self.pass(*c));
+                Json::Null
+            }
             _ => Json::Number(self.until(b",]} ").parse().expect("a number")),
         }
     }
@@ -121,6 +127,7 @@ struct Answer {
 #[derive(Default)]
 struct Tally {
     cases: usize,
+    rules_refused: usize,
     events: usize,
     notices: usize,
     refusals: usize,
@@ -187,6 +194,7 @@ fn run(place: &str, case: &Json, tally: &mut Tally) {
         if is != should {
             differ(place, "start", &is, &should);
         }
+        tally.rules_refused += 1;
         return;
     }
     let should = case.get("check").expect("what checking answers").numbers();
@@ -261,6 +269,6 @@ fn main() {
         for (k, line) in text.lines().enumerate() {
             run(&format!("line {} of {name}", k + 1), &Reader(line.as_bytes()).value(), &mut tally);
         }
-        println!("{name}: {} cases, {} events, {} notices, {} refusals, {} images of {} words; monitor and keeper give what is expected", tally.cases, tally.events, tally.notices, tally.refusals, tally.images, tally.image_words);
+        println!("{name}: {} cases, {} of them refused rules, {} events, {} notices, {} refusals, {} images of {} words; monitor and keeper give what is expected", tally.cases, tally.rules_refused, tally.events, tally.notices, tally.refusals, tally.images, tally.image_words);
     }
 }

@@ -1,40 +1,26 @@
-// Checks rule files with the proved code and with an evaluator written here from the text of "The rule file" and
-// "Check a rule", and compares number, place, reach and free variables. Accepted rules are made, damaged, cut and
-// lengthened, and random bytes are tried. It fails on any difference, and where a number or a kind was met too rarely.
+// Checks rule files with the proved code and with an evaluator written here from the text of "The rule file", "Check a rule"
+// and request 105, and compares number, place, reach and free variables. Accepted rules are made, damaged, cut and
+// lengthened, and random bytes are tried. Words are turned into readings and back. It fails on any difference, and where a
+// number, a kind or a damage to a "keep-shifted" was met too rarely.
 //
 //   rt staticlib yokemango
-//   rustc -O -L target/staticlib -o target/rules tests/rules.rs
+//   rustc -O --edition 2021 -L target/staticlib -o target/rules tests/rules.rs
 //   target/rules            compare
 //   target/rules --time     time one check of a rule of 32 nodes
+mod library;
+
+use library::{checked, reading_of, word_of, Checked};
 use std::collections::BTreeSet;
 use std::process::exit;
 use std::time::Instant;
-
-#[link(name = "yokemango", kind = "static")]
-extern "C" {
-    fn yokemango_check(rule: *const u8, len: usize) -> Answer;
-}
 
 const SEED: u64 = 0x0123_4567_89ab_cdef;
 const ROUNDS: usize = 60_000;
 const LEAST: u64 = 1_000;
 const LONGEST: u32 = 604_800;
 
-#[repr(C)]
-#[derive(Clone, Copy, PartialEq, Eq, Debug)]
-struct Answer {
-    number: u32,
-    place: u32,
-    reach: u32,
-    free: u32,
-}
-
-fn refuse(number: u32, place: usize) -> Answer {
-    Answer { number, place: place as u32, reach: 0, free: 0 }
-}
-
-fn proved(rule: &[u8]) -> Answer {
-    unsafe { yokemango_check(rule.as_ptr(), rule.len()) }
+fn refuse(number: u32, place: usize) -> Checked {
+    Checked { number, place: place as u32, reach: 0, free: 0 }
 }
 
 // ---- the evaluator
@@ -70,7 +56,7 @@ fn children(r: &Row) -> Vec<usize> {
 fn terms(r: &Row, arities: &[u8]) -> usize {
     match r.kind {
         1 => arities[r.left as usize] as usize,
-        4 => 2,
+        4 | 15 => 2,
         _ => 0,
     }
 }
@@ -81,7 +67,7 @@ fn variables(r: &Row, arities: &[u8]) -> BTreeSet<u32> {
 
 // Refusal 4.
 fn misshapen(r: &Row, x: usize, relations: u8, arities: &[u8]) -> bool {
-    if r.kind < 1 || r.kind > 14 {
+    if r.kind < 1 || r.kind > 15 {
         return true;
     }
     if r.kind == 1 && r.left >= relations {
@@ -106,6 +92,8 @@ fn misshapen(r: &Row, x: usize, relations: u8, arities: &[u8]) -> bool {
         1 | 4 => terms,
         6 => 1,
         7..=14 => 2,
+        // the terms and k, of which nothing is asked
+        15 => 3,
         _ => 0,
     };
     if r.kind == 6 && r.words[0] > 3 {
@@ -116,7 +104,7 @@ fn misshapen(r: &Row, x: usize, relations: u8, arities: &[u8]) -> bool {
 
 // Refusal 5.
 fn window_out(r: &Row) -> bool {
-    if r.kind < 7 {
+    if !(7..=14).contains(&r.kind) {
         return false;
     }
     let (c, d) = (r.words[0], r.words[1]);
@@ -132,7 +120,7 @@ fn reach_below(rows: &[Row], x: usize) -> u32 {
     if [11, 12, 14].contains(&r.kind) { r.words[1] + below } else { below }
 }
 
-fn expected(rule: &[u8]) -> Answer {
+fn expected(rule: &[u8]) -> Checked {
     if rule.len() < 12 {
         return refuse(1, 0);
     }
@@ -162,7 +150,7 @@ fn expected(rule: &[u8]) -> Answer {
             1 => (true, variables(r, arities)),
             2 => (true, &of(r.left) | &of(r.right)),
             3 => (of(r.right).is_subset(&of(r.left)), of(r.left)),
-            4 => (variables(r, arities).is_subset(&of(r.left)), of(r.left)),
+            4 | 15 => (variables(r, arities).is_subset(&of(r.left)), of(r.left)),
             5 => (of(r.left) == of(r.right), of(r.left)),
             6 => {
                 let mut rest = of(r.left);
@@ -186,7 +174,7 @@ fn expected(rule: &[u8]) -> Answer {
         return refuse(7, x);
     }
     let mask = free[nodes - 1].iter().map(|v| 1 << v).sum();
-    Answer { number: 0, place: 0, reach: reach_below(&rows, nodes - 1), free: mask }
+    Checked { number: 0, place: 0, reach: reach_below(&rows, nodes - 1), free: mask }
 }
 
 // ---- the generator
@@ -265,23 +253,30 @@ fn atom(g: &mut Random, rule: &Rule) -> Row {
     r
 }
 
+// Words for a constant or for k: at the ends of what a word holds, unsigned and as two's complement, and small ones.
+const ANY_WORD: [u32; 12] = [0, 1, 2, 4, 250, 250u32.wrapping_neg(), 1 << 31, (1 << 31) - 1, (1 << 31) + 1, u32::MAX, u32::MAX - 1, LONGEST + 1];
+
 fn one_child(g: &mut Random, left: u8, free: &BTreeSet<u32>) -> Row {
     let vars: Vec<u32> = free.iter().copied().collect();
     let mut r = Row { kind: 0, left, right: 0, mask: 0, words: [0; 4] };
-    r.kind = g.pick(&[4, 4, 6, 7, 8, 13, 14]);
+    r.kind = g.pick(&[4, 4, 6, 7, 8, 13, 14, 15, 15]);
     if r.kind == 6 && vars.is_empty() {
         r.kind = 4;
     }
     match r.kind {
-        4 => {
-            r.right = g.below(4) as u8;
+        4 | 15 => {
             for k in 0..2 {
                 if vars.is_empty() || g.one_in(2) {
                     r.mask |= 1 << k;
-                    r.words[k] = g.next() as u32;
+                    r.words[k] = if g.one_in(2) { g.next() as u32 } else { g.pick(&ANY_WORD) };
                 } else {
                     r.words[k] = g.pick(&vars);
                 }
+            }
+            if r.kind == 4 {
+                r.right = g.below(4) as u8;
+            } else {
+                r.words[2] = if g.one_in(4) { g.next() as u32 } else { g.pick(&ANY_WORD) };
             }
         }
         6 => r.words[0] = g.pick(&vars),
@@ -348,6 +343,40 @@ fn accepted(g: &mut Random) -> Rule {
     rule
 }
 
+// What may be done to a node of kind 15, one thing at a time; the last two leave it in shape.
+const DAMAGES: [&str; 9] = ["kind 14", "kind 16", "a right", "a mask bit above 1", "a word 3", "variable 4", "a variable above", "any word 2", "two constants"];
+
+// Damages a node of kind 15, where there is one: which of the damages it was.
+fn damage_shifted(g: &mut Random, b: &mut [u8]) -> Option<usize> {
+    let nodes = b[2] as usize;
+    let shifted: Vec<usize> = (0..nodes).filter(|x| b[12 + 4 * x] == 15).collect();
+    if shifted.is_empty() {
+        return None;
+    }
+    let x = g.pick(&shifted);
+    let (head, body) = (12 + 4 * x, 12 + 4 * nodes + 16 * x);
+    let mut put = |k: usize, w: u32| b[body + 4 * k..body + 4 * k + 4].copy_from_slice(&w.to_le_bytes());
+    let (term, any) = (g.below(2), g.next() as u32);
+    let how = g.below(DAMAGES.len());
+    match how {
+        0 => b[head] = 14,
+        1 => b[head] = 16,
+        2 => b[head + 2] = g.pick(&[1, 2, 3, 4, x as u8, 255]),
+        3 => b[head + 3] |= 4 << g.below(6),
+        4 => put(3, g.pick(&[1, 1 << 31, u32::MAX, any | 1])),
+        5 | 6 => {
+            put(term, if how == 5 { 4 } else { any.max(5) });
+            b[head + 3] &= !(1 << term);
+        }
+        7 => put(2, any),
+        _ => {
+            put(0, any);
+            b[head + 3] = 3;
+        }
+    }
+    Some(how)
+}
+
 fn damage(g: &mut Random, b: &mut [u8]) {
     let nodes = b[2] as usize;
     if b.len() != 12 + 20 * nodes || nodes == 0 {
@@ -361,7 +390,7 @@ fn damage(g: &mut Random, b: &mut [u8]) {
     let window = 12 + 4 * nodes + 16 * x;
     match g.below(16) {
         0 => b[g.below(12)] = g.pick(&[0, 1, 2, 4, 5, 8, 9, 32, 33, 255]),
-        1 => b[head] = g.below(16) as u8,
+        1 => b[head] = g.below(18) as u8,
         2 | 3 => b[head + 1] = g.below(nodes + 1) as u8,
         4 | 5 => b[head + 2] = g.below(nodes + 1) as u8,
         6 => b[head + 1 + g.below(2)] = x as u8,
@@ -401,13 +430,15 @@ fn damage(g: &mut Random, b: &mut [u8]) {
 struct Tally {
     files: u64,
     numbers: [u64; 8],
-    kinds: [u64; 15],
+    kinds: [u64; 16],
+    damages: [u64; DAMAGES.len()],
+    words: u64,
     differences: u64,
 }
 
 impl Tally {
-    fn compare(&mut self, rule: &[u8]) -> Answer {
-        let (is, should) = (proved(rule), expected(rule));
+    fn compare(&mut self, rule: &[u8]) -> Checked {
+        let (is, should) = (checked(rule), expected(rule));
         if is != should {
             self.differences += 1;
             if self.differences <= 5 {
@@ -465,7 +496,97 @@ fn limits(t: &mut Tally) {
     t.is("a child equal to the node", &one, 4, 1);
     let deep = chain();
     t.is("a chain of 32", &deep, 0, 0);
-    assert_eq!(expected(&deep), Answer { number: 0, place: 0, reach: 31 * LONGEST, free: 15 });
+    assert_eq!(expected(&deep), Checked { number: 0, place: 0, reach: 31 * LONGEST, free: 15 });
+}
+
+// An atom of the relation's only variable and a node of kind 15 above it.
+fn shifted_over_atom(right: u8, mask: u8, words: [u32; 4]) -> Vec<u8> {
+    let leaf = Row { kind: 1, left: 0, right: 0, mask: 0, words: [0; 4] };
+    let top = Row { kind: 15, left: 0, right, mask, words };
+    Rule { relations: 1, arities: [1, 0, 0, 0, 0, 0, 0, 0], rows: vec![leaf, top] }.bytes()
+}
+
+// Kind 15 at its edges.
+fn shifted(t: &mut Tally) {
+    for k in [0, 1, 250, 0x7fff_ffff, 0x8000_0000, 0xffff_ffff, 250u32.wrapping_neg(), LONGEST, LONGEST + 1] {
+        t.is("any word 2", &shifted_over_atom(0, 0, [0, 0, k, 0]), 0, 0);
+        t.is("the same with two constants", &shifted_over_atom(0, 3, [u32::MAX, 0, k, 0]), 0, 0);
+        t.is("a word 2 of kind 4", &{
+            let mut keep = shifted_over_atom(0, 0, [0, 0, k, 0]);
+            keep[12 + 4] = 4;
+            keep
+        }, if k == 0 { 0 } else { 4 }, if k == 0 { 0 } else { 1 });
+    }
+    // constants that are no window: one that is empty, too long, or has no end and begins too late
+    for (c, d) in [(7, 7), (8, 7), (0, LONGEST + 1), (LONGEST, 0), (u32::MAX, u32::MAX)] {
+        t.is("constants that are no window", &shifted_over_atom(0, 3, [c, d, 5, 0]), 0, 0);
+    }
+    for bit in 2..8 {
+        for mask in 0..4 {
+            t.is("a mask bit above 1", &shifted_over_atom(0, mask | 1 << bit, [0; 4]), 4, 1);
+        }
+    }
+    for right in 1..=255 {
+        t.is("a right that isn't 0", &shifted_over_atom(right, 0, [0; 4]), 4, 1);
+    }
+    for k in 0..32 {
+        t.is("a word 3", &shifted_over_atom(0, 0, [0, 0, 0, 1 << k]), 4, 1);
+    }
+    for (mask, words, number) in [
+        (0, [0, 1, 0, 0], 6),
+        (0, [3, 0, 0, 0], 6),
+        (0, [0, 4, 0, 0], 4),
+        (0, [4, 0, 0, 0], 4),
+        (0, [u32::MAX, 0, 0, 0], 4),
+        (1, [4, 0, 0, 0], 0),
+        (1, [0, 4, 0, 0], 4),
+        (1, [4, 1, 0, 0], 6),
+        (2, [0, 4, 0, 0], 0),
+        (2, [4, 0, 0, 0], 4),
+        (2, [1, 4, 0, 0], 6),
+        (3, [4, u32::MAX, 0, 0], 0),
+        (4, [0, 1, 0, 0], 4),
+        (0, [0, 1, 0, 1], 4),
+    ] {
+        t.is("terms", &shifted_over_atom(0, mask, words), number, (number != 0) as u32);
+    }
+    let mut of_itself = shifted_over_atom(0, 0, [0; 4]);
+    of_itself[12 + 5] = 1;
+    t.is("a child equal to the node", &of_itself, 4, 1);
+    for kind in 16..=255 {
+        let mut unknown = shifted_over_atom(0, 0, [0; 4]);
+        unknown[12 + 4] = kind;
+        t.is("an unknown kind", &unknown, 4, 1);
+    }
+    // its reach and free variables are its child's
+    let mut rows = vec![Row { kind: 1, left: 0, right: 0, mask: 0, words: [1, 3, 0, 0] }, Row { kind: 14, left: 0, right: 0, mask: 0, words: [5, 61, 0, 0] }];
+    rows.push(Row { kind: 15, left: 1, right: 0, mask: 0, words: [3, 1, 250u32.wrapping_neg(), 0] });
+    let later = Rule { relations: 1, arities: [2, 0, 0, 0, 0, 0, 0, 0], rows }.bytes();
+    t.is("over eventually", &later, 0, 0);
+    assert_eq!(expected(&later), Checked { number: 0, place: 0, reach: 61, free: 10 });
+}
+
+// ---- readings: a word is its hundredths and 2147483648
+
+const ZERO: i64 = 1 << 31;
+const WORDS: u32 = 1 << 23;
+
+fn readings(t: &mut Tally) {
+    let edges = [0, 1, 2, ZERO - 250, ZERO - 1, ZERO, ZERO + 1, ZERO + 250, 2 * ZERO - 2, 2 * ZERO - 1];
+    // words all over, each once: the multiplier is odd
+    let all_over = (0..WORDS).map(|k| k.wrapping_mul(0x9e37_79b1));
+    for word in edges.into_iter().map(|w| w as u32).chain(all_over) {
+        let reading = word as i64 - ZERO;
+        // the word's bits are those of another reading too
+        let hundredths = word as i32;
+        let (is, back, other) = (reading_of(word), word_of(reading as i32), word_of(hundredths));
+        if is as i64 != reading || back != word || other as i64 != hundredths as i64 + ZERO || reading_of(other) != hundredths {
+            println!("word {word}: reading {is} for {reading}, and {back} back; hundredths {hundredths}: word {other}");
+            t.differences += 1;
+            return;
+        }
+        t.words += 1;
+    }
 }
 
 fn time() {
@@ -477,7 +598,7 @@ fn time() {
         let began = Instant::now();
         for _ in 0..turns {
             let rule = std::hint::black_box(&deep[..]);
-            sum += proved(rule).number as u64;
+            sum += checked(rule).number as u64;
         }
         best = best.min(began.elapsed().as_nanos() as f64 / turns as f64);
     }
@@ -490,8 +611,10 @@ fn main() {
         return;
     }
     let mut g = Random(SEED);
-    let mut t = Tally { files: 0, numbers: [0; 8], kinds: [0; 15], differences: 0 };
+    let mut t = Tally { files: 0, numbers: [0; 8], kinds: [0; 16], damages: [0; DAMAGES.len()], words: 0, differences: 0 };
     limits(&mut t);
+    shifted(&mut t);
+    readings(&mut t);
     for _ in 0..ROUNDS {
         let whole = accepted(&mut g).bytes();
         if t.compare(&whole).number != 0 {
@@ -504,6 +627,21 @@ fn main() {
                 damage(&mut g, &mut hurt);
             }
             t.compare(&hurt);
+        }
+        let mut hurt = whole.clone();
+        if let Some(how) = damage_shifted(&mut g, &mut hurt) {
+            t.damages[how] += 1;
+            let number = t.compare(&hurt).number;
+            // the two that leave it in shape are accepted; of the others 14 has a window, and words 2 and 3 that may be 0
+            let fits = match how {
+                0 => [0, 4, 5].contains(&number),
+                7 | 8 => number == 0,
+                _ => number == 4,
+            };
+            if !fits {
+                println!("a keep-shifted with {} is answered {number}: {hurt:?}", DAMAGES[how]);
+                t.differences += 1;
+            }
         }
         let mut other = whole.clone();
         match g.below(3) {
@@ -521,16 +659,19 @@ fn main() {
         }
         t.compare(&other);
     }
-    println!("files {}, differences {}", t.files, t.differences);
+    println!("files {}, words turned into readings {}, differences {}", t.files, t.words, t.differences);
     for (k, n) in t.numbers.iter().enumerate() {
         println!("number {k}: {n}");
     }
     for (k, n) in t.kinds.iter().enumerate().skip(1) {
         println!("kind {k} in accepted rules: {n}");
     }
-    let rare = t.numbers.iter().chain(&t.kinds[1..]).any(|n| *n < LEAST);
+    for (what, n) in DAMAGES.iter().zip(t.damages) {
+        println!("keep-shifted with {what}: {n}");
+    }
+    let rare = t.numbers.iter().chain(&t.kinds[1..]).chain(&t.damages).any(|n| *n < LEAST);
     if rare {
-        println!("a number or a kind was met fewer than {LEAST} times");
+        println!("a number, a kind or a damage was met fewer than {LEAST} times");
     }
     if t.differences > 0 || rare {
         exit(1);

@@ -47,8 +47,8 @@ struct Tally {
     takings: u64,
     taken: u64,
     refusals: [u64; 17],
-    points_with_rows: [u64; 15],
-    rows_of_kind: [u64; 15],
+    points_with_rows: [u64; NAMES.len()],
+    rows_of_kind: [u64; NAMES.len()],
     reports: u64,
     points: u64,
     rows: u64,
@@ -402,7 +402,7 @@ fn take_notice(draw: &mut Draw, list: &mut List, time: u32) {
 fn other_states(draw: &mut Draw, list: &mut List, time: u32) {
     let mut bytes = list.log.meaning.rule.bytes();
     let at = draw.g.below(bytes.len());
-    bytes[at] = draw.g.pick(&[0, 1, 2, 4, 9, 14, 15, 255]);
+    bytes[at] = draw.g.pick(&[0, 1, 2, 4, 9, 14, 15, 16, 255]);
     let started = library::start(&bytes);
     let refused = started.number != 0;
     if (started.number, started.place) != library::check(&bytes) || (refused && started.state != library::NO_STATE) {

@@ -1,5 +1,5 @@
 //! The cost of an event, side by side in one run and on the same input: this monitor; one written by hand for speed, general
-//! over the fourteen kinds, with nothing proved (compare/incremental.rs); and the desk's method, which evaluates the whole
+//! over the fifteen kinds, with nothing proved (compare/incremental.rs); and the desk's method, which evaluates the whole
 //! log again at each event. The last is given the best evaluator at hand, the second monitor run over the log from its first
 //! point, and is timed at the last event alone, since all of them together would take hours.
 //!

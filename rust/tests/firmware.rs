@@ -708,7 +708,7 @@ fn damaged_rules(run: &mut Run, g: &mut Random, rule: &[u8]) {
             let at = g.below(bytes.len());
             bytes[at] = match g.below(3) {
                 0 => bytes[at] ^ 1 << g.below(8),
-                1 => g.pick(&[0, 1, 2, 3, 4, 5, 9, 14, 15, 32, 33]),
+                1 => g.pick(&[0, 1, 2, 3, 4, 5, 9, 14, 15, 16, 32, 33]),
                 _ => g.next() as u8,
             };
         }

@@ -1,4 +1,4 @@
-//! A monitor as it is written by hand, for speed, with nothing proved: Vec, VecDeque and BTreeMap, general over the fourteen
+//! A monitor as it is written by hand, for speed, with nothing proved: Vec, VecDeque and BTreeMap, general over the fifteen
 //! kinds. It takes accepted rules, events in form and notices, has no limits, and gives the words of the report.
 use std::collections::{BTreeMap, VecDeque};
 
@@ -39,6 +39,7 @@ enum Op {
     And { left: usize, right: usize, shared: Mask, added: Mask },
     AndNot { left: usize, right: usize, cut: Mask },
     Keep { left: usize, how: u8, terms: [Term; 2] },
+    Shifted { left: usize, by: i32, terms: [Term; 2] },
     Or { left: usize, right: usize },
     Exists { left: usize },
     Previous { left: usize, window: Window },
@@ -307,7 +308,7 @@ impl Node {
         match &self.op {
             Op::And { left, right, .. } | Op::AndNot { left, right, .. } | Op::Or { left, right } => popped(below, Some(*left), *right).map(|(a, b)| (a.unwrap(), Some(b))),
             Op::Past { left: Some(left), right, .. } => popped(below, Some(left.node), *right).map(|(a, b)| (a.unwrap(), Some(b))),
-            Op::Past { left: None, right: left, .. } | Op::Keep { left, .. } | Op::Exists { left } => below[*left].out.pop_front().map(|a| (a, None)),
+            Op::Past { left: None, right: left, .. } | Op::Keep { left, .. } | Op::Shifted { left, .. } | Op::Exists { left } => below[*left].out.pop_front().map(|a| (a, None)),
             _ => None,
         }
     }
@@ -344,6 +345,8 @@ impl Node {
                 };
                 out.extend(a.iter().filter(fits));
             }
+            // the second is more than `by` above the first
+            (Op::Shifted { by, terms, .. }, _) => out.extend(a.iter().filter(|u| word(u, terms[1]) as i64 - word(u, terms[0]) as i64 > *by as i64)),
             _ => {
                 out.extend(a.iter().map(|u| cut(u, self.free)));
                 tidy(out);
@@ -401,6 +404,7 @@ impl Monitor {
                 9 | 10 => (Op::Past { left: lasting(head[0] == 10), right, window, since: Since::new(window) }, free(right)),
                 11 | 12 => (Op::Future { left: lasting(head[0] == 12), right, window, until: Until::default() }, free(right)),
                 13 => (Op::Past { left: None, right: left, window, since: Since::new(window) }, free(left)),
+                15 => (Op::Shifted { left, by: words[2] as i32, terms: [term(0), term(1)] }, free(left)),
                 _ => (Op::Future { left: None, right: left, window, until: Until::default() }, free(left)),
             };
             nodes.push(Node { op, free, settled: 0, out: VecDeque::new() });
