@@ -4,10 +4,12 @@ plain.py.
 
     definitions.py [CASES [SEED]]    default: 60 cases, seed 1
 
-Four times as many lists of rows, in order and not, are looked through too (#102). The checker itself computes each case, from the rule's bytes, the events' words and the notices' times to answers, reported points with
-their rows, the open and kept figures, the latest known time and the image of what is stored; a case that differs is refused. Rules of up to
-seven nodes, one in five damaged in a byte; lists of up to six events and notices, some of them to be refused; report buffers of 3 to 40
-words. Each image must be in form and be that of what is read in from it, and damaged in one way it must be out of form. Of crates/method and
+A quarter as many cases are of rules that begin with a keep-shifted (#105), and four times as many lists of rows, in order and not, are
+looked through too (#102). The checker itself computes each case, from the rule's bytes, the events' words and the notices' times to answers,
+reported points with their rows, the open and kept figures, the latest known time and the image of what is stored; a case that differs is
+refused. Rules of up to seven nodes, one in five damaged in a byte, and one in seven of those with a keep-shifted in that node; values of 0 to
+2, or at the ends of what a word holds; lists of up to six events and notices, some of them to be refused; report buffers of 3 to 40 words.
+Each image must be in form and be that of what is read in from it, and damaged in one way it must be out of form. Of crates/method and
 crates/image only the definitions are taken, without the proofs.
 """
 import collections
@@ -81,8 +83,13 @@ def numbers(ws):
     return "(" + " ∷ ".join([str(w) for w in ws] + ["[]"]) + ")"
 
 
-def rule_file(rng):
-    arities = [rng.randint(0, 2) for _ in range(rng.randint(1, 3))]
+# What a word holds at its ends, and around the reading 0.
+EDGES = (0, 1, 2 ** 31 - 1, 2 ** 31, 2 ** 31 + 1, 2 ** 32 - 2, 2 ** 32 - 1)
+
+
+def rule_file(rng, values, shifts):
+    """A rule's file and its relations' arities; constants are mostly among the values. One that shifts begins with a keep-shifted over an atom of two columns."""
+    arities = [2] if shifts else [rng.randint(0, 2) for _ in range(rng.randint(1, 3))]
     heads, bodies, free, pool = [], [], [], []
 
     def add(kind, left, right, mask, words, variables, used):
@@ -94,13 +101,29 @@ def rule_file(rng):
         pool.append(len(heads) - 1)
 
     def term(names):
-        return (0, rng.choice(sorted(names))) if names and rng.random() < 0.7 else (1, rng.randint(0, 2))
+        return (0, rng.choice(sorted(names))) if names and rng.random() < 0.7 else (1, rng.choice(values))
+
+    def shift(s, t):
+        """A k, as two's complement: one that brings a value of the first term to one of the second, one less or one more, or one that is small or at an end."""
+        first, second = (word if constant else rng.choice(values) for constant, word in (s, t))
+        k = second - first + rng.randint(-1, 1) if rng.random() < 0.6 else rng.choice((0, 1, -1, 2, -2, 250, -250, -2 ** 31, 2 ** 31 - 1))
+        return min(max(k, -2 ** 31), 2 ** 31 - 1) % 2 ** 32
 
     def window(kind):
         c = rng.randint(0, 4)
         return (c, 0) if kind not in plain.FUTURE and rng.random() < 0.3 else (c, c + rng.randint(1, 5))
 
-    limit = rng.randint(1, 5)
+    def shifted(a):
+        s = term(free[a])
+        # mostly another variable than the first
+        others = free[a] - {s[1]} if s[0] == 0 else free[a]
+        t = term(others) if rng.random() < 0.7 else rng.choice((s, (1, 0), (1, 2 ** 31), (1, 2 ** 32 - 1)))
+        add(15, a, 0, s[0] | t[0] << 1, (s[1], t[1], shift(s, t)), free[a], [a])
+
+    if shifts:
+        add(1, 0, 0, 0, (0, 1), (0, 1), [])
+        shifted(0)
+    limit = rng.randint(1, 3 if shifts else 5)
     while not pool or len(heads) < limit or len(pool) > 1:
         if not pool or (len(heads) < limit and rng.random() < 0.4):
             r = rng.randrange(len(arities))
@@ -115,10 +138,12 @@ def rule_file(rng):
                 union = free[a] | free[b] if kind == 2 else free[a] if kind in (3, 5) else free[b]
                 add(kind, a, b, 0, window(kind) if kind > 8 else (), union, [a, b])
             continue
-        a, kind = rng.choice(pool), rng.choice((4, 6, 7, 8, 13, 14))
+        a, kind = rng.choice(pool), rng.choice((4, 6, 7, 8, 13, 14, 15))
         if kind == 4:
             s, t = term(free[a]), term(free[a])
             add(4, a, rng.randint(0, 3), s[0] | t[0] << 1, (s[1], t[1]), free[a], [a])
+        elif kind == 15:
+            shifted(a)
         elif kind == 6:
             if free[a]:
                 x = rng.choice(sorted(free[a]))
@@ -126,8 +151,14 @@ def rule_file(rng):
         else:
             add(kind, a, 0, 0, window(kind), free[a], [a])
     data = bytearray(bytes([1, len(arities), len(heads), 0]) + bytes(arities + [0] * (8 - len(arities))) + b"".join(heads) + b"".join(bodies))
-    if rng.random() < 0.2:
-        data[rng.randrange(len(data))] = rng.choice((0, 1, 2, 3, 4, 9, 255))
+    of_kind_15 = [x for x, head in enumerate(heads) if head[0] == 15]
+    if of_kind_15 and rng.random() < 0.15:
+        # another kind, a right, a mask bit above 1, a term that is no variable or isn't free, a word 3
+        head, body = 12 + 4 * of_kind_15[0], 12 + 4 * len(heads) + 16 * of_kind_15[0]
+        at, value = rng.choice(((head, 14), (head, 16), (head + 2, 1), (head + 3, 4), (head + 3, 128), (body, 4), (body + 4, 3), (body + 12, 1), (body + 15, 128)))
+        data[at] = value
+    elif rng.random() < 0.2:
+        data[rng.randrange(len(data))] = rng.choice((0, 1, 2, 3, 4, 9, 15, 16, 255))
     return bytes(data), arities
 
 
@@ -136,10 +167,10 @@ def fed(taking):
     return f"notice {what}" if kind == "notice" else f"event {numbers(what)}"
 
 
-def event(rng, arities, now):
-    m = rng.choice((0, 1, 1, 2, 3))
+def event(rng, arities, values, rows, now):
+    m = rng.choice(rows)
     relations = [rng.randrange(len(arities)) for _ in range(m)]
-    rows = [[rng.randint(0, 2) for _ in range(arities[r])] + [0] * (4 - arities[r]) for r in relations]
+    rows = [[rng.choice(values) for _ in range(arities[r])] + [0] * (4 - arities[r]) for r in relations]
     words = [now, m] + relations + sum(rows, [])
     fault = rng.random()
     if fault < 0.04:
@@ -153,10 +184,11 @@ def event(rng, arities, now):
     return words
 
 
-def case(rng):
+def case(rng, shifts):
     """A rule's file, takings, each an event or a notice, and the words of their buffers. Notices are often at the end of a window that
     began with the last event, or a second before it; of a rule that waits for later points the last is often a notice past its reach."""
-    file, arities = rule_file(rng)
+    values = rng.sample(EDGES, 3) if rng.random() < (0.5 if shifts else 0.2) else range(3)
+    file, arities = rule_file(rng, values, shifts)
     rule = plain.check(file)
     ends = [] if isinstance(rule, tuple) else [n.words[1] for n in rule.nodes if n.kind in plain.FUTURE]
     now, last, takings = rng.randint(0, 3), 0, []
@@ -167,12 +199,12 @@ def case(rng):
             takings.append(("notice", max(0, late)))
             now = max(now, late)
         else:
-            takings.append(("event", event(rng, arities, now)))
+            takings.append(("event", event(rng, arities, values, (1, 3, 4) if shifts else (0, 1, 1, 2, 3), now)))
             last = now
             now += rng.choice((0, 1, 1, 2, 3, 6))
     if ends and rng.random() < 0.7:
         takings.append(("notice", now + rule.reach[-1]))
-    return file, takings, rng.choice((3, 12, 40, 40, 40))
+    return file, takings, 40 if shifts else rng.choice((3, 12, 40, 40, 40))
 
 
 def look_case(rng):
@@ -266,9 +298,10 @@ def image_definitions():
 
 def main():
     count, seed = (int(a) for a in (sys.argv[1:] + ["60", "1"][len(sys.argv) - 1:]))
-    rng, damage, met, text = random.Random(seed), random.Random(seed), collections.Counter(), HEAD
-    for k in range(count):
-        file, takings, room = case(rng)
+    rng, shifting, damage, met, text = random.Random(seed), random.Random(seed), random.Random(seed), collections.Counter(), HEAD
+    cases = count + count // 4
+    for k in range(cases):
+        file, takings, room = case(rng, False) if k < count else case(shifting, True)
         want, rule, image = expected(file, takings, room, met)
         text += f"\ncase-{k} : whole {room} (checking {numbers(file)}) {numbers(file)} ({' ∷ '.join([fed(t) for t in takings] + ['[]'])}) ≡ {numbers(want)}\n"
         text += f"unfolding {' '.join(OPENED)}\ncase-{k} = refl\n"
@@ -300,7 +333,7 @@ def main():
     wrong = sorted(set(re.findall(r"error: `((?:case|form|damaged|look)-\d+)`", run.stdout)), key=lambda c: (c.split("-")[0], int(c.split("-")[1])))
     for key in sorted(met, key=str):
         print(f"{key[0]} {key[1]}: {met[key]}", end="; ")
-    print(f"\n{count} rules with logs and images, and {4 * count} lists looked through, computed by the definitions, {len(wrong)} differ", *wrong)
+    print(f"\n{cases} rules with logs and images, and {4 * count} lists looked through, computed by the definitions, {len(wrong)} differ", *wrong)
     if run.returncode != 0:
         print("\n".join(line[:300] for line in run.stdout.split("\n") if "error" in line)[:4000])
         sys.exit(1)
