@@ -88,7 +88,7 @@ EDGES = (0, 1, 2 ** 31 - 1, 2 ** 31, 2 ** 31 + 1, 2 ** 32 - 2, 2 ** 32 - 1)
 
 
 def rule_file(rng, values, shifts):
-    """A rule's file and its relations' arities; constants are mostly among the values. One that shifts begins with a keep-shifted over an atom of two columns."""
+    """A rule's file and its relations' arities; constants are mostly among the values. One that shifts begins with a keep-shifted over an atom of two columns, often below an eventually."""
     arities = [2] if shifts else [rng.randint(0, 2) for _ in range(rng.randint(1, 3))]
     heads, bodies, free, pool = [], [], [], []
 
@@ -123,6 +123,8 @@ def rule_file(rng, values, shifts):
     if shifts:
         add(1, 0, 0, 0, (0, 1), (0, 1), [])
         shifted(0)
+        if rng.random() < 0.4:
+            add(14, 1, 0, 0, window(14), free[1], [1])
     limit = rng.randint(1, 3 if shifts else 5)
     while not pool or len(heads) < limit or len(pool) > 1:
         if not pool or (len(heads) < limit and rng.random() < 0.4):
