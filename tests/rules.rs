@@ -499,11 +499,17 @@ fn limits(t: &mut Tally) {
     assert_eq!(expected(&deep), Checked { number: 0, place: 0, reach: 31 * LONGEST, free: 15 });
 }
 
-// An atom of the relation's only variable and a node of kind 15 above it.
+// An atom of variable 0 and a node of kind 15 above it.
 fn shifted_over_atom(right: u8, mask: u8, words: [u32; 4]) -> Vec<u8> {
     let leaf = Row { kind: 1, left: 0, right: 0, mask: 0, words: [0; 4] };
     let top = Row { kind: 15, left: 0, right, mask, words };
     Rule { relations: 1, arities: [1, 0, 0, 0, 0, 0, 0, 0], rows: vec![leaf, top] }.bytes()
+}
+
+// The same with another kind.
+fn as_kind(kind: u8, mut rule: Vec<u8>) -> Vec<u8> {
+    rule[12 + 4] = kind;
+    rule
 }
 
 // Kind 15 at its edges.
@@ -511,13 +517,10 @@ fn shifted(t: &mut Tally) {
     for k in [0, 1, 250, 0x7fff_ffff, 0x8000_0000, 0xffff_ffff, 250u32.wrapping_neg(), LONGEST, LONGEST + 1] {
         t.is("any word 2", &shifted_over_atom(0, 0, [0, 0, k, 0]), 0, 0);
         t.is("the same with two constants", &shifted_over_atom(0, 3, [u32::MAX, 0, k, 0]), 0, 0);
-        t.is("a word 2 of kind 4", &{
-            let mut keep = shifted_over_atom(0, 0, [0, 0, k, 0]);
-            keep[12 + 4] = 4;
-            keep
-        }, if k == 0 { 0 } else { 4 }, if k == 0 { 0 } else { 1 });
+        let (number, place) = if k == 0 { (0, 0) } else { (4, 1) };
+        t.is("a word 2 of kind 4", &as_kind(4, shifted_over_atom(0, 0, [0, 0, k, 0])), number, place);
     }
-    // constants that are no window: one that is empty, too long, or has no end and begins too late
+    // an empty window, one that is too long, and one that has no end and begins too late
     for (c, d) in [(7, 7), (8, 7), (0, LONGEST + 1), (LONGEST, 0), (u32::MAX, u32::MAX)] {
         t.is("constants that are no window", &shifted_over_atom(0, 3, [c, d, 5, 0]), 0, 0);
     }
@@ -554,13 +557,14 @@ fn shifted(t: &mut Tally) {
     of_itself[12 + 5] = 1;
     t.is("a child equal to the node", &of_itself, 4, 1);
     for kind in 16..=255 {
-        let mut unknown = shifted_over_atom(0, 0, [0; 4]);
-        unknown[12 + 4] = kind;
-        t.is("an unknown kind", &unknown, 4, 1);
+        t.is("an unknown kind", &as_kind(kind, shifted_over_atom(0, 0, [0; 4])), 4, 1);
     }
     // its reach and free variables are its child's
-    let mut rows = vec![Row { kind: 1, left: 0, right: 0, mask: 0, words: [1, 3, 0, 0] }, Row { kind: 14, left: 0, right: 0, mask: 0, words: [5, 61, 0, 0] }];
-    rows.push(Row { kind: 15, left: 1, right: 0, mask: 0, words: [3, 1, 250u32.wrapping_neg(), 0] });
+    let rows = vec![
+        Row { kind: 1, left: 0, right: 0, mask: 0, words: [1, 3, 0, 0] },
+        Row { kind: 14, left: 0, right: 0, mask: 0, words: [5, 61, 0, 0] },
+        Row { kind: 15, left: 1, right: 0, mask: 0, words: [3, 1, 250u32.wrapping_neg(), 0] },
+    ];
     let later = Rule { relations: 1, arities: [2, 0, 0, 0, 0, 0, 0, 0], rows }.bytes();
     t.is("over eventually", &later, 0, 0);
     assert_eq!(expected(&later), Checked { number: 0, place: 0, reach: 61, free: 10 });
@@ -577,7 +581,7 @@ fn readings(t: &mut Tally) {
     let all_over = (0..WORDS).map(|k| k.wrapping_mul(0x9e37_79b1));
     for word in edges.into_iter().map(|w| w as u32).chain(all_over) {
         let reading = word as i64 - ZERO;
-        // the word's bits are those of another reading too
+        // the same bits, as hundredths
         let hundredths = word as i32;
         let (is, back, other) = (reading_of(word), word_of(reading as i32), word_of(hundredths));
         if is as i64 != reading || back != word || other as i64 != hundredths as i64 + ZERO || reading_of(other) != hundredths {
@@ -632,7 +636,7 @@ fn main() {
         if let Some(how) = damage_shifted(&mut g, &mut hurt) {
             t.damages[how] += 1;
             let number = t.compare(&hurt).number;
-            // the two that leave it in shape are accepted; of the others 14 has a window, and words 2 and 3 that may be 0
+            // as kind 14 it may be in shape, where mask and word 2 are 0, and its window may be out
             let fits = match how {
                 0 => [0, 4, 5].contains(&number),
                 7 | 8 => number == 0,
@@ -651,7 +655,7 @@ fn main() {
                 // random bytes behind sizes that are mostly right
                 other.truncate(12);
                 let nodes = other[2] as usize;
-                other.extend((0..20 * nodes).map(|_| if g.one_in(2) { 0 } else { g.next() as u8 % 16 }));
+                other.extend((0..20 * nodes).map(|_| if g.one_in(2) { 0 } else { g.next() as u8 % 17 }));
                 if g.one_in(8) {
                     other.iter_mut().for_each(|b| *b = g.next() as u8);
                 }
