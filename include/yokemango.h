@@ -253,10 +253,10 @@ static inline struct yokemango_checked yokemango_start_in(struct yokemango_state
 
    Stack of a call in bytes, by the nodes of the rule, measured:
      nodes                                        2 or 4        8       16       32
-     a usual event                                 9,600   10,168   11,896   12,472
-     an event that settles 32 points at once      61,872  155,624  156,200  156,776
-   A notice takes 16 bytes less, yokemango_start takes 13,552, yokemango_figures 1,384, yokemango_save 1,560 and
-   yokemango_restore 6,360. */
+     a usual event                                 9,584   10,152   11,880   12,456
+     an event that settles 32 points at once      61,856  155,608  156,184  156,760
+   A notice takes 16 bytes less, yokemango_start takes 13,544, yokemango_figures 1,376, yokemango_save 1,552 and
+   yokemango_restore 6,352. */
 static inline struct yokemango_taken yokemango_take_in(struct yokemango_state *state, const uint32_t *event, size_t event_len, uint32_t *report, size_t report_len)
 {
     return yokemango_take(
