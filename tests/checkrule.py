@@ -4,8 +4,8 @@
     rt check checkrule
     checkrule.py [--program PROGRAM] [--seed SEED] CASES
 
-CASES accepted rules of 1 to 32 nodes are generated, and each is run whole, damaged in one or two bytes or in a window, cut, and
-lengthened by a byte and by more. Before them come the empty file, a rule of 652 bytes and what it is at 651, 653, 654 and 2,000 bytes.
+CASES accepted rules of 1 to 32 nodes are generated, and each is run whole, damaged in one or two bytes, in a window or in a field of
+a keep-shifted, cut, and lengthened by a byte and by more. Before them come the empty file, a rule of 652 bytes and what it is at 651, 653, 654 and 2,000 bytes.
 The default program is target/bin/checkrule. Exits with 1 on any difference, or where an answer or a rule of 32 nodes was met less than
 once in 100 cases.
 """
@@ -41,7 +41,7 @@ def compare(program, data, met):
 def damaged(rng, file):
     data = bytearray(file)
     for _ in range(rng.randint(1, 2)):
-        data[rng.randrange(rng.choice((12, 12 + 4 * file[2], len(data))))] = rng.choice((0, 1, 2, 3, 4, 9, 15, rng.randrange(256)))
+        data[rng.randrange(rng.choice((12, 12 + 4 * file[2], len(data))))] = rng.choice((0, 1, 2, 3, 4, 9, 15, 16, rng.randrange(256)))
     return bytes(data)
 
 
@@ -58,6 +58,8 @@ def files(rng, tree, arities):
     yield file
     yield damaged(rng, file)
     yield rewindowed(rng, file)
+    if 15 in file[12:12 + 4 * file[2]:4]:
+        yield text.reshifted(rng, file)
     yield file[:rng.randrange(len(file))]
     yield file + b"\0"
     yield file + rng.randbytes(rng.choice((1, 20, 700)))
@@ -69,7 +71,7 @@ def main():
     parser.add_argument("--seed", type=int, default=1)
     parser.add_argument("cases", type=int)
     args = parser.parse_args()
-    rng, met, nodes = random.Random(args.seed), collections.Counter(), collections.Counter()
+    rng, met, nodes, shifts = random.Random(args.seed), collections.Counter(), collections.Counter(), 0
     most = (1, (), (0, [(0, 0)]))
     while text.size(most) < 32:
         most = 14, (most,), (0, 604_800)
@@ -81,9 +83,10 @@ def main():
         nodes[text.size(tree)] += 1
         for data in files(rng, tree, maker.arities):
             compare(args.program, data, met)
-    print(f"{sum(met.values())} rule files compared, {nodes[32]} rules of 32 nodes; no difference")
+            shifts += 15 in data[12:12 + 4 * data[2]:4] if len(data) > 12 else 0
+    print(f"{sum(met.values())} rule files compared, {nodes[32]} rules of 32 nodes, {shifts} files with keep-shifted; no difference")
     print("answers: " + ", ".join(f"{what} {n}" for what, n in sorted(met.items())))
-    wanted = [met["rule ok"], nodes[32]] + [met[f"refused {k}"] for k in range(1, 8)]
+    wanted = [met["rule ok"], nodes[32], shifts] + [met[f"refused {k}"] for k in range(1, 8)]
     if min(wanted) < args.cases // CASES_TO_A_MEETING:
         sys.exit("something was met too rarely")
 

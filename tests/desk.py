@@ -6,7 +6,7 @@
 
 Each case is a generated rule with a log, run from a text with events, from a rule and a log of lines, and as an input of the
 listing program with some rows that don't fit and an end that is no event, with --all and without, beside the lines that are
-made here from plain.py's answers. Then the limits that refuse an event, damaged rule files, pictures, progress, faults after
+made here from plain.py's answers; in half of the cases with readings, which texts and lines of a log have with a point. Then the limits that refuse an event, damaged rule files, pictures, progress, faults after
 which nothing may be printed, listing programs that fail, the words of all refusals, and every rule, log and report of
 docs/RULES.md and every `tools/rules run` of README.md; last, with programs that only seem to be those that tools/test calls,
 that it names a missing one and ends what it began. Exits with 1 on any difference, or where something was met too rarely.
@@ -67,6 +67,22 @@ class Small(text.Maker):
         constant = not variables or self.rng.random() < 0.1
         return (1, self.rng.randrange(3)) if constant else (0, self.rng.choice(sorted(variables)))
 
+    def shift(self):
+        return self.rng.choice((0, 0, 1, 2, 2**32 - 1, 2**32 - 2, 2**31 - 1, 2**31))
+
+
+def with_readings(tree, sorts, path=()):
+    """The tree with the constants of what has readings as the words of -0.01, 0.00 and 0.01."""
+    kind, below, more = tree
+    if kind in (1, 4, 15):
+        terms = [(c, moved(w) if c and sorts.reading(text.place_of(tree, path, k)) else w) for k, (c, w) in enumerate(more[1])]
+        more = more[0], terms
+    return kind, tuple(with_readings(t, sorts, path + (k,)) for k, t in enumerate(below)), more
+
+
+def moved(word):
+    return text.ZERO - 1 + word
+
 
 def log_for(rng, arities):
     """Events with rising, equal and falling times, some of many rows."""
@@ -80,13 +96,13 @@ def log_for(rng, arities):
     return events
 
 
-def wanted_lines(tree, arities, names, events, every, met):
+def wanted_lines(tree, arities, names, events, every, met, told=()):
     """What must be printed, from plain.py's answers, for events each with what stands for it in a line and its words, or None for words
-    that are no event."""
+    that are no event; `told` is what is known to have readings."""
     rule = plain.check(text.file_of(tree, arities))
     nodes = []
-    text.nodes_of(tree, names, nodes)
-    columns = [text.VARIABLES[v] for v in sorted(text.free(tree))]
+    text.nodes_of(tree, names, nodes, text.printing(told))
+    columns = [(text.VARIABLES[v], text.hundredths if ("variable", v, None) in told else str) for v in sorted(text.free(tree))]
     out, log, reported, breached = [f"rule {nodes[-1][5]}, reach {rule.reach[-1]}"], plain.Log(rule, []), 0, 0
     for counted, words in events:
         answer, points = plain.take(rule, log, words) if words else ((9, 0), None)
@@ -108,7 +124,10 @@ def wanted_lines(tree, arities, names, events, every, met):
             reported, breached = reported + 1, breached + (len(rows) > 0)
             met["a point", "with rows" if rows else "without"] += 1
             met["columns", len(columns)] += len(rows)
-            out += [f"time {time} point {i}: {', '.join(f'{c} = {v}' for c, v in zip(columns, row)) or 'breach'}" for row in rows]
+            met["readings", "reported"] += len(rows) * any(shown == text.hundredths for _, shown in columns)
+            met["readings", "in the rule's line"] += len(rows) * bool(re.search(r"[0-9]\.[0-9]", out[0]))
+            met["a breach of", "a rule with keep-shifted" if any(node[1] == "keep-shifted" for node in nodes) else "another"] += len(rows)
+            out += [f"time {time} point {i}: {', '.join(f'{c} = {shown(v)}' for (c, shown), v in zip(columns, row)) or 'breach'}" for row in rows]
             out += [f"time {time} point {i}: no breach"] * (every and not rows)
     return out + [f"reported {reported}, breached {breached}, open {log.open()}, kept {log.kept()}"]
 
@@ -134,30 +153,36 @@ def try_case(rng, folder, met):
     maker = Small(rng)
     maker.arities = [rng.choice((0, 1, 1, 1, 2)) for _ in range(rng.randint(1, 4))]
     tree = maker.tree(rng.randint(1, 7))
-    names, events = NAMES[:len(maker.arities)], log_for(rng, maker.arities)
-    lines, words = text.text_of(tree, maker.arities, names)
+    sorts = text.Sorted(rng, tree, rng.choice((0, 0.6)))
+    tree = with_readings(tree, sorts)
+    names = NAMES[:len(maker.arities)]
+    events = [(t, rows, [[moved(w) if sorts.reading(("column", r, k)) else w for k, w in enumerate(v)] for r, v in zip(rows, values)])
+              for t, rows, values in log_for(rng, maker.arities)]
+    lines, words = text.text_of(tree, maker.arities, names, sorts.write)
     head = "\n".join(lines + [text.spaced(words)]) + "\n"
+    of_rule = [w for w in words if isinstance(w, text.Literal)]
+    written, of_log = text.written_events(sorts, events)
     every = rng.random() < 0.5
     alone, log = folder / "alone.text", folder / "log.csv"
 
     # a text with events, each on a line of its own
-    body = "".join(f"@{t}" + "".join(f" {names[r]}({', '.join(map(str, v))})" for r, v in zip(rows, values)) + "\n" for t, rows, values in events)
-    wanted = "\n".join(wanted_lines(tree, maker.arities, names, numbered(events, len(lines) + 2), every, met)) + "\n"
+    body = text.events_text(written, names)
+    wanted = "\n".join(wanted_lines(tree, maker.arities, names, numbered(events, len(lines) + 2), every, met, sorts.told(of_rule + of_log))) + "\n"
     status, out, err = printed(*["--all"] * every, stdin=head + body)
     text.same("a text with events", (status, out), (0, wanted), head + body)
     met["warned", bool(err)] += 1
 
-    # the same as lines of a log, the rule as a text or as a file
-    csv, begins = text.lines_of(rng, events, names)
+    # the same as lines of a log, the rule as a text or as a file, which doesn't tell what has readings
+    csv, begins = text.lines_of(rng, written, names)
     log.write_text(csv, newline="")
     counted = [(f"line {n}", text.event_words(e)) for n, e in zip(begins, events)]
-    wanted = "\n".join(wanted_lines(tree, maker.arities, names, counted, every, collections.Counter())) + "\n"
     if rng.random() < 0.5:
         alone.write_text(head)
         got = printed(alone, log, *["--all"] * every)
     else:
         alone.write_bytes(text.file_of(tree, maker.arities))
-        got = printed("--names", ",".join(names), *["--all"] * every, alone, log)
+        got, of_rule = printed("--names", ",".join(names), *["--all"] * every, alone, log), []
+    wanted = "\n".join(wanted_lines(tree, maker.arities, names, counted, every, collections.Counter(), sorts.told(of_rule + of_log))) + "\n"
     text.same("a log of lines", got[:2], (0, wanted), head + csv)
 
     # an input of the listing program, with rows that don't fit the rule and an end that is no event
@@ -194,7 +219,7 @@ def try_limits(met):
         names = NAMES[:len(arities)]
         lines, words = text.text_of(tree, arities, names)
         head = "\n".join(lines + [text.spaced(words)]) + "\n"
-        body = "".join(f"@{t}" + "".join(f" {names[r]}({v[0]})" for r, v in zip(rows, values)) + "\n" for t, rows, values in events)
+        body = text.events_text(events, names)
         own = collections.Counter()
         wanted = "\n".join(wanted_lines(tree, arities, names, numbered(events, len(lines) + 2), False, own)) + "\n"
         text.same("at a limit", printed(stdin=head + body), (0, wanted, ""), head + body)
@@ -207,7 +232,7 @@ def try_damaged(rng, folder, met, count=400):
     for _ in range(count):
         maker = Small(rng)
         data = bytearray(text.file_of(maker.tree(rng.randint(1, 6)), maker.arities))
-        data[rng.randrange(rng.choice((4, len(data))))] = rng.choice((0, 1, 2, 3, 7, 15, 200))
+        data[rng.randrange(rng.choice((4, len(data))))] = rng.choice((0, 1, 2, 3, 7, 15, 16, 200))
         data = bytes(data[:rng.choice((len(data), len(data), rng.randrange(4, len(data))))])
         checked = plain.check(data)
         if not isinstance(checked, tuple) or 0 not in data:
@@ -226,6 +251,15 @@ def try_damaged(rng, folder, met, count=400):
         (folder / "bad.rule").write_bytes(data)
         err = printed(folder / "bad.rule")[2]
         text.same("the node's own text", err.split(", ", 1)[-1][-len(said) - 1:], said + "\n", (at, err))
+    (folder / "bad.rule").write_bytes(doubled())
+    text.same("a node that is a child twice", printed(folder / "bad.rule")[2], f"the rule: refused 5: {WORDS[5]}\n".replace(
+        "5, NODE5", "31, kind 14, left 30, right 0, mask 0, words 0, 0, 0, 0"), "doubled")
+
+
+def doubled():
+    """A rule of 32 nodes, each a child twice of the next, but for the last, whose window is wrong: its text would have 2^30 atoms."""
+    heads = [(1, 0, 0, 0)] + [(2, x, x, 0) for x in range(30)] + [(14, 30, 0, 0)]
+    return bytes([1, 1, 32, 0]) + bytes(8) + b"".join(map(bytes, heads)) + bytes(16 * 32)
 
 
 def try_words():
@@ -234,6 +268,8 @@ def try_words():
         text.same("a refusal's words", rules.rules_run.reason(number, 5, lambda x: f"NODE{x}", lambda k: f"ROW{k}"), said, number)
     told = rules.Told(rules.read_text("leak(x)")[0])
     text.same("a row's words", (told.row(0, (7,)), told.row(3, (7, 0))), ("leak(7)", "relation 3(7, 0)"), "")
+    told = rules.Told(rules.read_text("moisture(p, m) and m < -3.25")[0])
+    text.same("a row with a reading", told.row(0, (7, 2**31 - 325, 0, 5)), "moisture(7, -3.25, 0, 5)", "")
 
 
 def try_pictures(folder):
@@ -265,6 +301,11 @@ def try_pictures(folder):
     printed("--svg", file, stdin="a(x)" + " and a(x)" * 14 + " @1 a(2)")
     title = next(xml.etree.ElementTree.parse(file).iter(space + "text")).text
     text.same("a long title", title, ("breaches of a(x)" + " and a(x)" * 14)[:(20 + 8 * len("x = 2") + 600 + 40 - 20) // 8 - 3] + "...", title)
+    out = printed("--picture", "--svg", file, stdin="a(p, m) and m - 0.5 < 0.00\n@1 a(7, -12.4)\n@2 a(7, 0.50)\n@3 a(7, 0.49)")[1].splitlines()
+    labels = ["p = 7, m = -12.40", "p = 7, m = 0.49"]
+    text.same("readings in a picture", [line.split("|")[0].strip() for line in out if line.endswith("|")], labels, out)
+    drawn = [t.text for t in xml.etree.ElementTree.parse(file).iter(space + "text")]
+    text.same("readings in an svg", drawn[:3], ["breaches of a(p, m) and m - 0.50 < 0.00"] + labels, drawn)
     text.same("nothing to draw", printed("--picture", stdin="a(x) and x < 0 @1 a(2)")[1].splitlines()[-1], "no breach to draw", "")
 
 
@@ -300,6 +341,10 @@ def try_faults(folder):
     rule.write_text("leak(x)")
     log.write_text("1,leak,7\n" * 30 + "\n2,leak,8\n3,leek,9\n")
     text.same("a late fault of a log", program(rule, log), (1, "", f"{log}:33: `leek` is not a relation of the rule; it has leak\n"), "")
+    log.write_text("1,leak,7\n" * 30 + "\n2,leak,8\n3,leak,-9.50\n")
+    text.same("a reading in a log of whole numbers", program(rule, log), (1, "", f"{log}:33: column 1 of `leak` has whole numbers, such as 7: -9.50 is a reading\n"), "")
+    text.same("a whole number for a reading", program(stdin="leak(x) and x < 2.50\n@1 leak(1.00)\n@2 leak(2)\n"),
+              (1, "", "text:3:9: column 1 of `leak` has readings, such as 2.50: write 2.00\n@2 leak(2)\n        ^\n"), "")
     text.same("a late fault of a text", program(stdin="leak(x)\n@1 leak(7)\n@2 leek(7)\n"),
               (1, "", "text:3:4: `leek` is not a relation of the rule\n@2 leek(7)\n   ^\n"), "")
     log.write_bytes(b"1,leak,7\n2,leak,\xff\n")
@@ -346,7 +391,7 @@ def try_documents(folder):
         (folder / "page.csv").write_text(log)
         text.same("RULES.md", printed(folder / "page.text", *[folder / "page.csv"] * bool(log)), (0, report, ""), rule)
     kinds = {n.kind for rule, _, _ in blocks for n in rules.read_text(rule)[0].nodes}
-    text.same("all kinds are on the page", kinds, set(range(1, 15)), "RULES.md")
+    text.same("all kinds are on the page", kinds, set(range(1, 16)), "RULES.md")
     commands = re.findall(r"^    \$ (tools/rules run .*)\n((?:    .+\n)*)", (TOP / "README.md").read_text(), re.M)
     for command, shown in commands:
         text.same("README.md", program(*command.split()[2:]), (0, re.sub("^    ", "", shown, flags=re.M), ""), command)
@@ -412,7 +457,7 @@ def main():
         blocks = try_documents(folder)
         try_gate(folder)
     print("; ".join(f"{a} {b}: {n}" for (a, b), n in sorted(met.items(), key=str)))
-    often = [("a point", "with rows"), ("a point", "without"), ("refused", 11), ("columns", 0), ("columns", 1), ("columns", 2), ("refused", 4), ("refused", 9), ("refused", 10)]
+    often = [("readings", "reported"), ("readings", "in the rule's line"), ("a breach of", "a rule with keep-shifted"), ("a point", "with rows"), ("a point", "without"), ("refused", 11), ("columns", 0), ("columns", 1), ("columns", 2), ("refused", 4), ("refused", 9), ("refused", 10)]
     rare = [key for key in often if count >= 200 and met[key] < LEAST] + [("refused", n) for n in (1, 2, 3, 4, 5, 6, 7, 13, 14, 15) if not met["refused", n]]
     print(f"{count} rules over logs, {blocks} reports of RULES.md, {text.failures} differ", *(f"rare: {k}" for k in rare))
     sys.exit(text.failures > 0 or bool(rare))

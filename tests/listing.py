@@ -7,7 +7,7 @@
 First inputs at the limits: rules of 32 nodes, 652 and 653 bytes, events of 32 and 33 rows, 400 events, reports of 4,326 words, and
 a small input cut at every byte. Then a live log: each event is sent once the answer before it has come, and each byte of an event in
 turn is the last that is sent before a pause. Then inputs of many blocks, from a file and through a pipe. Then CASES inputs are generated: rules of up to seven nodes (one in five damaged in a byte) with up to
-40 events, then in part cut, lengthened by stray bytes, given a wrong length word, or replaced by garbage. In each FOLDER every NAME.in
+40 events, one in five of them a rule with keep-shifted whose values are apart by its number or one more or less, then in part cut, lengthened by stray bytes, given a wrong length word, or replaced by garbage. In each FOLDER every NAME.in
 is run and what is printed compared with NAME.out103, where there is one, else with NAME.out. The default program is target/bin/listing. Exits with 1 on any difference, or where
 one of the ways to end a run was met less than once in 200 cases.
 """
@@ -17,6 +17,7 @@ import collections
 import fcntl
 import pathlib
 import random
+import re
 import select
 import struct
 import subprocess
@@ -56,10 +57,34 @@ def log(rng, arities):
     return b"".join(out)
 
 
+def shifted(rng):
+    """A rule file with keep-shifted, one in five with a field of that node damaged, and events whose values are just where it turns."""
+    k, pair, edges = rng.choice(text.EDGES + (rng.randrange(2**32),)), atom(2), (0, 1, 2**31 - 1, 2**31, 2**31 + 1, 2**32 - 2, 2**32 - 1)
+
+    def beside(low):
+        return min(max(low + text.offset(k) + rng.choice((-1, 0, 1, 1)), 0), 2**32 - 1)
+
+    low = rng.choice(edges + (rng.randrange(2**32),))
+    terms = rng.choice(([(0, 0), (0, 1)],) * 3 + ([(1, low), (0, 1)], [(0, 0), (1, beside(low))], [(0, 1), (0, 0)], [(0, 0), (0, 0)], [(1, low), (1, beside(low))]))
+    tree = 15, (pair,), (k, terms)
+    tree = rng.choice((tree, tree, (13, (tree,), (0, 5)), (14, (tree,), (0, 3)), (7, (tree,), (0, 0)), (3, (pair, tree), ()), (10, (tree, pair), (0, 9)), (6, (tree,), (1,))))
+    file, now, events = text.file_of(tree, [2]), 0, []
+    for _ in range(rng.randint(1, 9)):
+        lows = [rng.choice((low,) + edges) for _ in range(rng.choice((1, 2, 5)))]
+        events.append(event(now, [(0, [w, beside(w)]) for w in lows]))
+        now += rng.choice((0, 1, 2, 4))
+    if rng.random() < 0.2:
+        file = text.reshifted(rng, file)
+    return file, b"".join(events)
+
+
 def generated(rng):
     """What was done to the input, and its bytes."""
-    file, arities = definitions.rule_file(rng)
-    events = log(rng, arities)
+    if rng.random() < 0.2:
+        file, events = shifted(rng)
+    else:
+        file, arities = definitions.rule_file(rng)
+        events = log(rng, arities)
     whole = struct.pack("<I", len(file)) + file + events
     how = rng.choice(("whole",) * 5 + ("cut in the rule", "cut in the events", "stray bytes", "33 rows", "length", "garbage"))
     if how == "cut in the rule":
@@ -261,7 +286,7 @@ def main():
     parser.add_argument("cases", type=int)
     parser.add_argument("folders", nargs="*", type=pathlib.Path)
     args = parser.parse_args()
-    met, lines, rng = collections.Counter(), collections.Counter(), random.Random(args.seed)
+    met, lines, shifts, rng = collections.Counter(), collections.Counter(), collections.Counter(), random.Random(args.seed)
     files = sorted(f for folder in args.folders for f in folder.glob("*.in"))
     if args.folders and not files:
         sys.exit("no NAME.in in the folders")
@@ -281,6 +306,10 @@ def main():
         how, data = generated(rng)
         expected = compare(args.program, f"case {k} of seed {args.seed}, {how}", data)
         met[how] += 1
+        file = plain.split(data)[0]
+        rule = plain.check(file) if file is not None else (1, 0)
+        if not isinstance(rule, tuple) and any(n.kind == plain.SHIFTED for n in rule.nodes):
+            shifts["with rows" if re.search(rb" rows [1-9]", expected) else "without"] += 1
         for line in expected.decode().split("\n"):
             words = line.split()
             if words:
@@ -291,7 +320,8 @@ def main():
     print(f"many blocks: {blocks} events, each from a file and twice through a pipe")
     print("inputs: " + ", ".join(f"{how} {n}" for how, n in sorted(met.items())))
     print("lines: " + ", ".join(f"{what} {n}" for what, n in sorted(lines.items())))
-    wanted = [lines[what] for what in ("point", "row", "open", "refused 1", "refused 4", "refused 9", "refused 10", "refused 11", "refused 13")]
+    print("rules with keep-shifted: " + ", ".join(f"{what} {n}" for what, n in sorted(shifts.items())))
+    wanted = [shifts["with rows"], shifts["without"]] + [lines[what] for what in ("point", "row", "open", "refused 1", "refused 4", "refused 9", "refused 10", "refused 11", "refused 13")]
     if min(wanted + list(met.values()), default=0) < args.cases // CASES_TO_A_MEETING:
         sys.exit("something was met too rarely")
 

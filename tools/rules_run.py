@@ -15,7 +15,9 @@ import sys
 import tempfile
 import xml.sax.saxutils
 
-MOST_ROWS, MOST_COLUMNS, LARGEST = 32, 4, 4_294_967_295
+import rules_values
+
+MOST_ROWS, MOST_COLUMNS = 32, 4
 MARKED = 10  # the refusal that a mark meets
 STEP = 10_000  # events from one showing of progress to the next
 MOST_DRAWN = 30  # valuations with a row of their own in a picture
@@ -56,25 +58,36 @@ def reason(number, place, node=None, row=None):
 
 # ---- a log of lines
 
-def csv_number(word, what, where):
+def csv_time(word, where):
     if not (word.isascii() and word.isdigit()):
-        raise Fault(f"{where}: expected {what}, a whole number, and found `{word}`")
-    if len(word.lstrip("0")) > 10 or int(word) > LARGEST:
-        raise Fault(f"{where}: {what} is at most {LARGEST}")
-    return int(word)
+        raise Fault(f"{where}: expected a time, a whole number, and found `{word}`")
+    time = rules_values.counted(word)
+    if time > rules_values.LARGEST:
+        raise Fault(f"{where}: a time is at most {rules_values.LARGEST}")
+    return time
 
 
 def csv_row(fields, relations, where):
-    """The number and the values of a row, `relations` being names and arities."""
+    """The number and the values of a row; `relations` has by name the number and the groups of the columns."""
     name, values = fields[0], fields[1:]
     if name not in relations:
         raise Fault(f"{where}: `{name}` is not a relation of the rule; it has {', '.join(relations)}")
-    number, arity = list(relations).index(name), relations[name]
+    number, groups = relations[name]
     while values and not values[-1]:
         values.pop()
-    if len(values) != arity:
-        raise Fault(f"{where}: `{name}` has {arity} column{'s' * (arity != 1)} in the rule, here {len(values)}")
-    return number, [csv_number(v, "a value", where) for v in values]
+    if len(values) != len(groups):
+        raise Fault(f"{where}: `{name}` has {len(groups)} column{'s' * (len(groups) != 1)} in the rule, here {len(values)}")
+    try:
+        return number, [csv_value(v, k, name, group) for k, (v, group) in enumerate(zip(values, groups))]
+    except rules_values.Unfit as e:
+        raise Fault(f"{where}: {e}")
+
+
+def csv_value(written, k, name, group):
+    word, reading = rules_values.word_of(written, "a value")
+    if reading is not group.reading:
+        group.take(rules_values.of_column(k, name), written, reading)
+    return word
 
 
 def event_words(time, rows):
@@ -94,7 +107,7 @@ def csv_events(file, shown, relations):
                 continue
             if fields[0].startswith("#") or lines.line_num == 1 and fields[0] == "time":
                 continue
-            now = csv_number(fields[0], "a time", where)
+            now = csv_time(fields[0], where)
             if begun and now != time:
                 yield begun, event_words(time, rows)
                 begun = None
@@ -219,10 +232,6 @@ def answers(lines, events, fits):
         progress.end()
 
 
-def valuation(names, row):
-    return ", ".join(f"{n} = {v}" for n, v in zip(names, row)) or "breach"
-
-
 def report(rule, lines, events, every, picture):
     """The lines to be printed for a run; what is breached goes to the picture too."""
     reported = breached = 0
@@ -239,7 +248,7 @@ def report(rule, lines, events, every, picture):
             reported, breached = reported + 1, breached + bool(rows)
             for row in rows:
                 picture.add(time, row)
-                yield f"time {time} point {point}: {valuation(rule.columns, row)}"
+                yield f"time {time} point {point}: {rule.valuation(row)}"
             if every and not rows:
                 yield f"time {time} point {point}: no breach"
         elif kind == "refused":
@@ -258,8 +267,8 @@ def report(rule, lines, events, every, picture):
 class Picture:
     """The breaches over time: for each of the first valuations, and for all others together, which places along the time they meet."""
 
-    def __init__(self, names, least, most):
-        self.names, self.least, self.most = names, least or 0, most or 0
+    def __init__(self, valuation, least, most):
+        self.valuation, self.least, self.most = valuation, least or 0, most or 0
         self.rows, self.others = {}, set()
 
     def place(self, time):
@@ -272,7 +281,7 @@ class Picture:
             self.rows.setdefault(row, set()).add(self.place(time))
 
     def labelled(self):
-        rows = [(valuation(self.names, row), met) for row, met in sorted(self.rows.items())]
+        rows = [(self.valuation(row), met) for row, met in sorted(self.rows.items())]
         return rows + ([("all others", self.others)] if self.others else [])
 
     def text(self):
@@ -320,11 +329,11 @@ def svg_text(x, y, text, anchor="start"):
 
 def run(rule, head, events, options, out):
     """Runs a rule over events, each with its line, and prints what comes. The head is the rule's length and file. The rule tells its
-    text in a line, the names of a report's columns, the texts of a node and of a row, and whether a row fits it; the options are
-    every, picture, svg and listing."""
+    text in a line, a report's row by variable, the texts of a node and of an event's row, and whether such a row fits it; the options
+    are every, picture, svg and listing."""
     with tempfile.NamedTemporaryFile(prefix="rules-") as held:
         least, most = write_input(held, head, rule.relation_count, events)
-        picture = Picture(rule.columns, least, most)
+        picture = Picture(rule.valuation, least, most)
         lines = listed(options.listing, held.name)
         try:
             for line in report(rule, lines, read_marked(held, len(head)), options.every, picture):
