@@ -7,7 +7,7 @@
 First inputs at the limits: rules of 32 nodes, 652 and 653 bytes, events of 32 and 33 rows, 400 events, reports of 4,326 words, and
 a small input cut at every byte. Then a live log: each event is sent once the answer before it has come, and each byte of an event in
 turn is the last that is sent before a pause. Then inputs of many blocks, from a file and through a pipe. Then CASES inputs are generated: rules of up to seven nodes (one in five damaged in a byte) with up to
-40 events, one in five of them a rule with keep-shifted whose values are apart by its number or one more or less, then in part cut, lengthened by stray bytes, given a wrong length word, or replaced by garbage. In each FOLDER every NAME.in
+40 events, one in five with a keep-shifted that the values just meet or just miss, then in part cut, lengthened by stray bytes, given a wrong length word, or replaced by garbage. In each FOLDER every NAME.in
 is run and what is printed compared with NAME.out103, where there is one, else with NAME.out. The default program is target/bin/listing. Exits with 1 on any difference, or where
 one of the ways to end a run was met less than once in 200 cases.
 """
@@ -36,14 +36,14 @@ CASES_TO_A_MEETING = 200
 PATIENCE = 30
 
 
-def log(rng, arities):
-    """Events end to end; where many, their rows are few and far between or many at once."""
+def log(rng, arities, values=None):
+    """Events end to end; where many, their rows are few and far between or many at once. Their values are among those given, or small."""
     now, out = rng.choice((0, 3, 2**32 - 60)), []
     most = rng.choice((2, 4, 32))
     for _ in range(rng.randint(0, rng.choice((6, 12, 40)))):
         m = rng.randint(0, most)
         relations = [rng.randrange(len(arities)) for _ in range(m)]
-        rows = [[rng.randint(0, rng.choice((2, 40))) for _ in range(arities[r])] + [0] * (4 - arities[r]) for r in relations]
+        rows = [[rng.choice(values) if values else rng.randint(0, rng.choice((2, 40))) for _ in range(arities[r])] + [0] * (4 - arities[r]) for r in relations]
         words = [now, m] + relations + sum(rows, [])
         fault = rng.random()
         if fault < 0.04:
@@ -57,34 +57,12 @@ def log(rng, arities):
     return b"".join(out)
 
 
-def shifted(rng):
-    """A rule file with keep-shifted, one in five with a field of that node damaged, and events whose values are just where it turns."""
-    k, pair, edges = rng.choice(text.EDGES + (rng.randrange(2**32),)), atom(2), (0, 1, 2**31 - 1, 2**31, 2**31 + 1, 2**32 - 2, 2**32 - 1)
-
-    def beside(low):
-        return min(max(low + text.offset(k) + rng.choice((-1, 0, 1, 1)), 0), 2**32 - 1)
-
-    low = rng.choice(edges + (rng.randrange(2**32),))
-    terms = rng.choice(([(0, 0), (0, 1)],) * 3 + ([(1, low), (0, 1)], [(0, 0), (1, beside(low))], [(0, 1), (0, 0)], [(0, 0), (0, 0)], [(1, low), (1, beside(low))]))
-    tree = 15, (pair,), (k, terms)
-    tree = rng.choice((tree, tree, (13, (tree,), (0, 5)), (14, (tree,), (0, 3)), (7, (tree,), (0, 0)), (3, (pair, tree), ()), (10, (tree, pair), (0, 9)), (6, (tree,), (1,))))
-    file, now, events = text.file_of(tree, [2]), 0, []
-    for _ in range(rng.randint(1, 9)):
-        lows = [rng.choice((low,) + edges) for _ in range(rng.choice((1, 2, 5)))]
-        events.append(event(now, [(0, [w, beside(w)]) for w in lows]))
-        now += rng.choice((0, 1, 2, 4))
-    if rng.random() < 0.2:
-        file = text.reshifted(rng, file)
-    return file, b"".join(events)
-
-
 def generated(rng):
     """What was done to the input, and its bytes."""
-    if rng.random() < 0.2:
-        file, events = shifted(rng)
-    else:
-        file, arities = definitions.rule_file(rng)
-        events = log(rng, arities)
+    shifts = rng.random() < 0.2
+    values = rng.sample(definitions.EDGES, 3) if shifts and rng.random() < 0.7 else range(3)
+    file, arities = definitions.rule_file(rng, values, shifts)
+    events = log(rng, arities, values if shifts else None)
     whole = struct.pack("<I", len(file)) + file + events
     how = rng.choice(("whole",) * 5 + ("cut in the rule", "cut in the events", "stray bytes", "33 rows", "length", "garbage"))
     if how == "cut in the rule":

@@ -63,6 +63,7 @@ WRONG = [
     ("a(x, y, z, w, |x)", "a relation has at most 4 columns"),
     ("a(|4294967296)", "a constant is at most 4294967295"),
     ("a(|99999999999999999999)", "a constant is at most 4294967295"),
+    ("a(|" + "9" * 5000 + ")", "a constant is at most 4294967295"),
     ("(a(x) and b(x)|", "expected `and`, `or` or `)`"),
     ("a(x) and b(x)|)", "expected `and`, `or`, an event or the end"),
     ("a(x) |b(x)", "expected `and`, `or`, an event or the end"),
@@ -183,7 +184,7 @@ WRONG = [
     ("a(|-21474837)", READING),
     ("a(|-21474836.49)", READING),
     ("a(|21474836.48)", READING),
-    ("a(|99999999999999999999.5)", READING),
+    ("a(|" + "9" * 5000 + ".5)", READING),
     ("a(|-99999999999999999999)", READING),
     ("a(|1.005)", "a reading has at most two digits after the point"),
     ("a(|1.)", "a reading has one or two digits after the point"),
@@ -243,6 +244,7 @@ WRONG_LOGS = [
     ("1.50,a,7", 1, "expected a time, a whole number, and found `1.50`"),
     ("1;a;7", 1, "expected a time, a whole number, and found `1;a;7`"),
     ("4294967296,a,7", 1, "a time is at most 4294967295"),
+    ("9" * 5000 + ",a,7", 1, "a time is at most 4294967295"),
     ("1,a,4294967296", 1, "a value is at most 4294967295"),
     ("1,a,three", 1, "expected a value, such as 7 or -3.25, and found `three`"),
     ("1,a,.5", 1, "expected a value, such as 7 or -3.25, and found `.5`"),
@@ -851,6 +853,11 @@ def try_commands():
     same("nodes", run("nodes", stdin=b"variables p, q exists q (on(p, q) and q >= 3) @1 on(3, 4)"), (0, shown.encode(), ""), "")
     same("nodes of a file", run("nodes", "--names", "leak,close", str(TOP / "examples" / "leak.rule"))[1].decode().split("\n")[4],
          "3     and-not     0, 2      -        x     leak(x) and not eventually [0, 61) close(x)", "leak.rule")
+    shown = "node  kind          children  window  free  text\n0     atom          -         -       p, m  moisture(p, m)\n" \
+        "1     keep-shifted  0         -       p, m  moisture(p, m) and m - 2.50 < -3.25\n"
+    same("nodes with readings", run("nodes", stdin=b"moisture(p, m) and m - 250 < -3.25"), (0, shown.encode(), ""), "")
+    data = run("write-input", stdin=b"moisture(p, m) and m - 2.5 < -3.25 @1 moisture(7, -0.5)")[1]
+    same("a file with readings", run("read-input", stdin=data), (0, b"r0(x, y) and y - 250 < 2147483323\n@1 r0(7, 2147483598)\n", ""), "")
     same("nodes of a wrong text", run("nodes", stdin=b"a(x")[:2], (1, b""), "")
     warned = f"text:2:6: warning: {ANOTHER}\nb(7, x)\n     ^\n"
     same("a warning", run("write-rule", stdin=b"exists x a(x) and\nb(7, x)"), (0, rules.rule_file("exists x a(x) and b(7, x)"), warned), "")
