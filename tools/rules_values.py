@@ -78,8 +78,8 @@ def of_column(k, name):
 class Group:
     """Columns, variables and comparisons whose values are all readings or all whole numbers, and the first that is written for one."""
 
-    def __init__(self):
-        self.written = self.reading = None
+    def __init__(self, thing):
+        self.things, self.written, self.reading = [thing], None, None
 
     def take(self, said, written, reading):
         """Takes note of a value that is written for what `said` names; unfit where those before are of the other sort."""
@@ -98,13 +98,15 @@ class Readings:
 
     def group(self, thing):
         if thing not in self.groups:
-            self.groups[thing] = Group()
+            self.groups[thing] = Group(thing)
         return self.groups[thing]
 
     def join(self, one, other):
         """Makes one group of two, before any value is noted."""
         kept, gone = self.group(one), self.group(other)
-        self.groups = {thing: kept if group is gone else group for thing, group in self.groups.items()}
+        if kept is not gone:
+            kept.things += gone.things
+            self.groups.update(dict.fromkeys(gone.things, kept))
 
     def has(self, thing):
         return self.group(thing).reading is True
