@@ -1,16 +1,13 @@
 -- Readings: words and signed hundredths are one another's, and a comparison says the same of both.
-use Prim.Native.Nat.{ℕ, zero, suc, _+_, _-_, _%_, _≤_, _<_}
+use Prim.Native.Nat.{ℕ, zero, suc, _+_, _-_, _%_, _<_}
 use native.Mathlib.Omega.{arith}
 use mathlib.Core.Path.{_≡_, refl, sym, ap, ap₂, _∙_}
-use mathlib.Core.Bool.{Bool, true, false}
 use lib.Dec.{ltb, leb→le, le→leb, leb·suc-suc}
-use lib.IntN.{ℤ, pos, negsuc, negℤ, predℤ, natAbs, subℕ, _+ℤ_, _-ℤ_, +ℤ-predℤ, +ℤ-idr, +ℤ-assoc, +ℤ-comm, +ℤ-negℤ-cancel, -ℤ-+ℤ-cancel}
+use lib.IntN.{ℤ, pos, negsuc, predℤ, natAbs, _+ℤ_, _-ℤ_, +ℤ-predℤ, +ℤ-idr, +ℤ-assoc, +ℤ-comm, +ℤ-negℤ-cancel, -ℤ-+ℤ-cancel}
 use lib.Signed.{ltZ, leZ-yes}
 use borrow.Author.Tests.{lt-ltb, le-ltb, ltb-true, ltb-false}
-use Rattle.meaning.specs.Formula.{compares}
-use Rattle.meaning.specs.Readings.{twosComplement, wordOf, readingOf}
+use Rattle.meaning.specs.Readings.{twosComplement, readingOf}
 use Rattle.meaning.specs.ReadingLaws.{Hundredths, ReadingLaws}
-use Rattle.meaning.specs.declared.Comparison.the-variants.{Less, ShiftedLess}
 use Rattle.meaning.proofs.Points.{Tested, passed, failed, tested}
 
 -- ---- one less on both sides, and so many less

@@ -18,7 +18,7 @@ pub record ReadingLaws : Type 0 where
   pub word : (h : ℤ) → Hundredths h → wordOf h < 4294967296
   pub same-word : (w : ℕ) → wordOf (readingOf w) ≡ w
   pub same-reading : (h : ℤ) → Hundredths h → readingOf (wordOf h) ≡ h
-  -- a number in two's complement has its own range, and is the reading whose word differs in the highest bit
+  -- a word in two's complement is the reading whose word differs from it in the highest bit
   pub offset : (w : ℕ) → w < 4294967296 → twosComplement w ≡ readingOf ((w + 2147483648) % 4294967296)
   -- kinds 4 and 15 say of the words what they say of the readings
   pub less : (a b : ℕ) → compares Less a b ≡ ltZ (readingOf a) (readingOf b)

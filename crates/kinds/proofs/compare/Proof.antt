@@ -1,5 +1,5 @@
 -- `compare` meets its contract, by cases.
-use mathlib.Core.Path.{_≡_, sym, ap, _∙_}
+use mathlib.Core.Path.{_≡_, ap, _∙_}
 use borrow.Author.Needs.{needs}
 use lib.IntN.{pos, _+ℤ_}
 use lib.Signed.{ltZ}
