@@ -2,7 +2,7 @@
 use Prim.Native.Nat.{ℕ, suc, _+_, _-_, _<_, _^_}
 use native.Mathlib.Nat.{lt-of-lt-of-le}
 use native.Mathlib.Omega.{arith}
-use mathlib.Core.Path.{_≡_, sym, subst, _∙_}
+use mathlib.Core.Path.{_≡_, sym, ap, subst, _∙_}
 use lib.Dec.{ltb, leb→le, le→leb}
 use lib.IntN.{ℤ, pos, negsuc, subℕ, _+ℤ_}
 use lib.Signed.{mag, leZ-yes}
@@ -39,6 +39,14 @@ sum-fits a (negsuc b) h l = go (tested (ltb a (suc b)))
     go : Tested (ltb a (suc b)) → SFits w64 (subℕ a (suc b))
     go (passed t) = rw t (small (negsuc (suc b - suc a)) (omega arith))
     go (failed t) = rw t (small (pos (a - suc b)) (omega arith))
+
+-- as the machine has it of a word
+module _ {a : ℕ} (f : Fits w32 a) (k : ℤ) (l : mag k < 8589934592) where
+  pub word-sum-fits : SFits w64 (toZ w64 a +ℤ k)
+  word-sum-fits = rw (word-wide f) (sum-fits a k (f .fits) l)
+
+  pub word-sum : toZ w64 (ofZ w64 (toZ w64 a +ℤ k)) ≡ pos a +ℤ k
+  word-sum = toZ-ofZ word-sum-fits ∙ ap (λ v. v +ℤ k) (word-wide f)
 
 -- the numbers of an i32
 pub hundredths : (z : ℤ) → SFits w32 z → Hundredths z

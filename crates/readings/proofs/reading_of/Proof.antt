@@ -1,5 +1,5 @@
 -- `readings::reading_of` meets its contract: in 64 bits the difference is the reading, and it fits an i32.
-use mathlib.Core.Path.{_≡_, sym, ap, subst, _∙_}
+use mathlib.Core.Path.{_≡_, sym, subst, _∙_}
 use lib.Dec.{lit<}
 use lib.IntN.{pos, negsuc, _-ℤ_}
 use mir.Syntax.{w32, w64}
@@ -8,18 +8,12 @@ use mir.Facts.{toZ-ofZ}
 use borrow.Author.Needs.{needs}
 use Rattle.meaning.specs.Readings.{readingOf}
 use Rattle.meaning.proofs.ReadingLaws.{reading-laws}
-use Rattle.readings.proofs.Wide.{word-wide, sum-fits, int32}
+use Rattle.readings.proofs.Wide.{word-sum-fits, word-sum, int32}
 use Rattle.readings.proofs.reading_of.Statement.{statement}
 use Rattle.readings.proofs.reading_of.Tie as tie
 
-less-added : (c : tie.Start) → toZ w64 (c .args .w) -ℤ pos 2147483648 ≡ readingOf (c .args .w)
-less-added c = ap (λ v. v -ℤ pos 2147483648) (word-wide (c .fits .w))
-
-sub-result : tie.Need-sub-result
-sub-result c = subst (SFits w64) (sym (less-added c)) (sum-fits (c .args .w) (negsuc 2147483647) (c .fits .w .fits) (lit< tt))
-
 difference : (c : tie.Start) → toZ w64 (ofZ w64 (toZ w64 (c .args .w) -ℤ pos 2147483648)) ≡ readingOf (c .args .w)
-difference c = toZ-ofZ (sub-result c) ∙ less-added c
+difference c = word-sum (c .fits .w) (negsuc 2147483647) (lit< tt)
 
 cast-result-2 : tie.Need-cast-result-2
 cast-result-2 c = subst (SFits w32) (sym (difference c)) (int32 (readingOf (c .args .w)) (reading-laws .reading (c .args .w) (c .fits .w .fits)))
@@ -28,4 +22,4 @@ returns : tie.Need-returns
 returns c = toZ-ofZ (cast-result-2 c) ∙ difference c
 
 pub reading-of-spec : {M : Type 1} → statement M
-reading-of-spec = tie.close (tie.spec (λ c. search needs) sub-result cast-result-2 returns)
+reading-of-spec = tie.close (tie.spec (λ c. search needs) (λ c. word-sum-fits (c .fits .w) (negsuc 2147483647) (lit< tt)) cast-result-2 returns)

@@ -1,7 +1,7 @@
 -- `readings::twos_complement` meets its contract: a word below 2,147,483,648 is itself, and another one is in 64 bits what is left of it, which fits an i32.
 use Prim.Native.Nat.{_+_, _%_}
 use native.Mathlib.Omega.{arith}
-use mathlib.Core.Path.{_≡_, sym, ap, subst, _∙_}
+use mathlib.Core.Path.{_≡_, sym, subst, _∙_}
 use lib.Dec.{lit<}
 use lib.IntN.{pos, negsuc, _-ℤ_}
 use mir.Syntax.{w32, w64}
@@ -11,7 +11,7 @@ use borrow.Author.Tests.{lt-ltb, le-ltb}
 use borrow.Author.Needs.{needs}
 use Rattle.meaning.specs.Readings.{twosComplement}
 use Rattle.meaning.proofs.ReadingLaws.{reading-laws}
-use Rattle.readings.proofs.Wide.{word-wide, sum-fits, int32}
+use Rattle.readings.proofs.Wide.{word-sum-fits, word-sum, int32}
 use Rattle.readings.proofs.twos_complement.Statement.{statement}
 use Rattle.readings.proofs.twos_complement.Tie as tie
 
@@ -19,14 +19,8 @@ returns : tie.Need-returns
 returns c = toZ-pos w32 (c .if1 .taken) ∙ rw (lt-ltb (c .before .args .w) 2147483648 (c .if1 .taken))
 
 -- the second arm
-less-words : (c : tie.Start) → toZ w64 (c .args .w) -ℤ pos 4294967296 ≡ pos (c .args .w) -ℤ pos 4294967296
-less-words c = ap (λ v. v -ℤ pos 4294967296) (word-wide (c .fits .w))
-
-sub-result : tie.Need-sub-result
-sub-result c = subst (SFits w64) (sym (less-words (c .before))) (sum-fits (c .before .args .w) (negsuc 4294967295) (c .before .fits .w .fits) (lit< tt))
-
 left : (c : tie.Else1) → toZ w64 (ofZ w64 (toZ w64 (c .before .args .w) -ℤ pos 4294967296)) ≡ twosComplement (c .before .args .w)
-left c = toZ-ofZ (sub-result c) ∙ less-words (c .before) ∙ rw (le-ltb (c .before .args .w) 2147483648 (c .if1 .left))
+left c = word-sum (c .before .fits .w) (negsuc 4294967295) (lit< tt) ∙ rw (le-ltb (c .before .args .w) 2147483648 (c .if1 .left))
 
 cast-result-3 : tie.Need-cast-result-3
 cast-result-3 c =
@@ -38,4 +32,4 @@ returns-2 : tie.Need-returns-2
 returns-2 c = toZ-ofZ (cast-result-3 c) ∙ left c
 
 pub twos-complement-spec : {M : Type 1} → statement M
-twos-complement-spec = tie.close (tie.spec (λ c. search needs) (λ c. search needs) sub-result cast-result-3 returns returns-2)
+twos-complement-spec = tie.close (tie.spec (λ c. search needs) (λ c. search needs) (λ c. word-sum-fits (c .before .fits .w) (negsuc 4294967295) (lit< tt)) cast-result-3 returns returns-2)
