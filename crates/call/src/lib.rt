@@ -1,4 +1,6 @@
 // A call in lent room: the walk over the tree, refusals 13 to 16, the report, and the entries that are then kept, stored.
+#![tactic(auto)]
+
 ghost use Rattle.std.specs.Prelude.{◌≡◌, ◌+◌, ◌-◌, ◌*◌, ◌≤◌, ◌<◌, length};
 ghost use Rattle.meaning.specs.Lists.{range, gather};
 ghost use Rattle.meaning.specs.Outcome.{most_kept};
@@ -20,7 +22,7 @@ use node_step::{NO_NODE, NODE_WORDS, SET_WORDS};
 use writer::Points;
 
 // A call that was tried: settled, or more entries would be kept than there was room for.
-#[derive(Drop)]
+#[derive(Clone, Copy)]
 pub enum Settled {
     Done(Weighed),
     Full,

@@ -1,4 +1,6 @@
 // Checks the rule file on standard input and prints its reach, or the refusal and its place.
+#![tactic(auto)]
+
 ghost use Rattle.std.specs.Prelude.{◌≡◌, List, ℕ, ◌≤◌, length, take};
 ghost use Rattle.meaning.specs.RuleFile.{checking};
 ghost use Rattle.writer.specs.Puts.{Put};

@@ -1,4 +1,6 @@
 // Runs of one word, words and rows put behind others, and sets appended to those of a call.
+#![tactic(auto)]
+
 ghost use Rattle.std.specs.Prelude.{◌≡◌, ◌+◌, ◌-◌, ◌*◌, ◌≤◌, ◌<◌, length, get_or};
 ghost use Rattle.rowset.specs.Rows.{rows_from};
 ghost use Rattle.rowset.specs.Sets.{Run};

@@ -1,4 +1,6 @@
 // The first checks of an event, its form, its rows, its time stamp and the room in the log; and of a notice, its time stamp alone.
+#![tactic(auto)]
+
 ghost use Rattle.std.specs.Prelude.{◌≡◌, List, ℕ, ◌<◌, drop, eqb};
 ghost use Rattle.meaning.specs.Lists.{all, range};
 ghost use Rattle.meaning.specs.Outcome.{Outcome};
@@ -9,35 +11,35 @@ ghost use Rattle.events.specs.Answers.{RuleSizes, Rowed, form_of, rows_of, order
 use meaning::{LogEnd, MOST_POINTS, MOST_ROWS, Stamp};
 
 // Whether words are an event, and then its row count.
-#[derive(Drop)]
+#[derive(Clone, Copy)]
 pub enum Form {
     Event(u32),
     Not,
 }
 
 // Whether every row fits the rule, or the first that doesn't.
-#[derive(Drop)]
+#[derive(Clone, Copy)]
 pub enum Rows {
     Fit,
     Out(u32),
 }
 
 // Whether a time stamp is no earlier than the latest known.
-#[derive(Drop)]
+#[derive(Clone, Copy)]
 pub enum Order {
     Kept,
     Falls,
 }
 
 // Whether the log takes another point.
-#[derive(Drop)]
+#[derive(Clone, Copy)]
 pub enum LogRoom {
     Enough,
     Full,
 }
 
 // What the first checks find: nothing against the event, or the first refusal that applies.
-#[derive(Drop)]
+#[derive(Clone, Copy)]
 pub enum Admitted {
     Fine,
     NotAnEvent,
@@ -47,7 +49,7 @@ pub enum Admitted {
 }
 
 // Which of the two is handed in: an event's words, or a notice, of which the one word is its time.
-#[derive(Drop)]
+#[derive(Clone, Copy)]
 pub enum Handed {
     Event,
     Notice,

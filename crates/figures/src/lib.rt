@@ -1,4 +1,6 @@
 // The figures of a call and of a state: how many points each node has settled and from which on its rows are kept, where its entries stand, as a table; the rows that the call needs; what is retained; and how many points are open.
+#![tactic(auto)]
+
 ghost use Rattle.std.specs.Prelude.{◌≡◌, ℕ, ◌+◌, ◌-◌, ◌*◌, ◌≤◌, ◌<◌, max, length, get_or, take, drop, cond, ltb};
 ghost use mathlib.Core.List.{[], ◌∷◌, ◌++◌, map, Memᴰ};
 ghost use Rattle.meaning.specs.Log.{stamp};
@@ -33,7 +35,7 @@ const RETAINED: u32 = MOST_TIMES as u32;
 const KEPT: u32 = MOST_KEPT as u32;
 
 // The figure `open`, or that the state isn't well formed.
-#[derive(Drop)]
+#[derive(Clone, Copy)]
 pub enum Open {
     Points(u32),
     NotWellFormed,

@@ -1,4 +1,6 @@
 // Whether what is stored is well formed.
+#![tactic(auto)]
+
 ghost use Rattle.std.specs.Prelude.{◌≡◌, true, ◌&&◌, ◌||◌, [], ◌∷◌, ◌++◌, ℕ, suc, ◌+◌, ◌-◌, ◌*◌, ◌≤◌, ◌<◌, length, get_or, drop, leb, eqb};
 ghost use Rattle.meaning.specs.Outcome.{given, most_points, most_kept};
 ghost use Rattle.meaning.specs.View.{view_of};
@@ -29,7 +31,7 @@ use rowset::Row;
 const LARGEST: u32 = 4294967295;
 
 // Where a node's pairs begin, and the entry behind them; or its entries don't fit.
-#[derive(Drop)]
+#[derive(Clone, Copy)]
 pub enum Ended {
     At(usize, usize),
     Stuck,

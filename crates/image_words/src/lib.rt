@@ -1,4 +1,6 @@
 // What is stored saved as an image, and an image read in, in memory that the caller lends.
+#![tactic(auto)]
+
 ghost use Rattle.std.specs.Prelude.{◌≡◌, true, ◌&&◌, [], ◌∷◌, ◌+◌, ◌*◌, ◌≤◌, ◌<◌, length, ltb};
 ghost use Rattle.meaning.specs.Outcome.{most_nodes, most_bytes, most_kept};
 ghost use Rattle.meaning.specs.RuleFile.{word_at, node_count};
@@ -25,7 +27,7 @@ const RULE_WORDS: usize = RULE_BYTES / 4;
 pub const IMAGE_WORDS: usize = 5 + MOST_KEPT * 7 + MOST_TIMES + RULE_WORDS;
 
 // The answer of saving: the words written; that the state isn't well formed; or the words that the buffer would need.
-#[derive(Drop)]
+#[derive(Clone, Copy)]
 pub enum Saved {
     Written(u32),
     NotWellFormed,
@@ -33,14 +35,14 @@ pub enum Saved {
 }
 
 // The answer of reading in: the words read, or that they are no image.
-#[derive(Drop)]
+#[derive(Clone, Copy)]
 pub enum Read {
     Words(u32),
     NotAnImage,
 }
 
 // What reading in leaves beside the slices, as it was where it is refused; and the answer.
-#[derive(Drop)]
+#[derive(Clone, Copy)]
 pub struct Restored {
     pub bytes: u32,
     pub log: LogEnd,
@@ -50,7 +52,7 @@ pub struct Restored {
 }
 
 // How many entries and times an image has, where its sizes fit a state; or they don't.
-#[derive(Drop)]
+#[derive(Clone, Copy)]
 enum Layout {
     Within(usize, usize),
     Out,

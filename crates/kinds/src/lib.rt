@@ -1,4 +1,6 @@
 // What each kind puts into a set of valuations, from its children's sets in a lent slice. `lowest` is the node's lowest free variable, by which its set is in order.
+#![tactic(auto)]
+
 ghost use Rattle.std.specs.Prelude.{◌≡◌, ◌&&◌, ◌||◌, not, cond, [], ◌∷◌, map, ◌+◌, ◌-◌, ◌*◌, ◌≤◌, ◌<◌, length, get_or, take, eqb};
 ghost use Rattle.meaning.specs.Lists.{select, same_row};
 ghost use Rattle.meaning.specs.Formula.{terms_of, compares, is_variable, variables, lowest_of};
@@ -16,7 +18,7 @@ use readings::shifted_less;
 use rowset::{Gathered, Row};
 
 // Four variables: whether each is in a set.
-#[derive(Drop)]
+#[derive(Clone, Copy)]
 pub struct Vars {
     pub b0: bool,
     pub b1: bool,

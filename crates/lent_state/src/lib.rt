@@ -1,4 +1,6 @@
 // Taking an event or a notice in memory that the caller lends: the checks in the order of their refusals, the figures of the call, and the call settled; what is stored is changed in place, and a refusal changes nothing.
+#![tactic(auto)]
+
 ghost use Rattle.std.specs.Prelude.{◌≡◌, ℕ, ◌+◌, ◌≤◌, ◌<◌, length, take};
 ghost use Rattle.meaning.specs.Outcome.{Outcome, most_nodes, most_points};
 ghost use Rattle.method.specs.WellFormed.{Formed};
@@ -23,14 +25,14 @@ use node_step::NODE_WORDS;
 const VALUES: usize = MOST_KEPT * 4;
 
 // The answer of a taking: the words written, or the refusal.
-#[derive(Drop)]
+#[derive(Clone, Copy)]
 pub enum Answer {
     Written(u32),
     Refused(Refusal),
 }
 
 // What a taking leaves beside the slices: where the log ends, how many times are retained and entries kept, all as they were on a refusal; and the answer.
-#[derive(Drop)]
+#[derive(Clone, Copy)]
 pub struct Returned {
     pub log: LogEnd,
     pub retained: u32,
@@ -39,7 +41,7 @@ pub struct Returned {
 }
 
 // What a step of a taking gives: a refusal, or the words written, the times retained and the entries kept.
-#[derive(Drop)]
+#[derive(Clone, Copy)]
 enum Taken {
     Refused(Refusal),
     Done(u32, u32, u32),

@@ -1,4 +1,6 @@
 // Refusals 14 to 16, and the report where none applies: what a call leaves weighed, and the report written.
+#![tactic(auto)]
+
 ghost use Rattle.std.specs.Prelude.{◌<◌, ◌^◌, length};
 ghost use Rattle.writer.specs.Words.{words, Reportable};
 ghost use Rattle.limits.specs.Weighs.{Weighs};
@@ -7,7 +9,7 @@ use meaning::{MOST_KEPT, MOST_OPEN};
 use writer::{Points, Wrote};
 
 // A refusal of a taking, with its place where it has one.
-#[derive(Drop)]
+#[derive(Clone, Copy)]
 pub enum Refusal {
     NotWellFormed,
     NotAnEvent,
@@ -21,7 +23,7 @@ pub enum Refusal {
 }
 
 // What weighing 13 to 16 gives: a refusal, or the words written and the entries kept.
-#[derive(Drop)]
+#[derive(Clone, Copy)]
 pub enum Weighed {
     Refused(Refusal),
     Written(u32, u32),

@@ -10,7 +10,7 @@ use rulenodes::word_at;
 const ROWS: usize = MOST_ROWS as usize;
 
 // The next event, with so many words; one that is cut short or has over 32 rows; or the end of input.
-#[derive(Drop)]
+#[derive(Clone, Copy)]
 pub enum Next {
     Event(usize),
     Cut,

@@ -1,4 +1,6 @@
 // What the programs print and read, over lent bytes: the lines of the listing, the text of an answer, the rule and the events of an input.
+#![tactic(auto)]
+
 mod answers;
 mod input;
 mod text;

@@ -7,7 +7,7 @@ use crate::text::put_answer;
 use meaning::LogEnd;
 
 // A state's figures: where its log ends, the times retained and the entries kept.
-#[derive(Drop)]
+#[derive(Clone, Copy)]
 pub struct Figures {
     pub log: LogEnd,
     pub retained: u32,
@@ -15,7 +15,7 @@ pub struct Figures {
 }
 
 // What an event leaves beside the slices: the state's figures, and where the text ends.
-#[derive(Drop)]
+#[derive(Clone, Copy)]
 pub struct Answered {
     pub figures: Figures,
     pub end: usize,

@@ -1,4 +1,6 @@
 // The listing program: a rule and its events on standard input, the monitor's answers on standard output.
+#![tactic(auto)]
+
 mod event;
 mod input;
 mod text;

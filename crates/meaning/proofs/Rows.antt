@@ -240,9 +240,9 @@ module _ (lowest : ℕ) where
   ascending_tail r [] h = refl
   ascending_tail r (s ∷ rows) h = ((and-eq-true_iff (before lowest r s) (ascending lowest (s ∷ rows))).0 h).1
 
-  pub head_before : (r : List ℕ) {s : List ℕ} {rows : List (List ℕ)} → ascending lowest (r ∷ rows) ≡ true → Memᴰ s rows → before lowest r s ≡ true
+  pub head_before : {s : List ℕ} (r : List ℕ) {rows : List (List ℕ)} → ascending lowest (r ∷ rows) ≡ true → Memᴰ s rows → before lowest r s ≡ true
   head_before r h (Memᴰ.head {x = t} {xs = ts} e) = rw e ((and-eq-true_iff (before lowest r t) (ascending lowest (t ∷ ts))).0 h).0
-  head_before r {s} h (Memᴰ.tail {x = t} {xs = ts} m) = let k = (and-eq-true_iff (before lowest r t) (ascending lowest (t ∷ ts))).0 h in before_transitive lowest r t s k.0 (head_before t k.1 m)
+  head_before {s} r h (Memᴰ.tail {x = t} {xs = ts} m) = let k = (and-eq-true_iff (before lowest r t) (ascending lowest (t ∷ ts))).0 h in before_transitive lowest r t s k.0 (head_before t k.1 m)
 
   pub ascending_same : (xs ys : List (List ℕ)) → ascending lowest xs ≡ true → ascending lowest ys ≡ true → ((r : List ℕ) → Memᴰ r xs ↔ Memᴰ r ys) → xs ≡ ys
   ascending_same [] [] h k same = refl
@@ -323,7 +323,7 @@ module _ (lowest : ℕ) where
 
   pub insert_all_keeps : {r : List ℕ} {set : List (List ℕ)} (rows : List (List ℕ)) → Memᴰ r set → Memᴰ r (insert_all lowest set rows)
   insert_all_keeps [] m = m
-  insert_all_keeps (s ∷ rows) m = insert_all_keeps rows (insert_keeps s m)
+  insert_all_keeps {r = r} {set = set} (s ∷ rows) m = insert_all_keeps {set = insert lowest s set} rows (insert_keeps s m)
 
   pub insert_all_puts : {r : List ℕ} {n : ℕ} (set : List (List ℕ)) {rows : List (List ℕ)} → OfLength n set → OfLength n rows → Memᴰ r rows → Memᴰ r (insert_all lowest set rows)
   insert_all_puts set a b (Memᴰ.head {x = s} {xs = rows} e) = insert_all_keeps rows (Memᴰ.cast e (insert_puts s set (λ t m. a t m ∙ sym (b s (Memᴰ.head refl)))))

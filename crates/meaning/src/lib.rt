@@ -1,6 +1,8 @@
 // The types and limits that definitions and code share. They hold plain numbers; what the numbers mean is in specs/.
 
 // Rows at most that a node has at a point, or an event.
+#![tactic(auto)]
+
 pub const MOST_ROWS: u32 = 32;
 
 // Open points at most.
@@ -23,29 +25,29 @@ pub const MOST_KEPT: usize = 512;
 pub const MOST_POINTS: u32 = 10_000_000;
 
 // A point's number in the log, from 0: the paper's i.
-#[derive(Drop)]
+#[derive(Clone, Copy)]
 pub struct Point(pub u32);
 
 // A point's time stamp in seconds: the paper's τ.
-#[derive(Drop)]
+#[derive(Clone, Copy)]
 pub struct Stamp(pub u32);
 
 // Where a log ends: how many points it has, and the latest known time, of a point or a notice.
-#[derive(Drop)]
+#[derive(Clone, Copy)]
 pub struct LogEnd {
     pub points: u32,
     pub latest: Stamp,
 }
 
 // A term is a variable, by its number, or a constant.
-#[derive(Drop)]
+#[derive(Clone, Copy)]
 pub enum Term {
     Variable(u32),
     Constant(u32),
 }
 
 // An atom's terms: the first `count` of the four. They stand before their count, where "keep" has its two, so that a compiled node isn't put together by overlapping parts.
-#[derive(Drop)]
+#[derive(Clone, Copy)]
 pub struct Terms {
     pub first: Term,
     pub second: Term,
@@ -55,14 +57,14 @@ pub struct Terms {
 }
 
 // The two terms that "keep" compares.
-#[derive(Drop)]
+#[derive(Clone, Copy)]
 pub struct Sides {
     pub first: Term,
     pub second: Term,
 }
 
 // How "keep" compares them. With `ShiftedLess` it is "keep-shifted": the number is added to the first term.
-#[derive(Drop)]
+#[derive(Clone, Copy)]
 pub enum Comparison {
     Equal,
     Different,
@@ -72,14 +74,14 @@ pub enum Comparison {
 }
 
 // The window [start, end); an end of 0 means no end.
-#[derive(Drop)]
+#[derive(Clone, Copy)]
 pub struct Window {
     pub start: u32,
     pub end: u32,
 }
 
 // A node of a rule file: one of the fifteen kinds with its children, by number, its terms or its window. "keep" and "keep-shifted" are one case, and differ in the comparison.
-#[derive(Drop)]
+#[derive(Clone, Copy)]
 pub enum Node {
     Atom(u8, Terms),
     And(u8, u8),
@@ -98,7 +100,7 @@ pub enum Node {
 }
 
 // A node's children, by number.
-#[derive(Drop)]
+#[derive(Clone, Copy)]
 pub enum Children {
     None,
     One(u8),
@@ -106,7 +108,7 @@ pub enum Children {
 }
 
 // What since and until ask of left at a point: that it holds, that it doesn't, or nothing.
-#[derive(Drop)]
+#[derive(Clone, Copy)]
 pub enum Left {
     Holds,
     Denied,
@@ -114,7 +116,7 @@ pub enum Left {
 }
 
 // The points of its children that a node looks at for a point: that point, the one before, the one after, the earlier ones, or the later ones.
-#[derive(Drop)]
+#[derive(Clone, Copy)]
 pub enum Times {
     Here,
     Before,
@@ -124,7 +126,7 @@ pub enum Times {
 }
 
 // What all but a kind's own operation asks of a node. A kind without a window is viewed with [0, no end), and one that is no since or until asks nothing of left.
-#[derive(Drop)]
+#[derive(Clone, Copy)]
 pub struct View {
     pub children: Children,
     pub times: Times,
@@ -133,7 +135,7 @@ pub struct View {
 }
 
 // A node's head, as it stands in a rule file.
-#[derive(Drop)]
+#[derive(Clone, Copy)]
 pub struct Head {
     pub kind: u8,
     pub left: u8,
@@ -142,7 +144,7 @@ pub struct Head {
 }
 
 // A node's body, as it stands in a rule file.
-#[derive(Drop)]
+#[derive(Clone, Copy)]
 pub struct Body {
     pub word0: u32,
     pub word1: u32,
@@ -151,7 +153,7 @@ pub struct Body {
 }
 
 // What looking for a valuation among rows gives: the place where it stands; or that it isn't there, and the place of the first larger one, or how many rows there are.
-#[derive(Drop)]
+#[derive(Clone, Copy)]
 pub enum Sought {
     There(usize),
     Absent(usize),

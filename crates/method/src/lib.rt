@@ -1,1 +1,3 @@
 // The incremental method, as definitions and proofs alone.
+
+#![tactic(auto)]

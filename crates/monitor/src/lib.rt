@@ -1,4 +1,6 @@
 // The monitor: its state, starting it, taking events and notices, saving it and reading it in, and the figures to be read off it.
+#![tactic(auto)]
+
 ghost use Rattle.std.specs.Prelude.{◌≡◌, ◌≤◌, length};
 ghost use Rattle.meaning.specs.Outcome.{most_bytes};
 ghost use Rattle.meaning.specs.Keeper.{event as event_of, notice};

@@ -1,4 +1,6 @@
 // A node's kept sets read from the entries, sets put in the place of others, and a node's sets and pairs put behind what is kept.
+#![tactic(auto)]
+
 ghost use Rattle.std.specs.Prelude.{ℕ, ◌+◌, ◌-◌, ◌*◌, ◌≤◌, ◌<◌, length, get_or};
 ghost use Rattle.rowset.specs.Sets.{Run};
 ghost use Rattle.kinds.specs.Kinds.{pairs_from};

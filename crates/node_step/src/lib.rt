@@ -1,4 +1,6 @@
 // A node's own step in a call: its kept sets are loaded behind its children's, its newly settled points are settled, what is still wanted of it is kept, and its sets take the place of its children's.
+#![tactic(auto)]
+
 ghost use Rattle.std.specs.Prelude.{◌≡◌, ℕ, ◌+◌, ◌*◌, ◌≤◌, ◌<◌, length, set};
 ghost use mathlib.Core.List.{[], Memᴰ};
 ghost use Rattle.meaning.specs.Outcome.{most_rows};
@@ -15,7 +17,7 @@ use meaning::{Children, LogEnd, MOST_NODES, MOST_ROWS, Node, Point};
 use room::Child;
 
 // Where a node's step begins: so many sets are below its children's, so many stand in all, left's and right's begin at these sets, and so many entries are kept.
-#[derive(Drop)]
+#[derive(Clone, Copy)]
 pub struct Spot {
     pub below: usize,
     pub sets: usize,
@@ -37,14 +39,14 @@ pub const NODE_WORDS: usize = 9;
 pub const NO_NODE: u8 = MOST_NODES as u8;
 
 // Where a step or a walk ends: so many entries are kept; and the lowest node that is crowded, NO_NODE where there is none.
-#[derive(Drop)]
+#[derive(Clone, Copy)]
 pub struct Place {
     pub kept: usize,
     pub low: u8,
 }
 
 // A node's own figures: its lowest free variable; the point of its first set, how many points it had settled and has settled now, the point from which on its rows are kept; and where its entries begin, its pairs among them, and the entry behind them.
-#[derive(Drop)]
+#[derive(Clone, Copy)]
 struct Own {
     lowest: u32,
     low: Point,
@@ -57,7 +59,7 @@ struct Own {
 }
 
 // The sets of a node's children. Where there is one it is left; where there is none neither is read.
-#[derive(Drop)]
+#[derive(Clone, Copy)]
 struct ChildSets {
     left: Child,
     right: Child,

@@ -1,4 +1,6 @@
 // Pairs of an age and a row as a strictly ascending set: the ages are in one lent slice, the rows, of four words each, in another. `lowest` is the lowest free variable of their node, by which the rows of one age are in order.
+#![tactic(auto)]
+
 ghost use Rattle.std.specs.Prelude.{ℕ, suc, ◌+◌, ◌-◌, ◌*◌, ◌≤◌, ◌<◌, min, ◌≡◌, true, cond, [], ◌∷◌, ◌++◌, map, length, get_or};
 ghost use Rattle.meaning.specs.Order.{before, ascending};
 ghost use Rattle.meaning.specs.LookUp.{onward, look_up};

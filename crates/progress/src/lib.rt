@@ -1,4 +1,6 @@
 // How many points each node has settled, from the time stamps and the latest known time alone; and how many points words add.
+#![tactic(auto)]
+
 ghost use Rattle.std.specs.Prelude.{◌≡◌, ◌+◌, ◌-◌, ◌*◌, ◌≤◌, ◌<◌, min, cond, map, length, get_or, ltb, leb};
 ghost use Rattle.meaning.specs.Log.{point};
 ghost use Rattle.meaning.specs.View.{view_of, children_in};

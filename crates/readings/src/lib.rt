@@ -1,4 +1,6 @@
 // Readings in hundredths: signed numbers in words, and the comparison of "keep-shifted".
+#![tactic(auto)]
+
 ghost use Rattle.std.specs.Prelude.{◌≡◌};
 ghost use Rattle.meaning.specs.Readings.{twos_complement, word_of, reading_of};
 ghost use Rattle.meaning.specs.Formula.{compares};

@@ -1,4 +1,6 @@
 // The numbers and places of 01 for the refusals.
+#![tactic(auto)]
+
 ghost use Rattle.std.specs.Prelude.{◌≡◌};
 ghost use Rattle.rulefile.specs.Checked.{answer_of};
 ghost use Rattle.limits.specs.Weighs.{refusal_of};
@@ -8,7 +10,7 @@ use limits::Refusal;
 use rulefile::Checked;
 
 // A refusal's number and place.
-#[derive(Drop)]
+#[derive(Clone, Copy)]
 pub struct Numbered(pub u32, pub u32);
 
 // The refusal of a rule; 0 and 0 where it is accepted.

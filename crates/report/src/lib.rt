@@ -1,4 +1,6 @@
 // "Read rows": the row count and the rows of one entry of a report, from words of which nothing is assumed.
+#![tactic(auto)]
+
 ghost use Rattle.std.specs.Prelude.{◌≡◌, ◌&&◌, [], ◌∷◌, map, ◌+◌, ◌*◌, ◌≤◌, ◌<◌, length, get_or, take, drop, ltb, eqb};
 ghost use Rattle.meaning.specs.Outcome.{most_reported};
 ghost use Rattle.meaning.specs.Lists.{all, range};
@@ -15,14 +17,14 @@ use rowset::Row;
 const MOST_REPORTED: usize = MOST_OPEN as usize + 1;
 
 // What reading the row count of an entry answers. Refused is 01's number 17, place 0.
-#[derive(Drop)]
+#[derive(Clone, Copy)]
 pub enum RowCount {
     Rows(u32),
     Refused,
 }
 
 // A run of a report's words.
-#[derive(Drop)]
+#[derive(Clone, Copy)]
 pub struct Part {
     pub start: usize,
     pub len: usize,

@@ -1,4 +1,6 @@
 // Sets of valuations as rows of four words in lent slices. `lowest` is the lowest free variable of their node, by which they are in order.
+#![tactic(auto)]
+
 ghost use Rattle.std.specs.Prelude.{◌≡◌, cond, [], ◌∷◌, ◌++◌, ◌+◌, ◌-◌, ◌*◌, ◌≤◌, ◌<◌, length, ltb, eqb};
 ghost use Rattle.meaning.specs.Order.{before};
 ghost use Rattle.meaning.specs.LookUp.{onward, look_up, is_there};
@@ -11,7 +13,7 @@ use meaning::{MOST_ROWS, Sought};
 const MOST_HELD: usize = MOST_ROWS as usize + 1;
 
 // A valuation: the values of variables 0 to 3, 0 where one isn't free.
-#[derive(Drop)]
+#[derive(Clone, Copy)]
 pub struct Row {
     pub v0: u32,
     pub v1: u32,
@@ -44,7 +46,7 @@ pub fn put_row(ws: &mut [u32], k: usize, r: Row)
 }
 
 // How a row stands to another in the order of rows.
-#[derive(Drop)]
+#[derive(Clone, Copy)]
 pub enum Compared {
     Before,
     Same,
@@ -184,7 +186,7 @@ fn put_in(out: &mut [u32], n: usize, p: usize, r: Row)
 }
 
 // A set that rows are gathered in: how many it has, and a row near which the next is looked for: those before it stand before it in order too.
-#[derive(Drop)]
+#[derive(Clone, Copy)]
 pub struct Gathered {
     pub count: usize,
     pub near: usize,

@@ -1,4 +1,6 @@
 // Check a rule: whether bytes are a rule file, and its reach and free variables.
+#![tactic(auto)]
+
 ghost use Rattle.std.specs.Prelude.{◌≡◌, true, ℕ, ◌+◌, ◌≤◌, ◌<◌, length, get_or};
 ghost use mathlib.Core.List.{[], ◌∷◌, Memᴰ};
 ghost use Rattle.meaning.specs.Lists.{occurrences};
@@ -18,7 +20,7 @@ use ruleshape::{range_fits, shape_fits};
 const NODES: u8 = MOST_NODES as u8;
 
 // The answer: the reach and the mask of free variables, or the refusal, with its node where it has one.
-#[derive(Drop)]
+#[derive(Clone, Copy)]
 pub enum Checked {
     Accepted(u32, u8),
     Cut,
@@ -31,14 +33,14 @@ pub enum Checked {
 }
 
 // A node weighed, or a whole rule: the mask of free variables, or the refusal.
-#[derive(Drop)]
+#[derive(Clone, Copy)]
 pub enum Tested {
     Free(u8),
     Refused(Checked),
 }
 
 // The first node that isn't a child exactly once.
-#[derive(Drop)]
+#[derive(Clone, Copy)]
 pub enum Stray {
     At(u8),
     Nowhere,

@@ -1,4 +1,6 @@
 // Refusal 6 of a node: its free variables, as a mask, and the condition on them, both from the masks of lower nodes.
+#![tactic(auto)]
+
 ghost use Rattle.std.specs.Prelude.{◌≡◌, ◌+◌, ◌*◌, ◌≤◌, get_or};
 ghost use Rattle.meaning.specs.Lists.{any};
 ghost use Rattle.meaning.specs.Formula.{terms_of, is_variable, term_within};

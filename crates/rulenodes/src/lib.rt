@@ -1,4 +1,6 @@
 // Reading a rule file: its words, heads, bodies, and each node as one of the fifteen kinds.
+#![tactic(auto)]
+
 ghost use Rattle.std.specs.Prelude.{◌≡◌, [], ℕ, ◌+◌, ◌*◌, ◌≤◌, ◌<◌, max, length};
 ghost use Rattle.meaning.specs.Readings.{twos_complement};
 ghost use Rattle.meaning.specs.View.{here, view_of, children_in};
@@ -184,7 +186,7 @@ pub fn node_at(rule: &[u8], x: u8) -> Node
 }
 
 // What an atom is made of.
-#[derive(Drop)]
+#[derive(Clone, Copy)]
 pub struct AtomParts {
     pub relation: u8,
     pub terms: Terms,

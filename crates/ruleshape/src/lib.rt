@@ -1,4 +1,6 @@
 // Refusals 4 and 5 of a node: whether its fields fit its kind, and whether its window is in range.
+#![tactic(auto)]
+
 ghost use Rattle.std.specs.Prelude.{◌≡◌, ◌≤◌, ◌<◌, length};
 ghost use Rattle.meaning.specs.RuleFile.{atom_word_fits, atom_fits, two_fit, sides_fit, keep_fits, shifted_fits, exists_fits, one_window_fits, two_window_fits, shape_fits, window_fits, range_fits};
 

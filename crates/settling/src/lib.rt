@@ -1,4 +1,6 @@
 // The valuations of one node at one newly settled point, by its kind, from its children's sets in a lent slice; and its pairs there. `lowest` is the node's lowest free variable, by which both are in order.
+#![tactic(auto)]
+
 ghost use Rattle.std.specs.Prelude.{◌≡◌, cond, not, ◌&&◌, [], ◌++◌, map, ◌+◌, ◌<◌, min, length, ltb, eqb};
 ghost use Rattle.meaning.specs.Lists.{select};
 ghost use Rattle.meaning.specs.Log.{point, elapsed, point_before, point_after};

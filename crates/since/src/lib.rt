@@ -1,4 +1,6 @@
 // The since kinds at a newly settled point, straight from their definition: right's rows from the first newly settled point on, and the pairs that were held before it. `lowest` is the node's lowest free variable, by which its set and its pairs are in order.
+#![tactic(auto)]
+
 ghost use Rattle.std.specs.Prelude.{suc, ◌+◌, ◌-◌, ◌≤◌, ◌<◌, min, ◌≡◌, true, cond, ◌&&◌, [], ◌∷◌, map, length, ltb, leb};
 ghost use Rattle.meaning.specs.Lists.{select};
 ghost use Rattle.meaning.specs.Log.{point};
@@ -20,7 +22,7 @@ use room::Child;
 use rowset::{Gathered, Row};
 
 // A window's bounds: an age is in it from `from` on and below `below`, and counts as at most `most`.
-#[derive(Drop)]
+#[derive(Clone, Copy)]
 struct Bounds {
     from: u64,
     below: u64,

@@ -1,4 +1,6 @@
 // The walk over a rule's tree in a call: a node's children first, of two the heavier first, then the node itself, whose sets take the place of its children's.
+#![tactic(auto)]
+
 ghost use Rattle.std.specs.Prelude.{◌≡◌, cond, ◌+◌, ◌-◌, ◌*◌, ◌≤◌, ◌<◌, length, eqb};
 ghost use Rattle.meaning.specs.Outcome.{most_nodes};
 ghost use Rattle.meaning.specs.RuleFile.{node_count};
@@ -12,7 +14,7 @@ use node_step::{NO_NODE, NODE_WORDS, Place, Spot, leaf_step, own_step};
 use rulenodes::children_at;
 
 // A node's two children in the order of the walk, and whether they change places in it.
-#[derive(Drop)]
+#[derive(Clone, Copy)]
 struct Sides {
     first: u8,
     second: u8,

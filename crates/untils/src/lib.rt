@@ -1,4 +1,6 @@
 // The valuations of until at a point, from its children's sets in a lent slice. `lowest` is the node's lowest free variable, by which its set is in order.
+#![tactic(auto)]
+
 ghost use Rattle.std.specs.Prelude.{◌≡◌, true, false, cond, [], ◌+◌, ◌-◌, ◌≤◌, ◌<◌, length, get_or, eqb};
 ghost use Rattle.meaning.specs.Lists.{all, select};
 ghost use Rattle.meaning.specs.Log.{elapsed, points_from};
@@ -17,7 +19,7 @@ use room::Child;
 use rowset::{Gathered, Row};
 
 // The rows of one set, from..to.
-#[derive(Drop)]
+#[derive(Clone, Copy)]
 pub struct Part {
     pub from: usize,
     pub to: usize,

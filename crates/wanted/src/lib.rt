@@ -1,4 +1,6 @@
 // The point from which on each node's rows are kept for its parent.
+#![tactic(auto)]
+
 ghost use Rattle.std.specs.Prelude.{◌≡◌, ℕ, ◌+◌, ◌*◌, ◌≤◌, ◌<◌, length, get_or};
 ghost use mathlib.Core.List.{[], ◌∷◌, Memᴰ};
 ghost use Rattle.meaning.specs.Outcome.{given};

@@ -1,4 +1,6 @@
 // The room of a call, chosen by how many rows and marks it needs and how many entries it may keep, and the call settled in it.
+#![tactic(auto)]
+
 ghost use Rattle.std.specs.Prelude.{◌≡◌, true, ◌≤◌, ◌<◌};
 ghost use Rattle.meaning.specs.Outcome.{most_points};
 ghost use Rattle.method.specs.Room.{rows_needed};
@@ -54,7 +56,7 @@ const MARKS: usize = 391;
 const TABLE: usize = SET_WORDS + MOST_NODES * 3;
 
 // What a call needs at most: rows, marks, and entries where each row of the event adds one.
-#[derive(Drop)]
+#[derive(Clone, Copy)]
 struct Needs {
     rows: usize,
     marks: usize,

@@ -1,4 +1,6 @@
 // The words of a report, written front to back, and how many they are.
+#![tactic(auto)]
+
 ghost use Rattle.std.specs.Prelude.{◌≡◌, cond, List, [], ◌∷◌, ℕ, ◌+◌, ◌-◌, ◌*◌, ◌/◌, ◌%◌, ◌^◌, ◌≤◌, ◌<◌, length, get_or, eqb};
 ghost use Rattle.meaning.specs.Lists.{gather};
 ghost use Rattle.meaning.specs.Keeper.{report_row};
@@ -13,7 +15,7 @@ use rowset::Row;
 use rulenodes::{has_bit, one_if};
 
 // What a report is on: `count` points from `from` on, and the mask of the free variables. Set `first` of those lent is that of point `low`, and the first time lent is that of point `base`.
-#[derive(Drop)]
+#[derive(Clone, Copy)]
 pub struct Points {
     pub from: Point,
     pub count: u32,
@@ -24,7 +26,7 @@ pub struct Points {
 }
 
 // The parts of a report, in the order in which they are written.
-#[derive(Drop)]
+#[derive(Clone, Copy)]
 pub enum Part {
     Sizes,
     Triples,
@@ -32,7 +34,7 @@ pub enum Part {
 }
 
 // What writing a report gives: how many words were written, or how many it needs.
-#[derive(Drop)]
+#[derive(Clone, Copy)]
 pub enum Wrote {
     Words(usize),
     Short(usize),

@@ -1,4 +1,6 @@
 // The operations for programs in other languages. A slice is passed as its address and then its length.
+#![tactic(auto)]
+
 ghost use Rattle.std.specs.Prelude.{◌≡◌, length};
 ghost use Rattle.meaning.specs.RuleFile.{checking};
 ghost use Rattle.meaning.specs.Readings.{word_of, reading_of};
@@ -27,7 +29,7 @@ use rulefile::{Checked, check};
 
 // The answer of checking: 0, or the refusal's number and place; the reach, and the free variables, bit k for variable k.
 #[repr(C)]
-#[derive(Drop)]
+#[derive(Clone, Copy)]
 pub struct Parts {
     pub number: u32,
     pub place: u32,
@@ -117,7 +119,7 @@ pub extern "C" fn yokemango_rows_word(report: &[u32], k: usize, i: usize) -> u64
 
 // What starting gives: 0, or the refusal's number and place; the reach and free variables; and the state, zeros where the rule is refused.
 #[repr(C)]
-#[derive(Drop)]
+#[derive(Clone, Copy)]
 pub struct StartParts {
     pub number: u32,
     pub place: u32,
@@ -128,7 +130,7 @@ pub struct StartParts {
 
 // 0 and the points that are open, or 8; and the kept entries.
 #[repr(C)]
-#[derive(Drop)]
+#[derive(Clone, Copy)]
 pub struct Figures {
     pub number: u32,
     pub open_points: u32,
@@ -137,7 +139,7 @@ pub struct Figures {
 
 // The answer of a taking in numbers: 0 and the words written, or the refusal's number and place.
 #[repr(C)]
-#[derive(Drop)]
+#[derive(Clone, Copy)]
 pub struct Told {
     pub number: u32,
     pub place: u32,
