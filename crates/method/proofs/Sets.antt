@@ -106,7 +106,7 @@ module _ (F : ℕ → Formula) (v : Inputs) (same : v.free ≡ (λ y. free (F y)
   candidates-cut (Until a b w) f s ps c start i u m = until_cut v _ w _ (v.rows b) i (s b two) u m
   candidates-cut (NotUntil a b w) f s ps c start i u m = until_cut v _ w _ (v.rows b) i (s b two) u m
   candidates-cut (Once a w) f s ps c start i u m = since_cut v w _ (v.rows a) ps start i (s a one) c u m
-  candidates-cut (Eventually a w) f s ps c start i u m = until_cut v _ w _ (v.rows a) i (s a one) u m
+  candidates-cut (Eventually a w) f s ps c start i u m = until_cut v _ w (λ u k. true) (v.rows a) i (s a one) u m
 
   new_rows_lem : (n : Node) → Fine (formula_of F n) → Children n → (start : Point) (count : ℕ) (ps : List (List ℕ)) → PairsOf (free (formula_of F n)) ps → (rows : List (List ℕ)) → Memᴰ rows (new_rows v (lowest_of (free (formula_of F n))) n start count ps) → RowsOf (free (formula_of F n)) rows
   unfolding settle

@@ -1,0 +1,6 @@
+-- `rulenodes::sides_of` meets its contract, from its two terms.
+use borrow.Author.Rules.{rules}
+use Rattle.rulenodes.proofs.sides_of.Goals as goal
+
+pub returns : goal.returns
+returns c = cc

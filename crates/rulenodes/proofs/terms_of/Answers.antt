@@ -1,0 +1,6 @@
+-- `rulenodes::terms_of` meets its contract, from its four terms.
+use borrow.Author.Rules.{rules}
+use Rattle.rulenodes.proofs.terms_of.Goals as goal
+
+pub returns : goal.returns
+returns c = cc
