@@ -4,4 +4,5 @@ use Rattle.meaning.specs.RuleFile.{body_at}
 use Rattle.rulenodes.proofs.body_at.Goals as goal
 
 pub returns : goal.returns
+unfolding body_at
 returns c = cc

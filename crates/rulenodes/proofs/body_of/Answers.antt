@@ -8,6 +8,5 @@ use Rattle.rulenodes.proofs.Rest.{rest_whole}
 use Rattle.rulenodes.proofs.body_of.Goals as goal
 
 pub returns : goal.returns
-returns c = 
-    let args = c.args in
+returns c = let args = c.args in
     c.body_at.ensures ∙ ap (λ l. body_at l args.x) (rest_whole args.rule.now (12 + 4 * get_or args.rule.now 2 0))

@@ -5,8 +5,8 @@ use Rattle.meaning.specs.RuleFile.{arity, head_at, body_at, bodies, node_of, nod
 use Rattle.rulenodes.proofs.children_at.Goals as goal
 
 pub returns : goal.returns
-returns c = 
-    let args = c.args in
+unfolding node_at
+returns c = let args = c.args in
     let rule = args.rule.now in
     let a = arity rule (head_at rule args.x).left in
     let w = body_at (bodies rule) args.x in

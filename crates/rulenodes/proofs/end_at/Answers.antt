@@ -8,6 +8,6 @@ use Rattle.rulenodes.proofs.Rest.{rest_whole}
 use Rattle.rulenodes.proofs.end_at.Goals as goal
 
 pub returns : goal.returns
-returns c = 
-    let args = c.args in
+unfolding body_at
+returns c = let args = c.args in
     c.word_at.ensures ∙ ap (λ l. word_at l (16 * args.x + 4)) (rest_whole args.rule.now (12 + 4 * get_or args.rule.now 2 0))

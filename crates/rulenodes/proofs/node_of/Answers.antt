@@ -5,48 +5,62 @@ use Rattle.meaning.specs.RuleFile.{node_of}
 use Rattle.rulenodes.proofs.node_of.Goals as goal
 
 pub returns-in-1 : goal.returns-in-1
+unfolding node_of
 returns-in-1 c = rw c.in-1.is (cc)
 
 pub returns-in-2 : goal.returns-in-2
+unfolding node_of
 returns-in-2 c = rw c.in-2.is
 
 pub returns-in-3 : goal.returns-in-3
+unfolding node_of
 returns-in-3 c = rw c.in-3.is
 
 pub returns-in-4 : goal.returns-in-4
+unfolding node_of
 returns-in-4 c = rw c.in-4.is (cc)
 
 pub returns-in-5 : goal.returns-in-5
+unfolding node_of
 returns-in-5 c = rw c.in-5.is
 
 pub returns-in-6 : goal.returns-in-6
+unfolding node_of
 returns-in-6 c = rw c.in-6.is
 
 pub returns-in-7 : goal.returns-in-7
+unfolding node_of
 returns-in-7 c = rw c.in-7.is
 
 pub returns-in-8 : goal.returns-in-8
+unfolding node_of
 returns-in-8 c = rw c.in-8.is
 
 pub returns-in-9 : goal.returns-in-9
+unfolding node_of
 returns-in-9 c = rw c.in-9.is
 
 pub returns-in-10 : goal.returns-in-10
+unfolding node_of
 returns-in-10 c = rw c.in-10.is
 
 pub returns-in-11 : goal.returns-in-11
+unfolding node_of
 returns-in-11 c = rw c.in-11.is
 
 pub returns-in-12 : goal.returns-in-12
+unfolding node_of
 returns-in-12 c = rw c.in-12.is
 
 pub returns-in-13 : goal.returns-in-13
+unfolding node_of
 returns-in-13 c = rw c.in-13.is
 
 pub returns-in-15 : goal.returns-in-15
+unfolding node_of
 returns-in-15 c = rw c.in-15.is (cc)
 
 pub returns-in_default : goal.returns-in_default
-returns-in_default c = 
-    let r = c.in_default.rest in
+unfolding node_of
+returns-in_default c = let r = c.in_default.in_default-own.rest in
     simp (ne_eqb _ _ r.1, ne_eqb _ _ r.0.1, ne_eqb _ _ r.0.0.1, ne_eqb _ _ r.0.0.0.1, ne_eqb _ _ r.0.0.0.0.1, ne_eqb _ _ r.0.0.0.0.0.1, ne_eqb _ _ r.0.0.0.0.0.0.1, ne_eqb _ _ r.0.0.0.0.0.0.0.1, ne_eqb _ _ r.0.0.0.0.0.0.0.0.1, ne_eqb _ _ r.0.0.0.0.0.0.0.0.0.1, ne_eqb _ _ r.0.0.0.0.0.0.0.0.0.0.1, ne_eqb _ _ r.0.0.0.0.0.0.0.0.0.0.0.1, ne_eqb _ _ r.0.0.0.0.0.0.0.0.0.0.0.0.1, ne_eqb _ _ r.0.0.0.0.0.0.0.0.0.0.0.0.0.1)

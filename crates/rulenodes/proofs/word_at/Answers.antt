@@ -4,4 +4,5 @@ use Rattle.meaning.specs.RuleFile.{word_at}
 use Rattle.rulenodes.proofs.word_at.Goals as goal
 
 pub returns : goal.returns
+unfolding word_at
 returns c = cc

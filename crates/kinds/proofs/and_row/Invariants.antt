@@ -1,0 +1,19 @@
+use Prim.Native.Nat.{ℕ, ◌-◌}
+use native.Mathlib.Omega.{arith}
+use mathlib.Core.Path.{refl}
+use mathlib.Core.Bool.{Bool, cond}
+use mathlib.Core.List.{List, [], ◌∷◌, map}
+use borrow.Author.Rules.{rules}
+use Rattle.meaning.specs.Lists.{select}
+use Rattle.meaning.specs.Evaluator.{agrees, joined}
+use Rattle.kinds.specs.Kinds.{in_mask}
+use Rattle.rowset.specs.Rows.{words_of, row_at, rows_from}
+use Rattle.rowset.proofs.Growing.{Gathering, gathers_from, gathers_on, gather_from, gather_room, ended, map_select_one, chosen}
+use Rattle.kinds.proofs.and_row.Given as goal
+
+-- `and_row` meets its contract: each row of the run that agrees is put in, joined.
+abbrev pub invariant-loop-i : goal.invariant-loop-i
+invariant-loop-i l = Gathering l.lowest (row_at l.rows) (λ us. map (joined (in_mask l.f) (words_of l.u)) (select (agrees (in_mask l.f) (in_mask l.g) (words_of l.u)) us)) l.to l.initial.out l.initial.set (map (joined (in_mask l.f) (words_of l.u)) (select (agrees (in_mask l.f) (in_mask l.g) (words_of l.u)) (rows_from l.rows l.from (l.to - l.from)))) l.out l.set l.i
+
+abbrev pub decreases-loop-i : goal.decreases-loop-i
+decreases-loop-i l = l.to - l.i

@@ -1,0 +1,18 @@
+use Prim.Native.Nat.{◌-◌}
+use native.Mathlib.Omega.{arith}
+use mathlib.Core.Path.{◌≡◌, sym, ap, ◌∙◌}
+use lib.ListN.{take}
+use borrow.Author.Rules.{rules}
+use Rattle.meaning.specs.Formula.{terms_of}
+use Rattle.meaning.specs.Definition2.{value}
+use Rattle.meaning.specs.Evaluator.{bound}
+use Rattle.rowset.specs.Rows.{words_of}
+use Rattle.kinds.proofs.Atoms.{term_at, Matching, matching_none, matching_more, matching_all, matching_ends}
+use Rattle.kinds.proofs.columns_match.Given as goal
+
+-- `columns_match` meets its contract. The loop keeps `Matching`: the columns before place k are their terms' values.
+abbrev pub invariant-loop-k : goal.invariant-loop-k
+invariant-loop-k l = Matching l.ts l.c (value (bound (terms_of l.ts) (take l.ts.count (words_of l.c)))) l.k
+
+abbrev pub decreases-loop-k : goal.decreases-loop-k
+decreases-loop-k l = l.count - l.k

@@ -1,0 +1,6 @@
+-- `term_bound` meets its contract, by cases.
+use borrow.Author.Rules.{rules}
+use Rattle.kinds.proofs.term_bound.Goals as goal
+
+pub returns-in-Variable : goal.returns-in-Variable
+returns-in-Variable c = rw c.in-Variable.is c.bound_of.ensures

@@ -1,0 +1,6 @@
+-- `term_value` meets its contract, by cases.
+use borrow.Author.Rules.{rules}
+use Rattle.kinds.proofs.term_value.Goals as goal
+
+pub returns-in-Variable : goal.returns-in-Variable
+returns-in-Variable c = rw c.in-Variable.is c.column.ensures

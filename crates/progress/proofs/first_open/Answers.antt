@@ -1,0 +1,19 @@
+-- The scan gives from the start what it gives from `i` on, until it stops.
+use Prim.Native.Nat.{◌-◌}
+use mathlib.Core.Path.{◌≡◌, refl, sym, ◌∙◌}
+use Rattle.meaning.specs.Log.{point}
+use Rattle.method.specs.Stored.{stamp_in}
+use Rattle.method.specs.Counts.{scan}
+use Rattle.progress.proofs.Scans.{scan_more, scan_stops, scan_ends}
+use borrow.Author.Tests.{not-true, not-false}
+use borrow.Author.Rules.{rules}
+use Rattle.progress.proofs.first_open.Goals as goal
+
+pub returns-then-not-ends_by : goal.returns-then-not-ends_by
+returns-then-not-ends_by c = sym (c.loop-i.invariant ∙ scan_stops _ _ _ _ _ c.loop-i-test.true c.time_in.ensures c.ends_by.ensures c.if-not-ends_by.true)
+
+pub loop-i-preserved : goal.loop-i-preserved
+loop-i-preserved c = c.loop-i.invariant ∙ scan_more _ _ _ _ _ c.loop-i-test.true c.time_in.ensures c.ends_by.ensures c.if-not-ends_by.false
+
+pub returns : goal.returns
+returns c = sym (c.loop-i.invariant ∙ scan_ends _ _ _ _ _ c.loop-i-test.false)

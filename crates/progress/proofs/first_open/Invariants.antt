@@ -1,0 +1,16 @@
+use Prim.Native.Nat.{◌-◌}
+use mathlib.Core.Path.{◌≡◌, refl, sym, ◌∙◌}
+use Rattle.meaning.specs.Log.{point}
+use Rattle.method.specs.Stored.{stamp_in}
+use Rattle.method.specs.Counts.{scan}
+use Rattle.progress.proofs.Scans.{scan_more, scan_stops, scan_ends}
+use borrow.Author.Tests.{not-true, not-false}
+use borrow.Author.Rules.{rules}
+use Rattle.progress.proofs.first_open.Given as goal
+
+-- The scan gives from the start what it gives from `i` on, until it stops.
+abbrev pub invariant-loop-i : goal.invariant-loop-i
+invariant-loop-i l = scan (stamp_in l.base l.times) l.d l.bound (point l.initial.i) (l.end - l.initial.i) ≡ scan (stamp_in l.base l.times) l.d l.bound (point l.i) (l.end - l.i)
+
+abbrev pub decreases-loop-i : goal.decreases-loop-i
+decreases-loop-i l = l.end - l.i
