@@ -270,7 +270,7 @@ pub fn eventually(
 ) -> usize
     requires stand { Stand rows.now at.now first low i m }
     requires set_room { SetRoom out.old n }
-    ensures* { λ k. ⌜ Added lowest out.old n out.new k (until_rows (stamp_in base times.now) m w (λ u k. true) (set_at rows.now at.now first low) i) ⌝ }
+    ensures { Added lowest out.old n out.new result (until_rows (stamp_in base times.now) m w (λ u k. true) (set_at rows.now at.now first low) i) }
 {
     let start = progress::time_in(times, base, i);
     let mut k = n;

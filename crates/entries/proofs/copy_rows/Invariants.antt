@@ -1,0 +1,11 @@
+use Prim.Native.Nat.{◌-◌}
+use native.Mathlib.Omega.{arith}
+use Rattle.entries.proofs.Copies.{Copying, copied_none, copied_more, copied_all}
+use Rattle.entries.proofs.copy_rows.Given as goal
+
+-- `copy_rows` meets its contract. The loop's invariant: the rows before i are copied.
+abbrev pub invariant-loop-i : goal.invariant-loop-i
+invariant-loop-i l = Copying l.values l.from l.to l.initial.rows l.end l.rows l.k l.i
+
+abbrev pub decreases-loop-i : goal.decreases-loop-i
+decreases-loop-i l = l.to - l.i

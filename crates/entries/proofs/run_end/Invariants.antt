@@ -1,0 +1,15 @@
+use Prim.Native.Nat.{◌+◌, ◌-◌}
+use native.Mathlib.Omega.{arith}
+use borrow.Author.Tests.{eq-eqb, ne_eqb}
+use mathlib.Core.Path.{◌≡◌, refl}
+use lib.ListN.{get_or}
+use Rattle.entries.specs.Entries.{streak, is_word, run_of}
+use Rattle.entries.proofs.Streaks.{streak_more, streak_stops, streak_ends}
+use Rattle.entries.proofs.run_end.Given as goal
+
+-- `run_end` meets its contract. The loop's invariant: the run's end is k and what the run from k on adds.
+abbrev pub invariant-loop-k : goal.invariant-loop-k
+invariant-loop-k l = l.cursor + run_of l.words l.cursor l.count l.word ≡ l.k + streak (is_word l.words l.word) l.k (l.count - l.k)
+
+abbrev pub decreases-loop-k : goal.decreases-loop-k
+decreases-loop-k l = l.count - l.k

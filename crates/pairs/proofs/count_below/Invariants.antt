@@ -1,0 +1,11 @@
+use Prim.Native.Nat.{◌+◌, ◌-◌, ◌/◌}
+use native.Mathlib.Omega.{arith}
+use Rattle.pairs.proofs.Ascents.{Halving, halving_none, halving_up, halving_down, halving_all}
+use Rattle.pairs.proofs.count_below.Given as goal
+
+-- `count_below` meets its contract. The loop's invariant: the ages up to low are below the bound, and those from high on aren't.
+abbrev pub invariant-loop-low : goal.invariant-loop-low
+invariant-loop-low l = Halving l.ages l.n l.by l.bound l.low l.high
+
+abbrev pub decreases-loop-low : goal.decreases-loop-low
+decreases-loop-low l = l.high - l.low

@@ -1,0 +1,14 @@
+use Prim.Native.Nat.{◌+◌, ◌-◌, ◌≤◌}
+use native.Mathlib.Omega.{arith}
+use mathlib.Core.Path.{◌≡◌, refl}
+use lib.ListN.{get_or}
+use Rattle.entries.specs.Appended.{WordsPut}
+use Rattle.entries.proofs.Putting.{put_none, put_more}
+use Rattle.pairs.proofs.put_grown.Given as goal
+
+-- `put_grown` meets its contract. The loop's invariant: the first k ages are put, each grown.
+abbrev pub invariant-loop-k : goal.invariant-loop-k
+invariant-loop-k l = (l.k ≤ l.m) × WordsPut l.initial.ages l.n l.ages l.k (λ j. get_or l.old_ages j 0 + l.by)
+
+abbrev pub decreases-loop-k : goal.decreases-loop-k
+decreases-loop-k l = l.m - l.k

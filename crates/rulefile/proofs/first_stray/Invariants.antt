@@ -1,0 +1,14 @@
+use Prim.Native.Nat.{◌≤◌, ◌-◌, ◌+◌}
+use native.Mathlib.Omega.{arith}
+use mathlib.Core.Path.{◌≡◌, sym, subst}
+use borrow.Author.Rules.{rules}
+use Rattle.rulefile.specs.Weighing.{FirstStray}
+use Rattle.rulefile.proofs.Parents.{stray_more}
+use Rattle.rulefile.proofs.first_stray.Given as goal
+
+-- `rulefile::first_stray` meets its contract. The loop keeps `FirstStray` of the nodes passed so far.
+abbrev pub invariant-loop-y : goal.invariant-loop-y
+invariant-loop-y l = (l.y ≤ l.n) × FirstStray l.uses l.y l.found
+
+abbrev pub decreases-loop-y : goal.decreases-loop-y
+decreases-loop-y l = l.n - l.y

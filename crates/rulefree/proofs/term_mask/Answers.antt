@@ -1,0 +1,6 @@
+-- `rulefree::term_mask` meets its contract, from the answers on the four variables.
+use borrow.Author.Rules.{rules}
+use Rattle.rulefree.proofs.term_mask.Goals as goal
+
+pub returns : goal.returns
+returns c = cc

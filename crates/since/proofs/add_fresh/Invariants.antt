@@ -1,0 +1,28 @@
+use Prim.Native.Nat.{ℕ, ◌+◌, ◌-◌, ◌<◌}
+use native.Mathlib.Omega.{arith}
+use mathlib.Core.Path.{refl, ap, ◌∙◌}
+use mathlib.Core.Bool.{cond}
+use mathlib.Core.List.{List, [], ◌∷◌, map}
+use borrow.Author.Rules.{rules}
+use Rattle.meaning.specs.Lists.{range}
+use Rattle.meaning.specs.Log.{point, elapsed}
+use Rattle.meaning.specs.Kept.{below_end, counted_age}
+use Rattle.meaning.specs.declared.Point.{Point}
+use Rattle.meaning.specs.declared.Stamp.{Stamp}
+use Rattle.method.specs.Stored.{stamp_in}
+use Rattle.rowset.proofs.Growing.{Turns, starts_all, goes_on, ended}
+use Rattle.room.specs.Room.{set_at}
+use Rattle.untils.proofs.Spans.{stand_part}
+use Rattle.pairs.specs.Pairs.{PairsAdded}
+use Rattle.pairs.proofs.Adding.{add_none}
+use Rattle.since.proofs.Fresh.{lasting_to, pairs_over, pairs_of, pairs_one, pairs_fresh}
+use Rattle.pairs.proofs.Growing.{pairs_then, pairs_as}
+use Rattle.since.proofs.add_fresh.Given as goal
+
+-- `add_fresh` meets its contract: each point from i back to start puts in what it gives.
+abbrev pub invariant-loop-x : goal.invariant-loop-x
+invariant-loop-x l = Turns (λ y. point (l.i.0 - y)) (pairs_over l.left l.a (set_at l.rows l.at l.a.first l.a.low) (set_at l.rows l.at l.b.first l.b.low) (stamp_in l.base l.times) l.w l.here l.end) l.count
+    (pairs_over l.left l.a (set_at l.rows l.at l.a.first l.a.low) (set_at l.rows l.at l.b.first l.b.low) (stamp_in l.base l.times) l.w l.here l.end (map (λ y. point (l.i.0 - y)) (range 0 l.count))) (PairsAdded l.lowest l.initial.ages l.initial.values l.initial.g l.ages l.values l.g) l.x
+
+abbrev pub decreases-loop-x : goal.decreases-loop-x
+decreases-loop-x l = l.count - l.x

@@ -1,0 +1,23 @@
+use Prim.Native.Nat.{ℕ, ◌-◌}
+use native.Mathlib.Omega.{arith}
+use mathlib.Core.Path.{refl}
+use mathlib.Core.Bool.{Bool, cond}
+use mathlib.Core.List.{List, [], ◌∷◌, map}
+use borrow.Author.Rules.{rules}
+use Rattle.meaning.specs.Lists.{select}
+use Rattle.rowset.specs.Rows.{row_at, rows_from}
+use Rattle.rowset.proofs.Growing.{Turns, starts, goes_on, ended, map_select_one, chosen}
+use Rattle.room.specs.Room.{set_at}
+use Rattle.untils.specs.Until.{leads}
+use Rattle.pairs.specs.Pairs.{PairsAdded}
+use Rattle.pairs.proofs.Adding.{add_none}
+use Rattle.pairs.proofs.Growing.{pairs_then}
+use Rattle.since.proofs.add_lasting.Given as goal
+
+-- `add_lasting` meets its contract: each row of the run for which left passes is put in at the age.
+abbrev pub invariant-loop-x : goal.invariant-loop-x
+invariant-loop-x l = Turns (row_at l.rows) (λ us. map (λ u. l.age ∷ u) (select (leads l.left l.a (set_at l.rows l.at l.a.first l.a.low) l.after l.end) us)) l.to
+    (map (λ u. l.age ∷ u) (select (leads l.left l.a (set_at l.rows l.at l.a.first l.a.low) l.after l.end) (rows_from l.rows l.from (l.to - l.from)))) (PairsAdded l.lowest l.initial.ages l.initial.values l.initial.g l.ages l.values l.g) l.x
+
+abbrev pub decreases-loop-x : goal.decreases-loop-x
+decreases-loop-x l = l.to - l.x

@@ -1,0 +1,6 @@
+-- The mark after the last point's set.
+use borrow.Author.Rules.{rules}
+use Rattle.writer.proofs.end_row.Goals as goal
+
+pub returns : goal.returns
+returns c = cc

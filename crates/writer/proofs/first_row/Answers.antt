@@ -1,0 +1,6 @@
+-- The mark of the first point's set.
+use borrow.Author.Rules.{rules}
+use Rattle.writer.proofs.first_row.Goals as goal
+
+pub returns : goal.returns
+returns c = cc

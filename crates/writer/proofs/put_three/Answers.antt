@@ -1,0 +1,7 @@
+-- Three words, one after the other.
+use borrow.Author.Rules.{rules}
+use Rattle.writer.proofs.Putting.{put_then}
+use Rattle.writer.proofs.put_three.Goals as goal
+
+pub returns : goal.returns
+returns c = put_then (put_then c.put_at-second.ensures c.put_at-third.ensures) c.put_at.ensures

@@ -1,0 +1,19 @@
+use Prim.Native.Nat.{ℕ, ◌+◌, ◌-◌, ◌≤◌}
+use native.Mathlib.Omega.{arith}
+use mathlib.Core.Path.{◌≡◌, refl, sym, ◌∙◌, ap}
+use mathlib.Core.List.{List}
+use borrow.Author.Rules.{rules}
+use Rattle.meaning.specs.Lists.{range, gather}
+use Rattle.meaning.specs.Log.{point}
+use Rattle.method.proofs.Lists.{gather_map}
+use Rattle.writer.specs.declared.Points.{Points}
+use Rattle.writer.specs.Words.{triple_at, triples}
+use Rattle.writer.proofs.Putting.{Putting, put_long, putting_none, turn_room, turn_more, turn_all}
+use Rattle.writer.proofs.Reports.{triple_same}
+use Rattle.writer.proofs.put_triples.Given as goal
+
+abbrev pub invariant-loop-j : goal.invariant-loop-j
+invariant-loop-j l = ((l.end ≡ l.p.from.0 + l.p.count) × (l.p.from.0 ≤ l.j) × (l.j ≤ l.end)) × Putting l.initial.buf l.at (triples l.marks l.times l.p) l.buf l.k (gather (give l.marks l.times l.p) (range l.j (l.end - l.j)))
+
+abbrev pub decreases-loop-j : goal.decreases-loop-j
+decreases-loop-j l = l.end - l.j
