@@ -1,6 +1,6 @@
 -- "Readings in hundredths": signed numbers that stand in words.
 use Rattle.std.specs.Prelude.{ℕ, cond, ltb, ℤ, pos, nat_abs, ◌+ℤ◌}
-use Rattle.std.proofs.Math.IntN.{sub_ℕ}
+use lib.IntN.{sub_ℕ}
 
 -- "word 2 a signed two's complement number": from 2,147,483,648 on, a word stands for the number that is 4,294,967,296 less
 abbrev pub twos_complement : ℕ → ℤ

@@ -1,8 +1,8 @@
 -- One call's step on what is stored: the nodes in turn, lowest first, what is then kept, and the answer.
 use Rattle.std.specs.Prelude.{ℕ, zero, suc, ◌+◌, ◌-◌, min, Bool, cond, length, eqb}
 use mathlib.Core.List.{List, [], ◌∷◌, ◌++◌, map}
-use Rattle.std.proofs.Math.ListN.{get_or, drop}
-use Rattle.std.proofs.Math.Dec.{ltb}
+use lib.ListN.{get_or, drop}
+use lib.Dec.{ltb}
 use Rattle.meaning.specs.Lists.{any, range, select, gather}
 use Rattle.meaning.specs.Outcome.{Outcome, refused, given, most_rows}
 use Rattle.meaning.specs.Log.{point, stamp, relation_in, points_from}

@@ -1,6 +1,6 @@
 -- When what is stored is well formed: the conditions of refusal 8, as docs/STATE.md lists them. What a log stores is so (proofs/Reached.antt).
 use Rattle.std.specs.Prelude.{ℕ, suc, ◌+◌, ◌-◌, ◌≤◌, ◌<◌, ◌≡◌, Bool, true, false, cond, ◌&&◌, List, [], ◌∷◌, ◌++◌, map, length, get_or, drop}
-use Rattle.std.proofs.Math.Dec.{leb, eqb}
+use lib.Dec.{leb, eqb}
 use Rattle.meaning.specs.Lists.{all, range, gather, same_row}
 use Rattle.meaning.specs.Outcome.{given, most_points, most_rows, most_open, most_kept}
 use Rattle.meaning.specs.Order.{ascending}

@@ -3,5 +3,4 @@ pub mod Gathers
 pub mod Putting
 pub mod Reports
 pub mod Writing
-pub mod LentOn
-pub mod Handing
+pub mod Handed

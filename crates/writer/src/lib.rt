@@ -217,7 +217,8 @@ pub struct Writer<'a> {
 }
 
 fn new<'a>(buf: &'a mut [u32]) -> Writer<'a>
-    ensures { (result.buf ≡ buf.entry) × (result.at ≡ 0) }
+    ensures same_reference { result.buf.ghost_name ≡ buf.entry.ghost_name }
+    ensures made { (result.buf ≡ buf.entry) × (result.at ≡ 0) }
 {
     Writer { buf: buf, at: 0 }
 }
@@ -232,7 +233,8 @@ fn put<'a>(
     p: Points,
 ) -> Writer<'a>
     requires { Reportable rows.now marks.now p × (w.at + length (part_words part rows.now marks.now times.now p) ≤ length w.buf.now) }
-    ensures { result ≡ handed w.entry (part_words part rows.now marks.now times.now p) }
+    ensures same_reference { result.buf.ghost_name ≡ w.entry.buf.ghost_name }
+    ensures handed { result ≡ handed w.entry (part_words part rows.now marks.now times.now p) }
 {
     let at = w.at;
     let next = put_part(&mut *w.buf, at, part, rows, marks, times, p);

@@ -20,10 +20,10 @@ unfolding pairs_from
 loop-x-init c = starts_all (add_none c.requires.pair_room)
 
 pub row_at-r-requires : goal.row_at-r-requires
-row_at-r-requires c = ?
+row_at-r-requires c = omega (arith, c.requires.pairs_there.values_there, c.ranges, c.well_formed, c.loop-x-test.true)
 
 pub offset_bounds-old_ages-x : goal.offset_bounds-old_ages-x
-offset_bounds-old_ages-x c = ?
+offset_bounds-old_ages-x c = omega (arith, c.requires.pairs_there.values_there, c.ranges, c.well_formed, c.loop-x-test.true)
 
 pub bounds-old_ages-x : goal.bounds-old_ages-x
 bounds-old_ages-x c = omega (arith, c.loop-x-test.true)
@@ -38,7 +38,7 @@ pub add_older-g-requires : goal.add_older-g-requires
 add_older-g-requires c = record { stand = c.requires.stand; pair_room = c.loop-x.invariant.put.room }
 
 pub overflow_add-x : goal.overflow_add-x
-overflow_add-x c = ?
+overflow_add-x c = omega (arith, c.requires.pairs_there.values_there, c.ranges, c.well_formed, c.loop-x-test.true)
 
 pub loop-x-preserved : goal.loop-x-preserved
 loop-x-preserved c = let a = c.args in

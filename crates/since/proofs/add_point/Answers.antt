@@ -14,7 +14,7 @@ use Rattle.since.proofs.Held.{every_row}
 use Rattle.since.proofs.add_point.Goals as goal
 
 pub overflow_add-after : goal.overflow_add-after
-overflow_add-after c = ?
+overflow_add-after c = omega (arith, c.requires.stand.ordered, c.well_formed)
 
 pub add_young-requires : goal.add_young-requires
 add_young-requires c = let p = c.set_part-part.ensures in

@@ -8,6 +8,14 @@ use mathlib.Core.List.{List}
 use lib.ListN.{get_or}
 use borrow.Author.Rules.{rules}
 use Rattle.since.proofs.age_start.Goals as goal
+use Rattle.since.proofs.age_start.Invariants.{OneAge}
+
+one_more : (ages : List ℕ) (to x : ℕ) → get_or ages (x - 1) 0 ≡ get_or ages (to - 1) 0 → OneAge ages to x → OneAge ages to (x - 1)
+one_more ages to x e h k l m = go (eq-or-lt_of_le l)
+  where
+    go : (x - 1 ≡ k) ⊎ (x - 1 < k) → get_or ages k 0 ≡ get_or ages (to - 1) 0
+    go (inl q) = rw (← q) e
+    go (inr v) = h k (omega arith) m
 
 pub loop-x-init : goal.loop-x-init
 loop-x-init c = let a = c.args in (

@@ -17,10 +17,10 @@ unfolding pairs_from
 loop-x-init c = gathers_all (gather_from c.requires.set_room)
 
 pub row_at-r-requires : goal.row_at-r-requires
-row_at-r-requires c = ?
+row_at-r-requires c = omega (arith, c.requires.pairs_there.values_there, c.ranges, c.well_formed, c.loop-x-test.true)
 
 pub offset_bounds-old_ages-x : goal.offset_bounds-old_ages-x
-offset_bounds-old_ages-x c = ?
+offset_bounds-old_ages-x c = omega (arith, c.requires.pairs_there.values_there, c.ranges, c.well_formed, c.loop-x-test.true)
 
 pub bounds-old_ages-x : goal.bounds-old_ages-x
 bounds-old_ages-x c = omega (arith, c.loop-x-test.true)
@@ -38,7 +38,7 @@ pub add_if-set-requires : goal.add_if-set-requires
 add_if-set-requires c = gather_room c.requires.set_room.there c.loop-x.invariant.put
 
 pub overflow_add-x : goal.overflow_add-x
-overflow_add-x c = ?
+overflow_add-x c = omega (arith, c.requires.pairs_there.values_there, c.ranges, c.well_formed, c.loop-x-test.true)
 
 pub loop-x-preserved : goal.loop-x-preserved
 loop-x-preserved c = let a = c.args in

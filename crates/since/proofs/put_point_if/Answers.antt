@@ -12,7 +12,7 @@ use Rattle.untils.specs.Until.{leads}
 use Rattle.since.proofs.put_point_if.Goals as goal
 
 pub overflow_add-after : goal.overflow_add-after
-overflow_add-after c = ?
+overflow_add-after c = omega (arith, c.requires.stand.ordered, c.well_formed)
 
 pub put_leading-requires : goal.put_leading-requires
 put_leading-requires c = let p = c.set_part-set.ensures in

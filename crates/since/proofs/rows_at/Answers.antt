@@ -18,6 +18,10 @@ use Rattle.since.proofs.Held.{all_pass}
 use Rattle.since.proofs.Whole.{rows_whole}
 use Rattle.since.proofs.rows_at.Goals as goal
 
+-- right's rows, and then those of the held pairs, make up the whole
+whole : {lowest : ℕ} {old mid new : List ℕ} {n k : ℕ} {fresh older rows : List (List ℕ)} → Added lowest old 0 mid n fresh → RowsPut lowest mid n new k older → fresh ++ older ≡ rows → SetMade new k (set_of lowest rows)
+whole {lowest} {new = new} {k = k} {fresh = fresh} {older = older} g h e = subst (SetMade new k) (sym (in_turn (insert_all lowest) (λ s x. insert lowest x s) (λ s. refl) (λ s x xs. refl) [] fresh older) ∙ ap (set_of lowest) e) (h.put (set_of lowest fresh) (set_of_ascends lowest fresh) (set_made g))
+
 pub put_fresh-n-requires : goal.put_fresh-n-requires
 put_fresh-n-requires c = record { i_bound = c.requires.i_bound; stand = c.requires.stand; stand_2 = c.requires.stand_2; set_room = c.requires.set_room }
 

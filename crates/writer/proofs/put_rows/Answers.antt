@@ -10,6 +10,7 @@ use Rattle.kinds.specs.Kinds.{in_mask}
 use Rattle.writer.proofs.Putting.{Putting, put_long, putting_none, turn_room, turn_more, turn_all}
 use Rattle.writer.proofs.Reports.{gather_rows}
 use Rattle.writer.proofs.put_rows.Goals as goal
+use Rattle.writer.proofs.put_rows.Invariants.{give}
 
 pub loop-i-init : goal.loop-i-init
 loop-i-init c = let a = c.args in

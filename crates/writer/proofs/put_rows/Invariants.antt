@@ -10,6 +10,11 @@ use Rattle.writer.proofs.Putting.{Putting, put_long, putting_none, turn_room, tu
 use Rattle.writer.proofs.Reports.{gather_rows}
 use Rattle.writer.proofs.put_rows.Given as goal
 
+-- After each turn the words of one row more are written.
+-- what row k gives
+abbrev pub give : ℕ → List ℕ → ℕ → List ℕ
+give mask rows k = report_row (in_mask mask) (row_at rows k)
+
 abbrev pub invariant-loop-i : goal.invariant-loop-i
 invariant-loop-i l = (l.i ≤ l.to) × Putting l.initial.buf l.at (gather (report_row (in_mask l.mask)) (rows_from l.rows l.from (l.to - l.from))) l.buf l.k (gather (give l.mask l.rows) (range l.i (l.to - l.i)))
 

@@ -12,6 +12,7 @@ use Rattle.writer.specs.Words.{triple_at, triples}
 use Rattle.writer.proofs.Putting.{Putting, put_long, putting_none, turn_room, turn_more, turn_all}
 use Rattle.writer.proofs.Reports.{triple_same}
 use Rattle.writer.proofs.put_triples.Goals as goal
+use Rattle.writer.proofs.put_triples.Invariants.{give}
 
 pub loop-j-init : goal.loop-j-init
 loop-j-init c = let p = c.args.p in

@@ -12,6 +12,11 @@ use Rattle.writer.proofs.Putting.{Putting, put_long, putting_none, turn_room, tu
 use Rattle.writer.proofs.Reports.{triple_same}
 use Rattle.writer.proofs.put_triples.Given as goal
 
+-- After each turn the triple of one point more is written.
+-- what point j gives
+abbrev pub give : List ℕ → List ℕ → Points → ℕ → List ℕ
+give marks times p j = triple_at marks times p (point j)
+
 abbrev pub invariant-loop-j : goal.invariant-loop-j
 invariant-loop-j l = ((l.end ≡ l.p.from.0 + l.p.count) × (l.p.from.0 ≤ l.j) × (l.j ≤ l.end)) × Putting l.initial.buf l.at (triples l.marks l.times l.p) l.buf l.k (gather (give l.marks l.times l.p) (range l.j (l.end - l.j)))
 

@@ -1,0 +1,13 @@
+use Prim.Native.Nat.{◌+◌, ◌-◌}
+use native.Mathlib.Omega.{arith}
+use mathlib.Core.Path.{refl}
+use borrow.Author.Rules.{rules}
+use Rattle.node_sets.proofs.Moving.{Lowering, lowered_none, lowered_more, lowered_all}
+use Rattle.node_sets.proofs.lower_marks.Given as goal
+
+-- `lower_marks` meets its contract. The loop's invariant: the marks of k sets are lowered, and those behind them are as they were.
+abbrev pub invariant-loop-k : goal.invariant-loop-k
+invariant-loop-k l = Lowering l.initial.at l.at l.n l.d l.m l.by l.k
+
+abbrev pub decreases-loop-k : goal.decreases-loop-k
+decreases-loop-k l = l.m - l.k

@@ -1,0 +1,22 @@
+-- `move_down` meets its contract: rows moved and marks lowered together are sets moved.
+use Prim.Native.Nat.{◌+◌}
+use native.Mathlib.Omega.{arith}
+use borrow.Author.Rules.{rules}
+use Rattle.node_sets.proofs.Moving.{down, down_rows, down_marks}
+use Rattle.node_sets.proofs.move_down.Goals as goal
+
+pub overflow_cast-end : goal.overflow_cast-end
+overflow_cast-end c = omega (arith, c.slice_known-3-1.given c.args.n)
+
+pub overflow_cast-from : goal.overflow_cast-from
+overflow_cast-from c = let a = c.args in
+    omega (arith, c.slice_known-4-1.given (a.n + a.d))
+
+pub copy_down-requires : goal.copy_down-requires
+copy_down-requires c = down_rows _ _ _ c.requires
+
+pub lower_marks-requires : goal.lower_marks-requires
+lower_marks-requires c = down_marks _ _ _ c.requires
+
+pub returns : goal.returns
+returns c = down _ _ _ c.requires c.copy_down.ensures c.lower_marks.ensures
