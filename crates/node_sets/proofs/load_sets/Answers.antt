@@ -29,7 +29,7 @@ pub shape_of-rows : goal.shape_of-rows
 shape_of-rows c = c.copy_rows.ensures.long
 
 pub shape_of-at : goal.shape_of-at
-shape_of-at c = ?
+shape_of-at c = c.raise_marks.ensures.long ∙ c.mark_ends.ensures.long ∙ c.fill.ensures.long
 
 pub returns : goal.returns
-returns c = ?
+returns c = loaded_all c.args.values.now c.requires.1.ordered c.requires.2 c.copy_rows.ensures c.fill.ensures c.mark_ends.ensures c.raise_marks.ensures

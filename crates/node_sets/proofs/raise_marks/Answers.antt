@@ -7,6 +7,7 @@ use lib.ListN.{get_or}
 use borrow.Author.Rules.{rules}
 use Rattle.node_sets.proofs.Marking.{Raising, raised_none, raised_more, raised_all}
 use Rattle.node_sets.proofs.raise_marks.Goals as goal
+use Rattle.node_sets.proofs.raise_marks.Goals.{then-m-a, else-m-a}
 
 pub loop-k-init : goal.loop-k-init
 loop-k-init c = let a = c.args in
@@ -15,8 +16,8 @@ loop-k-init c = let a = c.args in
 pub loop-k-preserved : goal.loop-k-preserved
 loop-k-preserved c = let l = c.loop-k in
     let e = l.invariant.behind (c.args.sets + (l.k + 1)) (omega arith) in
-    raised_more l.invariant c.loop-k-test.true c.requires c.if-m-a.m (⊎_elim (λ w. omega arith) (λ w. omega arith) c.if-m-a.branch) (⊎_elim (λ w. omega arith) (λ w. omega arith) c.if-m-a.branch)
-    (λ b h g. ⊎_elim (λ w. omega arith) (λ w. omega arith) c.if-m-a.branch) refl
+    raised_more l.invariant c.loop-k-test.true c.requires c.if-m-a.m (elim c.if-m-a.branch [ then-m-a w ↦ omega arith | else-m-a w ↦ omega arith ]) (elim c.if-m-a.branch [ then-m-a w ↦ omega arith | else-m-a w ↦ omega arith ])
+    (λ b h g. elim c.if-m-a.branch [ then-m-a w ↦ omega arith | else-m-a w ↦ omega arith ]) refl
 
 pub shape_of-at : goal.shape_of-at
 shape_of-at c = c.loop-k.invariant.done.long
