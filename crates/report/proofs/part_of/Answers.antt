@@ -33,4 +33,4 @@ pub overflow_mul-result : goal.overflow_mul-result
 overflow_mul-result c = omega (arith, small_product c.word-free.result c.word-count.result (omega (arith, entry_of _ _ ((let it : entry_test c.args.report.now c.args.k ≡ true = sym c.has_entry.ensures ∙ c.if-not-has_entry.false in it)))) (omega arith))
 
 pub returns : goal.returns
-returns c = ?
+returns c = part_given _ _ _ _ _ c.start_of-start.ensures c.word-free.ensures.is c.word-count.ensures.is ((let it : entry_test c.args.report.now c.args.k ≡ true = sym c.has_entry.ensures ∙ c.if-not-has_entry.false in it))

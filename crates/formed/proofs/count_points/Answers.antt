@@ -1,0 +1,7 @@
+-- `count_points` meets its contract.
+use borrow.Author.Rules.{rules}
+use Rattle.formed.proofs.Times.{counted}
+use Rattle.formed.proofs.count_points.Goals as goal
+
+pub returns : goal.returns
+returns c = counted c.args.rule.now c.args.log c.args.times.now c.requires.1 c.less.ensures c.counts.ensures
