@@ -18,7 +18,10 @@ use Rattle.settling.proofs.Gives.{past_there, past_settled, no_pairs}
 use Rattle.settling.proofs.settle_pairs.Goals as goal
 
 pub pairs_at-requires : goal.pairs_at-requires
-pairs_at-requires c = let (h, k) = (let a = c.args in let (h, k) = past_there c.args.rule.now c.args.event.now c.args.rows.now c.args.at.now c.args.times.now c.args.base c.args.old_ages.now c.args.old_values.now c.args.left c.args.right c.args.lowest c.args.start c.args.i a.node ((sym (ap (λ (v : View). v.times) c.view_of-view.ensures) ∙ c.in-Past.is)) c.requires.asked in (h, subst (ChildThere a.rows.now a.at.now a.start a.i Past) (sym (c.right_of.ensures ∙ ap (λ (v : View). right_in v.children a.left a.right) c.view_of-view.ensures)) k)) in
+pairs_at-requires c =
+    let a = c.args in
+    let (h, l) = past_there a.rule.now a.event.now a.rows.now a.at.now a.times.now a.base a.old_ages.now a.old_values.now a.left a.right a.lowest a.start a.i a.node (sym (ap (λ (v : View). v.times) c.view_of-view.ensures) ∙ c.in-Past.is) c.requires.asked in
+    let k = subst (ChildThere a.rows.now a.at.now a.start a.i Past) (sym (c.right_of.ensures ∙ ap (λ (v : View). right_in v.children a.left a.right) c.view_of-view.ensures)) l in
     record { i_bound = omega (arith, h.settled, c.well_formed.1.1.1.1.1.0); stand = h.sets; stand_2 = k.sets; pairs_there = (c.requires.asked.pairs, c.requires.asked.ascends); pairs_there_2 = c.requires.pairs_there }
 
 pub returns-in-Here : goal.returns-in-Here

@@ -76,8 +76,7 @@ pub shape_of-out-in-Atom : goal.shape_of-out-in-Atom
 shape_of-out-in-Atom c = c.atom.ensures.long
 
 pub returns-in-Atom : goal.returns-in-Atom
-returns-in-Atom c = let n = c.node-1.given in
-    ((let a = c.args in point-settled a.rule.now a.event.now a.rows.now a.at.now a.times.now a.base a.old_ages.now a.old_values.now a.left a.right a.lowest a.start a.i n.1 ((let a = c.args in subst (asked a.rule.now a.event.now a.rows.now a.at.now a.old_ages.now a.old_values.now a.left a.right a.lowest a.start a.i) n.1 c.requires.asked)) (set_made (added_as c.atom.ensures (ap (atom_rows (terms_of n.0.1.0)) (atom_reads c.args.rule.now c.args.event.now n.0.0 n.0.1.0.count (((let a = c.args in subst (asked a.rule.now a.event.now a.rows.now a.at.now a.old_ages.now a.old_values.now a.left a.right a.lowest a.start a.i) n.1 c.requires.asked)).terms _ _ refl)))))))
+returns-in-Atom c = ((let a = c.args in point-settled a.rule.now a.event.now a.rows.now a.at.now a.times.now a.base a.old_ages.now a.old_values.now a.left a.right a.lowest a.start a.i c.in-Atom.is ((let a = c.args in subst (asked a.rule.now a.event.now a.rows.now a.at.now a.old_ages.now a.old_values.now a.left a.right a.lowest a.start a.i) c.in-Atom.is c.requires.asked)) (set_made (added_as c.atom.ensures (ap (atom_rows (terms_of c.in-Atom.ts)) (atom_reads c.args.rule.now c.args.event.now c.in-Atom.r c.in-Atom.ts.count (((let a = c.args in subst (asked a.rule.now a.event.now a.rows.now a.at.now a.old_ages.now a.old_values.now a.left a.right a.lowest a.start a.i) c.in-Atom.is c.requires.asked)).terms _ _ refl)))))))
 
 pub shape_of-out-in-And : goal.shape_of-out-in-And
 shape_of-out-in-And c = c.and_at.ensures.long
