@@ -36,8 +36,10 @@ one_of_two b a c y m = go (left_lighter b a c) m
     go : (t : Bool) → Memᴰ y (a ∷ c ∷ []) → (y ≡ cond t c a) ⊎ (y ≡ cond t a c)
     go true (Memᴰ.head e) = inr e
     go true (Memᴰ.tail (Memᴰ.head e)) = inl e
+    go true (Memᴰ.tail (Memᴰ.tail m)) = elim m [ ]
     go false (Memᴰ.head e) = inl e
     go false (Memᴰ.tail (Memᴰ.head e)) = inr e
+    go false (Memᴰ.tail (Memᴰ.tail m)) = elim m [ ]
 
 -- ---- the nodes of a tree, by its node's children
 
@@ -62,6 +64,7 @@ module _ {b : List ℕ} {x : ℕ} where
         where
           only : Memᴰ c (a ∷ []) → Below b y a
           only (Memᴰ.head q) = rw q at k
+          only (Memᴰ.tail n) = elim n [ ]
 
   pub below_two : (a d : ℕ) → children_of (node_at b x) ≡ a ∷ d ∷ [] → (y : ℕ) → Below b y x → (Below b y (heavier b a d) ⊎ Below b y (lighter b a d)) ⊎ (y ≡ x)
   below_two a d e y h = go (below_cases h)

@@ -1,0 +1,18 @@
+use Prim.Native.Nat.{ℕ, ◌≤◌, ◌<◌, ◌-◌}
+use native.Mathlib.Omega.{arith}
+use mathlib.Core.Path.{◌≡◌, ◌∙◌, ap}
+use lib.ListN.{length, get_or}
+use borrow.Author.Rules.{rules}
+use Rattle.meaning.specs.RuleFile.{node_count, last_node}
+use Rattle.meaning.proofs.Accepted.{accepted, nodes_most, last_is_node}
+use Rattle.method.specs.Room.{need}
+use Rattle.figures.specs.Tables.{rows_in}
+use Rattle.figures.proofs.Weighed.{one_more}
+use Rattle.figures.proofs.rows_needed.Given as goal
+
+-- `rows_needed` meets its contract. The loop keeps what the trees of the nodes passed so far need.
+abbrev pub invariant-loop-x : goal.invariant-loop-x
+invariant-loop-x l = (l.n ≡ node_count l.rule) × (l.x ≤ l.n) × (length l.needs ≡ 32) × ((y : ℕ) → y < l.x → get_or l.needs y 0 ≡ need l.rule (rows_in l.table) y)
+
+abbrev pub decreases-loop-x : goal.decreases-loop-x
+decreases-loop-x l = l.n - l.x

@@ -1,0 +1,15 @@
+use Prim.Native.Nat.{◌+◌, ◌≤◌}
+use native.Mathlib.Omega.{arith}
+use mathlib.Core.Path.{◌≡◌, refl, ◌∙◌}
+use lib.ListN.{length, get_or, length-set}
+use lib.Seq.{get_or-set_same}
+use Rattle.meaning.proofs.Accepted.{nodes_most}
+use Rattle.tree_walk.proofs.Paths.{Noted, noted_none, noted_more, noted_all}
+use Rattle.tree_walk.proofs.descend.Given as goal
+
+-- `descend` meets its contract: each node is lower than the one before it.
+abbrev pub invariant-loop-y : goal.invariant-loop-y
+invariant-loop-y l = (length l.path ≡ length l.initial.path) × (32 ≤ length l.path) × Noted l.rule l.path l.k l.y l.x
+
+abbrev pub decreases-loop-y : goal.decreases-loop-y
+decreases-loop-y l = get_or l.path l.k 0
