@@ -14,13 +14,13 @@ use Rattle.formed.proofs.entries_fit.Goals as goal
 
 pub loop-x-init : goal.loop-x-init
 loop-x-init c = let a = c.args in (
-      search rules,
-      search rules,
-      nodes_none a.owners.now a.numbers.now a.values.now a.count a.rule.now (λ y. point (get_or a.lows.now y 0)) (λ y. get_or a.counts.now y 0),
-      noted_none a.owners.now a.numbers.now a.values.now a.count a.rule.now (λ y. point (get_or a.lows.now y 0)) (λ y. get_or a.counts.now y 0) (node_count a.rule.now) a.begins.now a.pairs.now c.requires.rule_in_bounds_2.0 c.requires.rule_in_bounds_2.1,
-      refl,
-      refl,
-    )
+  search rules,
+  search rules,
+  nodes_none a.owners.now a.numbers.now a.values.now a.count a.rule.now (λ y. point (get_or a.lows.now y 0)) (λ y. get_or a.counts.now y 0),
+  noted_none a.owners.now a.numbers.now a.values.now a.count a.rule.now (λ y. point (get_or a.lows.now y 0)) (λ y. get_or a.counts.now y 0) (node_count a.rule.now) a.begins.now a.pairs.now c.requires.rule_in_bounds_2.0 c.requires.rule_in_bounds_2.1,
+  refl,
+  refl,
+)
 
 pub node_end-requires : goal.node_end-requires
 node_end-requires c = let o : c.loop-x.x < node_count c.args.rule.now = omega (arith, c.loop-x.invariant.0) in
@@ -34,8 +34,11 @@ shape_of-pairs-in_default c = omega (arith, c.loop-x.invariant.4, c.loop-x.invar
 
 pub returns-in_default : goal.returns-in_default
 returns-in_default c = let a = c.args in
-    let x = c.loop-x.x in record { answer = nodes_stuck a.owners.now a.numbers.now a.values.now a.count a.rule.now (λ y. point (get_or a.lows.now y 0)) (λ y. get_or a.counts.now y 0) c.loop-x.invariant.2 (node_count a.rule.now) (omega (arith, c.loop-x.invariant.0))
-          (subst (NodeEnded a.owners.now a.numbers.now a.values.now a.count c.loop-x.next a.rule.now x (point (get_or a.lows.now x 0)) (get_or a.counts.now x 0 - get_or a.lows.now x 0)) c.in_default.is c.node_end.ensures); placed = λ e. absurd (false≢true e) }
+    let x = c.loop-x.x in record {
+      answer = nodes_stuck a.owners.now a.numbers.now a.values.now a.count a.rule.now (λ y. point (get_or a.lows.now y 0)) (λ y. get_or a.counts.now y 0) c.loop-x.invariant.2 (node_count a.rule.now) (omega (arith, c.loop-x.invariant.0))
+          (subst (NodeEnded a.owners.now a.numbers.now a.values.now a.count c.loop-x.next a.rule.now x (point (get_or a.lows.now x 0)) (get_or a.counts.now x 0 - get_or a.lows.now x 0)) c.in_default.is c.node_end.ensures);
+      placed = λ e. absurd (false≢true e);
+    }
 
 pub overflow_cast-pairs : goal.overflow_cast-pairs
 overflow_cast-pairs c = let w = (let it : let a = c.args in let x = c.loop-x.x in NodeTo a.owners.now a.numbers.now a.values.now a.count c.loop-x.next a.rule.now x (point (get_or a.lows.now x 0)) (get_or a.counts.now x 0 - get_or a.lows.now x 0) c.in-At.first c.in-At.to = let a = c.args in let x = c.loop-x.x in subst (NodeEnded a.owners.now a.numbers.now a.values.now a.count c.loop-x.next a.rule.now x (point (get_or a.lows.now x 0)) (get_or a.counts.now x 0 - get_or a.lows.now x 0)) c.in-At.is c.node_end.ensures in it) in record { fits = omega (arith, w.pairs_last, w.within, c.requires.rule_len.2) }
@@ -73,5 +76,8 @@ shape_of-pairs c = omega (arith, c.loop-x.invariant.4, c.loop-x.invariant.5, len
 
 pub returns : goal.returns
 returns c = let a = c.args in
-    let e : c.loop-x.x ≡ node_count a.rule.now = omega (arith, c.loop-x.invariant.0, c.loop-x.invariant.1) in record { answer = nodes_all a.owners.now a.numbers.now a.values.now a.count a.rule.now (λ y. point (get_or a.lows.now y 0)) (λ y. get_or a.counts.now y 0) c.loop-x.invariant.2 (node_count a.rule.now) e; placed = λ t. noted_all a.owners.now a.numbers.now a.values.now a.count a.rule.now (λ y. point (get_or a.lows.now y 0)) (λ y. get_or a.counts.now y 0) (node_count a.rule.now) c.loop-x.invariant.3 e
-          (nothing_left a.owners.now a.numbers.now a.values.now a.count a.rule.now (λ y. point (get_or a.lows.now y 0)) (λ y. get_or a.counts.now y 0) c.loop-x.invariant.2 (node_count a.rule.now) e t) }
+    let e : c.loop-x.x ≡ node_count a.rule.now = omega (arith, c.loop-x.invariant.0, c.loop-x.invariant.1) in record {
+      answer = nodes_all a.owners.now a.numbers.now a.values.now a.count a.rule.now (λ y. point (get_or a.lows.now y 0)) (λ y. get_or a.counts.now y 0) c.loop-x.invariant.2 (node_count a.rule.now) e;
+      placed = λ t. noted_all a.owners.now a.numbers.now a.values.now a.count a.rule.now (λ y. point (get_or a.lows.now y 0)) (λ y. get_or a.counts.now y 0) (node_count a.rule.now) c.loop-x.invariant.3 e
+          (nothing_left a.owners.now a.numbers.now a.values.now a.count a.rule.now (λ y. point (get_or a.lows.now y 0)) (λ y. get_or a.counts.now y 0) c.loop-x.invariant.2 (node_count a.rule.now) e t);
+    }

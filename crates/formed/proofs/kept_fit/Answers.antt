@@ -24,5 +24,9 @@ entries_fit-requires c = let few = nodes_most c.args.rule.now c.requires.rule_va
 
 pub returns : goal.returns
 returns c = let a = c.args in
-    record { answer = c.entries_fit.ensures.answer
-          ∙ kept_tested a.rule.now a.counts.now (entries_from a.owners.now a.numbers.now a.values.now 0 a.count) a.count c.wanted.new.out c.if-count-gt-MOST_KEPT.false c.wanted.ensures; wanted = λ t. c.wanted.ensures; placed = λ t. placed_as (λ x o. ap point (c.wanted.ensures x o)) (c.entries_fit.ensures.placed t) }
+    record {
+      answer = c.entries_fit.ensures.answer
+          ∙ kept_tested a.rule.now a.counts.now (entries_from a.owners.now a.numbers.now a.values.now 0 a.count) a.count c.wanted.new.out c.if-count-gt-MOST_KEPT.false c.wanted.ensures;
+      wanted = λ t. c.wanted.ensures;
+      placed = λ t. placed_as (λ x o. ap point (c.wanted.ensures x o)) (c.entries_fit.ensures.placed t);
+    }

@@ -18,7 +18,6 @@ use Rattle.method.specs.WellFormed.{pair_fits, pairs_fit}
 use Rattle.rulenodes.proofs.Windows.{window_read}
 use Rattle.kinds.specs.Kinds.{pairs_from}
 use Rattle.formed.specs.Tests.{MaskOf, aged_fit}
-
 use Rattle.formed.proofs.NoPairs.{pairs-some}
 use Rattle.formed.proofs.Masks.{aged_same}
 use Rattle.formed.proofs.kind_fits.Goals as goal

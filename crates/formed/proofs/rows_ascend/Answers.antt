@@ -13,14 +13,13 @@ use Rattle.formed.proofs.Climbs.{Ascends, BitsOf, ascends_one, ascends_more, asc
 use Rattle.formed.proofs.rows_ascend.Goals as goal
 
 pub loop-i-init : goal.loop-i-init
-loop-i-init c = let a = c.args in
-    (
-      omega arith,
-      omega arith,
-      ascends_one (suc c.lowest_of-lowest.result) (pair_at a.numbers.now a.values.now) a.from (a.from + 1) (omega arith),
-      rows_one a.values.now (λ i. omega (arith, c.shared_slice_known-2-1.given i)) a.from c.row_at-bits.result c.row_at-bits.ensures,
-      joint_last a.numbers.now a.values.now a.from (joint_at_lem a.numbers.now a.values.now a.from c.row_at-bits.result c.row_at-bits.ensures c.joint-last.ensures),
-    )
+loop-i-init c = let a = c.args in (
+  omega arith,
+  omega arith,
+  ascends_one (suc c.lowest_of-lowest.result) (pair_at a.numbers.now a.values.now) a.from (a.from + 1) (omega arith),
+  rows_one a.values.now (λ i. omega (arith, c.shared_slice_known-2-1.given i)) a.from c.row_at-bits.result c.row_at-bits.ensures,
+  joint_last a.numbers.now a.values.now a.from (joint_at_lem a.numbers.now a.values.now a.from c.row_at-bits.result c.row_at-bits.ensures c.joint-last.ensures),
+)
 
 pub follows-requires : goal.follows-requires
 follows-requires c = let a = c.args in

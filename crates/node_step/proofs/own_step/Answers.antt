@@ -75,7 +75,7 @@ pub load_sets-requires : goal.load_sets-requires
 load_sets-requires c = load_ready c.requires.call_ready c.args.x c.requires.x_bound.0 c.own_figures-own.ensures c.requires.room_for
 
 pub overflow_add-spot : goal.overflow_add-spot
-overflow_add-spot c = omega (arith, (points_ready ((let it : Loads (called c.args.rule.now c.args.log c.args.stamps.now c.args.owners.now c.args.numbers.now c.args.values.now) c.args.event.now c.args.owners.now c.args.numbers.now c.args.values.now c.args.stamps.now c.args.figures.now c.args.x c.own_figures-own.result c.args.spot c.args.rows.now c.args.at.now c.children_at-children.result.left c.children_at-children.result.right c.node_at-node.result c.load_sets.new.rows c.load_sets.new.at = record { ready = c.requires.call_ready; here = c.requires.x_bound.0; below = c.requires.x_bound.1; room = c.requires.room_for; stand = c.requires.children_stand; figures = c.own_figures-own.ensures; decoded = c.node_at-node.ensures; children = c.children_at-children.ensures; read = c.load_sets.ensures; } in it))).small)
+overflow_add-spot c = omega (arith, (points_ready ((let it : Loads (called c.args.rule.now c.args.log c.args.stamps.now c.args.owners.now c.args.numbers.now c.args.values.now) c.args.event.now c.args.owners.now c.args.numbers.now c.args.values.now c.args.stamps.now c.args.figures.now c.args.x c.own_figures-own.result c.args.spot c.args.rows.now c.args.at.now c.children_at-children.result.left c.children_at-children.result.right c.node_at-node.result c.load_sets.new.rows c.load_sets.new.at = record { ready = c.requires.call_ready; here = c.requires.x_bound.0; below = c.requires.x_bound.1; room = c.requires.room_for; stand = c.requires.children_stand; figures = c.own_figures-own.ensures; decoded = c.node_at-node.ensures; children = c.children_at-children.ensures; read = c.load_sets.ensures } in it))).small)
 
 pub slice_bounds-settle_points-start : goal.slice_bounds-settle_points-start
 slice_bounds-settle_points-start c = omega (arith, (let it : set_words ≤ length c.args.blocks.now = omega (arith, c.requires.out_there.table) in it))
@@ -84,7 +84,7 @@ pub slice_bounds-settle_points-end : goal.slice_bounds-settle_points-end
 slice_bounds-settle_points-end c = omega (arith, (let it : set_words ≤ length c.args.blocks.now = omega (arith, c.requires.out_there.table) in it))
 
 pub settle_points-done-requires : goal.settle_points-done-requires
-settle_points-done-requires c = record { points_ready = points_ready ((let it : Loads (called c.args.rule.now c.args.log c.args.stamps.now c.args.owners.now c.args.numbers.now c.args.values.now) c.args.event.now c.args.owners.now c.args.numbers.now c.args.values.now c.args.stamps.now c.args.figures.now c.args.x c.own_figures-own.result c.args.spot c.args.rows.now c.args.at.now c.children_at-children.result.left c.children_at-children.result.right c.node_at-node.result c.load_sets.new.rows c.load_sets.new.at = record { ready = c.requires.call_ready; here = c.requires.x_bound.0; below = c.requires.x_bound.1; room = c.requires.room_for; stand = c.requires.children_stand; figures = c.own_figures-own.ensures; decoded = c.node_at-node.ensures; children = c.children_at-children.ensures; read = c.load_sets.ensures; } in it)); set_room = set_room c.args.blocks.now ((let it : set_words ≤ length c.args.blocks.now = omega (arith, c.requires.out_there.table) in it)) }
+settle_points-done-requires c = record { points_ready = points_ready ((let it : Loads (called c.args.rule.now c.args.log c.args.stamps.now c.args.owners.now c.args.numbers.now c.args.values.now) c.args.event.now c.args.owners.now c.args.numbers.now c.args.values.now c.args.stamps.now c.args.figures.now c.args.x c.own_figures-own.result c.args.spot c.args.rows.now c.args.at.now c.children_at-children.result.left c.children_at-children.result.right c.node_at-node.result c.load_sets.new.rows c.load_sets.new.at = record { ready = c.requires.call_ready; here = c.requires.x_bound.0; below = c.requires.x_bound.1; room = c.requires.room_for; stand = c.requires.children_stand; figures = c.own_figures-own.ensures; decoded = c.node_at-node.ensures; children = c.children_at-children.ensures; read = c.load_sets.ensures } in it)); set_room = set_room c.args.blocks.now ((let it : set_words ≤ length c.args.blocks.now = omega (arith, c.requires.out_there.table) in it)) }
 
 pub shape_of-rows-then-not-done : goal.shape_of-rows-then-not-done
 shape_of-rows-then-not-done c = c.settle_points-done.ensures.stay.rows_long ∙ c.load_sets.ensures.more.rows_long
@@ -96,16 +96,16 @@ pub shape_of-blocks-then-not-done : goal.shape_of-blocks-then-not-done
 shape_of-blocks-then-not-done c = c.blocks-1.given.1
 
 pub returns-then-not-done : goal.returns-then-not-done
-returns-then-not-done c = step-crowded ((let it : Loads (called c.args.rule.now c.args.log c.args.stamps.now c.args.owners.now c.args.numbers.now c.args.values.now) c.args.event.now c.args.owners.now c.args.numbers.now c.args.values.now c.args.stamps.now c.args.figures.now c.args.x c.own_figures-own.result c.args.spot c.args.rows.now c.args.at.now c.children_at-children.result.left c.children_at-children.result.right c.node_at-node.result c.load_sets.new.rows c.load_sets.new.at = record { ready = c.requires.call_ready; here = c.requires.x_bound.0; below = c.requires.x_bound.1; room = c.requires.room_for; stand = c.requires.children_stand; figures = c.own_figures-own.ensures; decoded = c.node_at-node.ensures; children = c.children_at-children.ensures; read = c.load_sets.ensures; } in it)) c.settle_points-done.ensures c.requires.out_there (table_stays c.args.blocks.now ((let it : set_words ≤ length c.args.blocks.now = omega (arith, c.requires.out_there.table) in it)) ((c.settle_points-done.new.out)) c.blocks-1.given.0) c.if-not-done.true
+returns-then-not-done c = step-crowded ((let it : Loads (called c.args.rule.now c.args.log c.args.stamps.now c.args.owners.now c.args.numbers.now c.args.values.now) c.args.event.now c.args.owners.now c.args.numbers.now c.args.values.now c.args.stamps.now c.args.figures.now c.args.x c.own_figures-own.result c.args.spot c.args.rows.now c.args.at.now c.children_at-children.result.left c.children_at-children.result.right c.node_at-node.result c.load_sets.new.rows c.load_sets.new.at = record { ready = c.requires.call_ready; here = c.requires.x_bound.0; below = c.requires.x_bound.1; room = c.requires.room_for; stand = c.requires.children_stand; figures = c.own_figures-own.ensures; decoded = c.node_at-node.ensures; children = c.children_at-children.ensures; read = c.load_sets.ensures } in it)) c.settle_points-done.ensures c.requires.out_there (table_stays c.args.blocks.now ((let it : set_words ≤ length c.args.blocks.now = omega (arith, c.requires.out_there.table) in it)) ((c.settle_points-done.new.out)) c.blocks-1.given.0) c.if-not-done.true
 
 pub keep_node-kept-requires : goal.keep_node-kept-requires
-keep_node-kept-requires c = block_ready ((let it : Loads (called c.args.rule.now c.args.log c.args.stamps.now c.args.owners.now c.args.numbers.now c.args.values.now) c.args.event.now c.args.owners.now c.args.numbers.now c.args.values.now c.args.stamps.now c.args.figures.now c.args.x c.own_figures-own.result c.args.spot c.args.rows.now c.args.at.now c.children_at-children.result.left c.children_at-children.result.right c.node_at-node.result c.load_sets.new.rows c.load_sets.new.at = record { ready = c.requires.call_ready; here = c.requires.x_bound.0; below = c.requires.x_bound.1; room = c.requires.room_for; stand = c.requires.children_stand; figures = c.own_figures-own.ensures; decoded = c.node_at-node.ensures; children = c.children_at-children.ensures; read = c.load_sets.ensures; } in it)) c.settle_points-done.ensures c.if-not-done.false (room_stays (table_stays c.args.blocks.now ((let it : set_words ≤ length c.args.blocks.now = omega (arith, c.requires.out_there.table) in it)) ((c.settle_points-done.new.out)) c.blocks-1.given.0) c.requires.out_there)
+keep_node-kept-requires c = block_ready ((let it : Loads (called c.args.rule.now c.args.log c.args.stamps.now c.args.owners.now c.args.numbers.now c.args.values.now) c.args.event.now c.args.owners.now c.args.numbers.now c.args.values.now c.args.stamps.now c.args.figures.now c.args.x c.own_figures-own.result c.args.spot c.args.rows.now c.args.at.now c.children_at-children.result.left c.children_at-children.result.right c.node_at-node.result c.load_sets.new.rows c.load_sets.new.at = record { ready = c.requires.call_ready; here = c.requires.x_bound.0; below = c.requires.x_bound.1; room = c.requires.room_for; stand = c.requires.children_stand; figures = c.own_figures-own.ensures; decoded = c.node_at-node.ensures; children = c.children_at-children.ensures; read = c.load_sets.ensures } in it)) c.settle_points-done.ensures c.if-not-done.false (room_stays (table_stays c.args.blocks.now ((let it : set_words ≤ length c.args.blocks.now = omega (arith, c.requires.out_there.table) in it)) ((c.settle_points-done.new.out)) c.blocks-1.given.0) c.requires.out_there)
 
 pub overflow_sub-spot : goal.overflow_sub-spot
 overflow_sub-spot c = c.requires.x_bound.1
 
 pub move_down-requires : goal.move_down-requires
-move_down-requires c = down_laid ((let it : Loads (called c.args.rule.now c.args.log c.args.stamps.now c.args.owners.now c.args.numbers.now c.args.values.now) c.args.event.now c.args.owners.now c.args.numbers.now c.args.values.now c.args.stamps.now c.args.figures.now c.args.x c.own_figures-own.result c.args.spot c.args.rows.now c.args.at.now c.children_at-children.result.left c.children_at-children.result.right c.node_at-node.result c.load_sets.new.rows c.load_sets.new.at = record { ready = c.requires.call_ready; here = c.requires.x_bound.0; below = c.requires.x_bound.1; room = c.requires.room_for; stand = c.requires.children_stand; figures = c.own_figures-own.ensures; decoded = c.node_at-node.ensures; children = c.children_at-children.ensures; read = c.load_sets.ensures; } in it)) c.settle_points-done.ensures c.if-not-done.false
+move_down-requires c = down_laid ((let it : Loads (called c.args.rule.now c.args.log c.args.stamps.now c.args.owners.now c.args.numbers.now c.args.values.now) c.args.event.now c.args.owners.now c.args.numbers.now c.args.values.now c.args.stamps.now c.args.figures.now c.args.x c.own_figures-own.result c.args.spot c.args.rows.now c.args.at.now c.children_at-children.result.left c.children_at-children.result.right c.node_at-node.result c.load_sets.new.rows c.load_sets.new.at = record { ready = c.requires.call_ready; here = c.requires.x_bound.0; below = c.requires.x_bound.1; room = c.requires.room_for; stand = c.requires.children_stand; figures = c.own_figures-own.ensures; decoded = c.node_at-node.ensures; children = c.children_at-children.ensures; read = c.load_sets.ensures } in it)) c.settle_points-done.ensures c.if-not-done.false
 
 pub shape_of-rows : goal.shape_of-rows
 shape_of-rows c = c.move_down.ensures.more.rows_long ∙ c.settle_points-done.ensures.stay.rows_long ∙ c.load_sets.ensures.more.rows_long
@@ -117,4 +117,4 @@ pub shape_of-blocks : goal.shape_of-blocks
 shape_of-blocks c = c.blocks-2-1.given ∙ c.blocks-1.given.1
 
 pub returns : goal.returns
-returns c = step_kept ((let it : Loads (called c.args.rule.now c.args.log c.args.stamps.now c.args.owners.now c.args.numbers.now c.args.values.now) c.args.event.now c.args.owners.now c.args.numbers.now c.args.values.now c.args.stamps.now c.args.figures.now c.args.x c.own_figures-own.result c.args.spot c.args.rows.now c.args.at.now c.children_at-children.result.left c.children_at-children.result.right c.node_at-node.result c.load_sets.new.rows c.load_sets.new.at = record { ready = c.requires.call_ready; here = c.requires.x_bound.0; below = c.requires.x_bound.1; room = c.requires.room_for; stand = c.requires.children_stand; figures = c.own_figures-own.ensures; decoded = c.node_at-node.ensures; children = c.children_at-children.ensures; read = c.load_sets.ensures; } in it)) c.settle_points-done.ensures c.requires.out_there (table_stays c.args.blocks.now ((let it : set_words ≤ length c.args.blocks.now = omega (arith, c.requires.out_there.table) in it)) ((c.settle_points-done.new.out)) c.blocks-1.given.0) c.if-not-done.false c.keep_node-kept.ensures c.move_down.ensures
+returns c = step_kept ((let it : Loads (called c.args.rule.now c.args.log c.args.stamps.now c.args.owners.now c.args.numbers.now c.args.values.now) c.args.event.now c.args.owners.now c.args.numbers.now c.args.values.now c.args.stamps.now c.args.figures.now c.args.x c.own_figures-own.result c.args.spot c.args.rows.now c.args.at.now c.children_at-children.result.left c.children_at-children.result.right c.node_at-node.result c.load_sets.new.rows c.load_sets.new.at = record { ready = c.requires.call_ready; here = c.requires.x_bound.0; below = c.requires.x_bound.1; room = c.requires.room_for; stand = c.requires.children_stand; figures = c.own_figures-own.ensures; decoded = c.node_at-node.ensures; children = c.children_at-children.ensures; read = c.load_sets.ensures } in it)) c.settle_points-done.ensures c.requires.out_there (table_stays c.args.blocks.now ((let it : set_words ≤ length c.args.blocks.now = omega (arith, c.requires.out_there.table) in it)) ((c.settle_points-done.new.out)) c.blocks-1.given.0) c.if-not-done.false c.keep_node-kept.ensures c.move_down.ensures

@@ -15,12 +15,11 @@ loop-i-init c = let a = c.args in
     (passing (pair_at a.ages.now a.values.now) a.n a.p (a.age ∷ words_of a.r) c.requires.0, refl, refl)
 
 pub loop-i-preserved : goal.loop-i-preserved
-loop-i-preserved c = let l = c.loop-i in
-    (
-      passed_on l.invariant.0 c.loop-i-test.true (pair_replaced l.ages l.values l.i l.held_age l.held (omega arith) (omega arith) c.put_row.ensures) (ap (λ r. get_or l.ages l.i 0 ∷ r) c.row_at-next.ensures),
-      length-set l.ages l.i l.held_age ∙ l.invariant.1,
-      c.put_row.auto.ws ∙ l.invariant.2,
-    )
+loop-i-preserved c = let l = c.loop-i in (
+  passed_on l.invariant.0 c.loop-i-test.true (pair_replaced l.ages l.values l.i l.held_age l.held (omega arith) (omega arith) c.put_row.ensures) (ap (λ r. get_or l.ages l.i 0 ∷ r) c.row_at-next.ensures),
+  length-set l.ages l.i l.held_age ∙ l.invariant.1,
+  c.put_row.auto.ws ∙ l.invariant.2,
+)
 
 pub shape_of-ages : goal.shape_of-ages
 shape_of-ages c = simp length-set c.loop-i.invariant.1

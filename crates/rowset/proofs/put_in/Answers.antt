@@ -11,11 +11,10 @@ pub loop-i-init : goal.loop-i-init
 loop-i-init c = (passing (row_at c.args.out.now) c.args.n c.args.p (words_of c.args.r) c.requires.0, refl)
 
 pub loop-i-preserved : goal.loop-i-preserved
-loop-i-preserved c = let l = c.loop-i in
-    (
-      passed_on l.invariant.0 c.loop-i-test.true (row-replaced l.out l.i l.held (omega arith) c.put_row.ensures) c.row_at-next.ensures,
-      c.put_row.auto.ws ∙ l.invariant.1,
-    )
+loop-i-preserved c = let l = c.loop-i in (
+  passed_on l.invariant.0 c.loop-i-test.true (row-replaced l.out l.i l.held (omega arith) c.put_row.ensures) c.row_at-next.ensures,
+  c.put_row.auto.ws ∙ l.invariant.1,
+)
 
 pub shape_of-out : goal.shape_of-out
 shape_of-out c = c.put_row-2.auto.ws ∙ c.loop-i.invariant.1

@@ -21,19 +21,18 @@ returns-in_default c = let b = c.args.rule.now in
 
 pub count_children-requires : goal.count_children-requires
 count_children-requires c = let loop = c.loop-x in (
-      λ d m.
-          let l : d < loop.x = passing_lower c.args.rule.now loop.masks loop.x loop.invariant.3 c.in-Free.mask (sym ((let it : (c.node_of-node.result ≡ node_at c.args.rule.now c.loop-x.x) × (c.weigh_node-weighed.result ≡ weighing_at c.args.rule.now c.loop-x.x c.loop-x.masks) = node_read c.args.rule.now c.loop-x.x c.loop-x.masks c.head_at-h.result c.body_of-w.result c.arity_at.result c.node_of-node.result c.weigh_node-weighed.result c.head_at-h.ensures c.body_of-w.ensures c.arity_at.ensures c.node_of-node.ensures c.weigh_node-weighed.ensures in it)).1 ∙ c.in-Free.is) (children_in c.children_of.result) ((let it : children_in c.children_of.result ≡ children_of (node_at c.args.rule.now c.loop-x.x) = c.children_of.ensures ∙ ap children_of ((let it : (c.node_of-node.result ≡ node_at c.args.rule.now c.loop-x.x) × (c.weigh_node-weighed.result ≡ weighing_at c.args.rule.now c.loop-x.x c.loop-x.masks) = node_read c.args.rule.now c.loop-x.x c.loop-x.masks c.head_at-h.result c.body_of-w.result c.arity_at.result c.node_of-node.result c.weigh_node-weighed.result c.head_at-h.ensures c.body_of-w.ensures c.arity_at.ensures c.node_of-node.ensures c.weigh_node-weighed.ensures in it)).0 in it)) d m in
-          omega (arith, l, loop.invariant.0, loop.invariant.2, c.requires.0.few, c.requires.2),
-      λ y. omega (arith, loop.invariant.0, loop.invariant.4.few y, c.requires.0.few),
-    )
+  λ d m.
+      let l : d < loop.x = passing_lower c.args.rule.now loop.masks loop.x loop.invariant.3 c.in-Free.mask (sym ((let it : (c.node_of-node.result ≡ node_at c.args.rule.now c.loop-x.x) × (c.weigh_node-weighed.result ≡ weighing_at c.args.rule.now c.loop-x.x c.loop-x.masks) = node_read c.args.rule.now c.loop-x.x c.loop-x.masks c.head_at-h.result c.body_of-w.result c.arity_at.result c.node_of-node.result c.weigh_node-weighed.result c.head_at-h.ensures c.body_of-w.ensures c.arity_at.ensures c.node_of-node.ensures c.weigh_node-weighed.ensures in it)).1 ∙ c.in-Free.is) (children_in c.children_of.result) ((let it : children_in c.children_of.result ≡ children_of (node_at c.args.rule.now c.loop-x.x) = c.children_of.ensures ∙ ap children_of ((let it : (c.node_of-node.result ≡ node_at c.args.rule.now c.loop-x.x) × (c.weigh_node-weighed.result ≡ weighing_at c.args.rule.now c.loop-x.x c.loop-x.masks) = node_read c.args.rule.now c.loop-x.x c.loop-x.masks c.head_at-h.result c.body_of-w.result c.arity_at.result c.node_of-node.result c.weigh_node-weighed.result c.head_at-h.ensures c.body_of-w.ensures c.arity_at.ensures c.node_of-node.ensures c.weigh_node-weighed.ensures in it)).0 in it)) d m in
+      omega (arith, l, loop.invariant.0, loop.invariant.2, c.requires.0.few, c.requires.2),
+  λ y. omega (arith, loop.invariant.0, loop.invariant.4.few y, c.requires.0.few),
+)
 
 pub overflow_add-x : goal.overflow_add-x
 overflow_add-x c = omega (arith, c.requires.0.few)
 
 pub loop-x-preserved : goal.loop-x-preserved
 loop-x-preserved c = let b = c.args.rule.now in
-    let loop = c.loop-x in
-    (
+    let loop = c.loop-x in (
       search rules,
       simp length-set (omega arith),
       search rules,

@@ -19,13 +19,13 @@ one_more ages to x e h k l m = go (eq-or-lt_of_le l)
 
 pub loop-x-init : goal.loop-x-init
 loop-x-init c = let a = c.args in (
-      omega arith,
-      omega arith,
-      refl,
-      λ k l m.
-          let e : k ≡ a.to - 1 = omega arith in
-          ap (λ j. get_or a.ages.now j 0) e,
-    )
+  omega arith,
+  omega arith,
+  refl,
+  λ k l m.
+      let e : k ≡ a.to - 1 = omega arith in
+      ap (λ j. get_or a.ages.now j 0) e,
+)
 
 pub returns-then-ages-x : goal.returns-then-ages-x
 returns-then-ages-x c = let l = c.loop-x in

@@ -30,4 +30,3 @@ decreases-second_tree l = l.x * 3 + 2
 
 abbrev pub decreases-tree : goal.decreases-tree
 decreases-tree l = l.x * 3 + 1
-
