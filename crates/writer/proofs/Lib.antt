@@ -3,4 +3,3 @@ pub mod Gathers
 pub mod Putting
 pub mod Reports
 pub mod Writing
-pub mod Handed

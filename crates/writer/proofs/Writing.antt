@@ -1,54 +1,64 @@
--- A report written part by part from the front of a buffer, and one that a buffer is too short for.
-use Prim.Native.Nat.{ℕ, ◌+◌, ◌≤◌, ◌<◌}
+-- A report written part by part from the front of a buffer.
+use Prim.Native.Nat.{ℕ, ◌+◌, ◌-◌, ◌≤◌}
 use native.Mathlib.Omega.{arith}
-use mathlib.Core.Path.{◌≡◌, refl, sym, ap}
+use mathlib.Core.Path.{◌≡◌, sym, ap}
 use mathlib.Core.List.{List, ◌++◌}
 use lib.ListN.{length, length-append}
-use lib.Seq.{sets, length-sets}
-use borrow.Author.Tests.{lt-ltb, le-ltb}
-use Rattle.writer.specs.Puts.{Put, wrote, written_to}
+use denote.Ref.{MutBor}
+use borrow.Author.Tests.{le-ltb}
+use Rattle.writer.specs.declared.Part.{Part}
+use Rattle.writer.specs.declared.Part.TheVariants.{Sizes, Triples, Rows}
+use Rattle.writer.specs.declared.Points.{Points}
+use Rattle.writer.specs.declared.Writer.{Writer}
 use Rattle.writer.specs.declared.Wrote.{Wrote}
-use Rattle.writer.specs.declared.Wrote.TheVariants.{Words, Short}
-use Rattle.writer.proofs.Putting.{put_then, put_front}
+use Rattle.writer.specs.declared.Wrote.TheVariants.{Words}
+use Rattle.writer.specs.Puts.{Put, handed, wrote, written_to}
+use Rattle.writer.specs.Words.{part_words, words, Marked}
+use Rattle.writer.proofs.Putting.{put_long, put_then, put_front}
+use Rattle.writer.proofs.Reports.{words_parts}
 
 -- what `write` says of its answer and of the buffer then
 abbrev pub Answers : List ℕ → List ℕ → Wrote → List ℕ → Type 0
 Answers report buffer r after = (r ≡ wrote report buffer) × (after ≡ written_to report buffer)
 
-pub too_short : (report buffer : List ℕ) {needed : ℕ} → needed ≡ length report → length buffer < needed → Answers report buffer (Short needed) buffer
-too_short report buffer e h =
-    let short = lt-ltb (length buffer) (length report) (omega (arith, e)) in
-    (rw (short, e), rw short)
+-- the words that a writer is handed on with stand in its buffer
+pub handed_puts : {buf : MutBor (List ℕ)} {at : ℕ} {us : List ℕ} {w : Writer} → w ≡ handed (record { buf = buf; at = at }) us → Put buf.now at us w.buf.now w.at
+handed_puts e = record { place = ap (λ (w : Writer). w.at) e; stored = ap (λ (w : Writer). w.buf.now) e }
 
--- three parts, one after the other
-module _ (report buffer us vs ws : List ℕ) (parts : report ≡ us ++ (vs ++ ws)) (long : length report ≤ length buffer) where
-  lengths : length report ≡ length us + (length vs + length ws)
-  lengths = rw (parts, length-append us (vs ++ ws), length-append vs ws)
+-- three parts, one after the other, by a writer that is made on a buffer and asked for the words that it has left
+module _ (rows marks times : List ℕ) (p : Points) (stand : Marked marks p) (w : Writer) {buf : MutBor (List ℕ)} (made : (w.buf ≡ buf) × (w.at ≡ 0)) {needed : ℕ} (asked : needed ≡ length (words rows marks times p)) (enough : needed ≤ length w.buf.now - w.at) where
+  abbrev report : List ℕ
+  report = words rows marks times p
 
-  abbrev second : List ℕ
-  second = sets buffer 0 us
+  abbrev part : Part → List ℕ
+  part t = part_words t rows marks times p
 
-  abbrev third : List ℕ
-  third = sets second (0 + length us) vs
+  parts : report ≡ part Sizes ++ (part Triples ++ part Rows)
+  parts = words_parts rows marks times p stand
 
-  abbrev last : List ℕ
-  last = sets third (0 + length us + length vs) ws
+  lengths : length report ≡ length (part Sizes) + (length (part Triples) + length (part Rows))
+  lengths = rw (parts, length-append (part Sizes) (part Triples ++ part Rows), length-append (part Triples) (part Rows))
 
-  pub first_fits : 0 + length us ≤ length buffer
-  first_fits = omega (arith, long, lengths)
+  on : w.buf.now ≡ buf.now
+  on = ap (λ (b : MutBor (List ℕ)). b.now) made.0
 
-  pub second_fits : 0 + length us + length vs ≤ length second
-  second_fits = omega (arith, long, lengths, length-sets buffer 0 us)
+  long : length report ≤ length buf.now
+  long = omega (arith, asked, enough, ap length on)
 
-  pub third_fits : 0 + length us + length vs + length ws ≤ length third
-  third_fits = omega (arith, long, lengths, length-sets buffer 0 us, length-sets second (0 + length us) vs)
+  pub first_fits : w.at + length (part Sizes) ≤ length w.buf.now
+  first_fits = omega (arith, asked, enough, lengths, made.1)
 
-  pub last_long : length last ≡ length buffer
-  last_long = omega (arith, length-sets buffer 0 us, length-sets second (0 + length us) vs, length-sets third (0 + length us + length vs) ws)
+  module _ {b₁ : List ℕ} {n₁ : ℕ} (first : Put w.buf.now w.at (part Sizes) b₁ n₁) where
+    pub second_fits : n₁ + length (part Triples) ≤ length b₁
+    second_fits = omega (arith, asked, enough, lengths, made.1, first.place, put_long first)
 
-  pub all_written : Answers report buffer (Words (0 + length us + length vs + length ws)) last
-  all_written =
-      let put : Put buffer 0 (us ++ (vs ++ ws)) last (0 + length us + length vs + length ws) = put_then {us = us} {vs = vs ++ ws} (record { place = refl; stored = refl }) (put_then {us = vs} {vs = ws} (record { place = refl; stored = refl }) (record { place = refl; stored = refl })) in
-      let front = put_front (rw (sym parts) at put) long in
-      let fits = le-ltb (length buffer) (length report) long in
-      (rw fits (ap Words front.0), rw fits front.1)
+    module _ {b₂ : List ℕ} {n₂ : ℕ} (second : Put b₁ n₁ (part Triples) b₂ n₂) where
+      pub third_fits : n₂ + length (part Rows) ≤ length b₂
+      third_fits = omega (arith, asked, enough, lengths, made.1, first.place, put_long first, second.place, put_long second)
+
+      pub all_written : {b₃ : List ℕ} {n₃ : ℕ} → Put b₂ n₂ (part Rows) b₃ n₃ → Answers report buf.now (Words n₃) b₃
+      all_written {b₃} {n₃} third =
+          let put : Put w.buf.now w.at (part Sizes ++ (part Triples ++ part Rows)) b₃ n₃ = put_then first (put_then second third) in
+          let front = put_front (rw (on, made.1, sym parts) at put) long in
+          let fits = le-ltb (length buf.now) (length report) long in
+          (rw fits (ap Words front.0), rw fits front.1)

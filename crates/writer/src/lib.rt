@@ -217,8 +217,7 @@ pub struct Writer<'a> {
 }
 
 fn new<'a>(buf: &'a mut [u32]) -> Writer<'a>
-    ensures same_reference { result.buf.ghost_name ≡ buf.entry.ghost_name }
-    ensures made { (result.buf ≡ buf.entry) × (result.at ≡ 0) }
+    ensures { (result.buf ≡ buf.entry) × (result.at ≡ 0) }
 {
     Writer { buf: buf, at: 0 }
 }
@@ -233,8 +232,7 @@ fn put<'a>(
     p: Points,
 ) -> Writer<'a>
     requires { Reportable rows.now marks.now p × (w.at + length (part_words part rows.now marks.now times.now p) ≤ length w.buf.now) }
-    ensures same_reference { result.buf.ghost_name ≡ w.entry.buf.ghost_name }
-    ensures handed { result ≡ handed w.entry (part_words part rows.now marks.now times.now p) }
+    ensures { result ≡ handed w.entry (part_words part rows.now marks.now times.now p) }
 {
     let at = w.at;
     let next = put_part(&mut *w.buf, at, part, rows, marks, times, p);
@@ -242,6 +240,22 @@ fn put<'a>(
         buf: w.buf,
         at: next,
     }
+}
+
+// The same for a writer that is given by its buffer and its place.
+fn put_from<'a>(
+    buf: &'a mut [u32],
+    at: usize,
+    part: Part,
+    rows: &[u32],
+    marks: &[u32],
+    times: &[u32],
+    p: Points,
+) -> Writer<'a>
+    requires { Reportable rows.now marks.now p × (at + length (part_words part rows.now marks.now times.now p) ≤ length buf.old) }
+    ensures { result ≡ handed (record { buf = buf.entry; at = at }) (part_words part rows.now marks.now times.now p) }
+{
+    put(Writer { buf, at }, part, rows, marks, times, p)
 }
 
 // Writes the report to the front of a buffer by one writer, which is asked first for the words that it has left.
@@ -255,8 +269,11 @@ pub fn write(buf: &mut [u32], rows: &[u32], marks: &[u32], times: &[u32], p: Poi
     if left < needed {
         return Wrote::Short(needed);
     }
-    let sized = put(w, Part::Sizes, rows, marks, times, p);
-    let told = put(sized, Part::Triples, rows, marks, times, p);
-    let done = put(told, Part::Rows, rows, marks, times, p);
+    let Writer { buf, at } = w;
+    let sized = put_from(buf, at, Part::Sizes, rows, marks, times, p);
+    let Writer { buf, at } = sized;
+    let told = put_from(buf, at, Part::Triples, rows, marks, times, p);
+    let Writer { buf, at } = told;
+    let done = put_from(buf, at, Part::Rows, rows, marks, times, p);
     Wrote::Words(done.at)
 }

@@ -1,0 +1,29 @@
+-- Each branch gives what 14 to 16 say; 16 is what the writer answers.
+use Prim.Native.Nat.{◌^◌, ◌<◌}
+use native.Mathlib.Omega.{arith}
+use mathlib.Core.Path.{◌≡◌, ◌∙◌}
+use borrow.Author.Rules.{rules}
+use Rattle.writer.specs.declared.Wrote.{Wrote}
+use Rattle.writer.specs.declared.Wrote.TheVariants.{Words, Short}
+use Rattle.writer.specs.Words.{words}
+use Rattle.writer.specs.Puts.{wrote}
+use Rattle.limits.proofs.Weighing.{weighs_backlog, weighs_over, weighs_wrote, count_of, wrote_count}
+use Rattle.limits.proofs.weigh.Goals as goal
+
+pub returns-then-unsettled-gt-MOST_OPEN : goal.returns-then-unsettled-gt-MOST_OPEN
+returns-then-unsettled-gt-MOST_OPEN c = weighs_backlog (omega arith)
+
+pub returns-then-kept-gt-MOST_KEPT : goal.returns-then-kept-gt-MOST_KEPT
+returns-then-kept-gt-MOST_KEPT c = weighs_over (omega arith) (omega arith)
+
+pub overflow_cast-result : goal.overflow_cast-result
+overflow_cast-result c = record { fits = (omega (arith, c.requires.p_len_bound, wrote_count (words c.args.rows.now c.args.marks.now c.args.times.now c.args.p) c.args.report.now ((cc) ∙ c.write-wrote.ensures.0))) }
+
+pub overflow_cast-result-in-Words : goal.overflow_cast-result-in-Words
+overflow_cast-result-in-Words c = record { fits = (omega (arith, c.requires.p_len_bound, wrote_count (words c.args.rows.now c.args.marks.now c.args.times.now c.args.p) c.args.report.now ((cc) ∙ c.write-wrote.ensures.0))) }
+
+pub returns-in-Short : goal.returns-in-Short
+returns-in-Short c = let w = c.write-wrote.ensures in weighs_wrote (omega arith) (omega arith) ((cc) ∙ w.0) w.1
+
+pub returns-in-Words : goal.returns-in-Words
+returns-in-Words c = let w = c.write-wrote.ensures in weighs_wrote (omega arith) (omega arith) ((cc) ∙ w.0) w.1
