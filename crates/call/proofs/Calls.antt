@@ -272,7 +272,7 @@ module _ {b : List ℕ} {log : LogEnd} {stamps os ns vs : List ℕ} {count : ℕ
             rows_there = λ y o. omega (arith, (t.blocks none u y o).within, t.on_long);
             owners_room = omega (arith, l, h.owners_long);
             numbers_room = omega (arith, l, h.numbers_long);
-            values_room = omega (arith, l, h.values_long_lem);
+            values_room = omega (arith, l, h.values_are_long);
           }
 
       -- the last node's report weighed

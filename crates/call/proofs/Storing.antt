@@ -153,12 +153,12 @@ pub record Storing (on ov bl : List ℕ) (n : ℕ) (os₀ ns₀ vs₀ os ns vs :
   pub wide : length (gather (λ e. e.values) (gather (block_in on ov bl) (range 0 x))) ≡ k * 4
   pub owners_long : length os ≡ length os₀
   pub numbers_long : length ns ≡ length ns₀
-  pub values_long_lem : length vs ≡ length vs₀
+  pub values_are_long : length vs ≡ length vs₀
   pub stored : EntriesStored os₀ ns₀ vs₀ os ns vs (gather (block_in on ov bl) (range 0 x))
 
 pub storing_none : (on ov bl : List ℕ) (n : ℕ) (os ns vs : List ℕ) → Storing on ov bl n os ns vs os ns vs 0 0
 storing_none on ov bl n os ns vs =
-    record { reached = omega arith; counted = refl; wide = refl; owners_long = refl; numbers_long = refl; values_long_lem = refl; stored = record { owners = refl; numbers = refl; values = refl } }
+    record { reached = omega arith; counted = refl; wide = refl; owners_long = refl; numbers_long = refl; values_are_long = refl; stored = record { owners = refl; numbers = refl; values = refl } }
 
 module _ {on ov bl : List ℕ} {n : ℕ} {os₀ ns₀ vs₀ : List ℕ} (s : Storable on ov bl n os₀ ns₀ vs₀) where
   abbrev up_to : ℕ → List Entry
@@ -193,7 +193,7 @@ module _ {on ov bl : List ℕ} {n : ℕ} {os₀ ns₀ vs₀ : List ℕ} (s : Sto
           rows_there = s.rows_there x u;
           owners_room = omega (arith, l, t.counted, t.owners_long, s.owners_room);
           numbers_room = omega (arith, l, t.counted, t.numbers_long, s.numbers_room);
-          values_room = omega (arith, l, t.counted, t.values_long_lem, s.values_room);
+          values_room = omega (arith, l, t.counted, t.values_are_long, s.values_room);
         }
 
     pub storing_more : x < n → {os' ns' vs' : List ℕ} {k' : ℕ} → EntriesPut os ns vs os' ns' vs' k (block_in on ov bl x) k' → Storing on ov bl n os₀ ns₀ vs₀ os' ns' vs' k' (x + 1)
@@ -217,7 +217,7 @@ module _ {on ov bl : List ℕ} {n : ℕ} {os₀ ns₀ vs₀ : List ℕ} (s : Sto
               ∙ fours_sum k (length b) t.wide wb h.counted;
           owners_long = h.owners.long ∙ t.owners_long;
           numbers_long = h.numbers.long ∙ t.numbers_long;
-          values_long_lem = h.values.long ∙ t.values_long_lem;
+          values_are_long = h.values.long ∙ t.values_are_long;
           stored = rw m
               (record {
                 owners = front_more (map owner_of es) (map owner_of b) os₀ po (sum_within (length-map es owner_of) (length-map b owner_of) left.0) ∙ ap (λ us. at_front us os₀) (sym (map_append owner_of es b));

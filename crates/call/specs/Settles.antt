@@ -26,7 +26,7 @@ pub record ReadyIn (b : List ℕ) (e : LogEnd) (stamps os ns vs : List ℕ) (cou
   pub few_kept : count ≤ most_kept
   pub owners_long : length os ≡ most_kept
   pub numbers_long : length ns ≡ most_kept
-  pub values_long_lem : length vs ≡ most_kept * 4
+  pub values_are_long : length vs ≡ most_kept * 4
 
 -- what is lent for the entries that are kept: words for them, and a table of blocks for every node
 abbrev pub RoomToKeep : List ℕ → List ℕ → List ℕ → List ℕ → Type 0

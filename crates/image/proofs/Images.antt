@@ -12,7 +12,7 @@ use Rattle.meaning.proofs.Lists.{range_length}
 use Rattle.meaning.proofs.Accepted.{accepted, nodes_most}
 use Rattle.method.specs.Stored.{Stored}
 use Rattle.method.specs.WellFormed.{Formed}
-use Rattle.method.proofs.Rowed.{Rowed, rowed, values_long_lem}
+use Rattle.method.proofs.Rowed.{Rowed, rowed, values_are_long}
 use Rattle.method.proofs.Lists.{gather_length, gather_map}
 use Rattle.rowset.specs.Rows.{row_at}
 use Rattle.entries.proofs.Listed.{listed_same, listed_moved}
@@ -98,7 +98,7 @@ module _ (s : Stored) (rows : (e : Entry) → Memᴰ e s.entries → Rowed e) (w
 
   pub entered_long : length (sizes s ++ owned ++ valued) ≡ 5 + length s.entries * 7
   entered_long =
-      let v : length valued ≡ length s.entries * 4 = values_long_lem s.entries rows in
+      let v : length valued ≡ length s.entries * 4 = values_are_long s.entries rows in
       let o : length (sizes s ++ owned) ≡ 5 + length s.entries * 3 = sized_long in
       length-append (sizes s ++ owned) valued ∙ omega arith
 

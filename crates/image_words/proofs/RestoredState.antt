@@ -26,7 +26,7 @@ module _ (b : List ℕ) (m : Lent) where
   ruled_fits : length b ≤ 652 → fitting m ≡ true → fitting (ruled_by b m) ≡ true
   ruled_fits l fit =
       let z = fits_sized _ _ _ _ _ fit in
-      sized_fits (record { rule_long = front_long b m.rule (omega (arith, z)) ∙ z.rule_long; times_long = z.times_long; owners_long = z.owners_long; numbers_long = z.numbers_long; values_long_lem = z.values_long_lem })
+      sized_fits (record { rule_long = front_long b m.rule (omega (arith, z)) ∙ z.rule_long; times_long = z.times_long; owners_long = z.owners_long; numbers_long = z.numbers_long; values_are_long = z.values_are_long })
 
   ruled_read : (stored (ruled_by b m)).rule ≡ b
   ruled_read = front_read b (drop (length b) m.rule)

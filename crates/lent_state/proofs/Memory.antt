@@ -36,7 +36,7 @@ pub record Sized (rule times owners numbers values : List ℕ) : Type 0 where
   pub times_long : length times ≡ time_words
   pub owners_long : length owners ≡ most_kept
   pub numbers_long : length numbers ≡ most_kept
-  pub values_long_lem : length values ≡ most_kept * 4
+  pub values_are_long : length values ≡ most_kept * 4
 
 pub fits_sized : (rule times os ns vs : List ℕ) → lengths_fit rule times os ns vs ≡ true → Sized rule times os ns vs
 unfolding lengths_fit
@@ -46,16 +46,16 @@ fits_sized rule times os ns vs f =
       times_long = eqb-true (length times) time_words (search (first, second));
       owners_long = eqb-true (length os) most_kept (search (first, second));
       numbers_long = eqb-true (length ns) most_kept (search (first, second));
-      values_long_lem = eqb-true (length vs) (most_kept * 4) (search (first, second));
+      values_are_long = eqb-true (length vs) (most_kept * 4) (search (first, second));
     }
 
 pub sized_fits : {rule times os ns vs : List ℕ} → Sized rule times os ns vs → lengths_fit rule times os ns vs ≡ true
 unfolding lengths_fit
-sized_fits h = rw (h.rule_long, h.times_long, h.owners_long, h.numbers_long, h.values_long_lem)
+sized_fits h = rw (h.rule_long, h.times_long, h.owners_long, h.numbers_long, h.values_are_long)
 
 -- slices of a state's lengths, of which so many words are its
 pub sized_words : {rule times os ns vs : List ℕ} {retained count : ℕ} → Sized rule times os ns vs → retained ≤ most_times → count ≤ most_kept → SizedWords times os ns vs retained count
-sized_words z r c = record { times_long = z.times_long; owners_long = z.owners_long; numbers_long = z.numbers_long; values_long_lem = z.values_long_lem; few_times = r; few_kept = c }
+sized_words z r c = record { times_long = z.times_long; owners_long = z.owners_long; numbers_long = z.numbers_long; values_are_long = z.values_are_long; few_times = r; few_kept = c }
 
 stays : (m : Lent) (w : Fed) (r : Refusal) → m ≡ lent_after (refusal_of r) m w
 stays m w NotWellFormed = refl

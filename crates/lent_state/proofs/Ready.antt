@@ -172,7 +172,7 @@ module _ (b : List ℕ) (log : LogEnd) (times os ns vs : List ℕ) (count : ℕ)
               few_kept = z.few_kept;
               owners_long = z.owners_long;
               numbers_long = z.numbers_long;
-              values_long_lem = z.values_long_lem;
+              values_are_long = z.values_are_long;
             }
 
       -- ---- the rows that the call needs

@@ -8,7 +8,7 @@ use lib.ListN.{length, drop, length-map}
 use Rattle.meaning.specs.Lists.{gather}
 use Rattle.method.specs.Stored.{Stored}
 use Rattle.method.specs.WellFormed.{Formed}
-use Rattle.method.proofs.Rowed.{rowed, values_long_lem}
+use Rattle.method.proofs.Rowed.{rowed, values_are_long}
 use Rattle.figures.proofs.Front.{front_long, front_read}
 use Rattle.call.specs.Stores.{owner_of}
 use Rattle.lent_state.specs.Lent.{Lent, fitting, stored, lent_with}
@@ -26,12 +26,12 @@ module _ (m : Lent) (s : Stored) (formed : Formed s) where
       let n : length s.entries ≤ 512 = formed.few_kept in
       let o : length (map owner_of s.entries) ≡ length s.entries = length-map s.entries owner_of in
       let k : length (map (λ e. e.number) s.entries) ≡ length s.entries = length-map s.entries (λ e. e.number) in
-      let v : length (gather (λ e. e.values) s.entries) ≡ length s.entries * 4 = values_long_lem s.entries (rowed formed) in
+      let v : length (gather (λ e. e.values) s.entries) ≡ length s.entries * 4 = values_are_long s.entries (rowed formed) in
       sized_fits
       (record {
         rule_long = z.rule_long;
         times_long = front_long s.times m.times (omega (arith, z, formed.few_times)) ∙ z.times_long;
         owners_long = front_long (map owner_of s.entries) m.owners (omega (arith, z)) ∙ z.owners_long;
         numbers_long = front_long (map (λ e. e.number) s.entries) m.numbers (omega (arith, z)) ∙ z.numbers_long;
-        values_long_lem = front_long (gather (λ e. e.values) s.entries) m.values (omega (arith, z)) ∙ z.values_long_lem;
+        values_are_long = front_long (gather (λ e. e.values) s.entries) m.values (omega (arith, z)) ∙ z.values_are_long;
       })

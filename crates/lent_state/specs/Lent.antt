@@ -42,7 +42,7 @@ pub record SizedWords (times os ns vs : List ℕ) (retained count : ℕ) : Type 
   pub times_long : length times ≡ time_words
   pub owners_long : length os ≡ most_kept
   pub numbers_long : length ns ≡ most_kept
-  pub values_long_lem : length vs ≡ most_kept * 4
+  pub values_are_long : length vs ≡ most_kept * 4
   pub few_times : retained ≤ most_times
   pub few_kept : count ≤ most_kept
 

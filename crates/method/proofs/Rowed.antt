@@ -90,9 +90,9 @@ rowed {s} f e m =
     own s x (f.nodes_fit x (omega (arith, range_at 0 (node_count s.rule) at))) e k
 
 -- so the values of such entries, end to end, are four words each
-pub values_long_lem : (es : List Entry) → ((e : Entry) → Memᴰ e es → Rowed e) → length (gather (λ e. e.values) es) ≡ length es * 4
-values_long_lem [] h = refl
-values_long_lem (e ∷ es) h =
+pub values_are_long : (es : List Entry) → ((e : Entry) → Memᴰ e es → Rowed e) → length (gather (λ e. e.values) es) ≡ length es * 4
+values_are_long [] h = refl
+values_are_long (e ∷ es) h =
     let one : length e.values ≡ 4 = (h e (Memᴰ.head refl)).1 in
-    let rest : length (gather (λ e. e.values) es) ≡ length es * 4 = values_long_lem es (λ f m. h f (Memᴰ.tail m)) in
+    let rest : length (gather (λ e. e.values) es) ≡ length es * 4 = values_are_long es (λ f m. h f (Memᴰ.tail m)) in
     simp length-append (omega arith)

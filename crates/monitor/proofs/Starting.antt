@@ -50,7 +50,7 @@ rule_fits b a ok = omega (arith, (accepted b a ok).long, nodes_most b a ok)
 -- its arrays have a state's lengths, and those of the state of zeros
 start_fits : (b : List ℕ) → length b ≤ 652 → fitting (lent_of (start_state b)) ≡ true
 unfolding start_state
-start_fits b l = sized_fits (record { rule_long = simp (length-append, length-replicate) (omega arith); times_long = length-replicate {A = ℕ} 65 0; owners_long = length-replicate {A = ℕ} 512 0; numbers_long = length-replicate {A = ℕ} 512 0; values_long_lem = length-replicate {A = ℕ} 2048 0 })
+start_fits b l = sized_fits (record { rule_long = simp (length-append, length-replicate) (omega arith); times_long = length-replicate {A = ℕ} 65 0; owners_long = length-replicate {A = ℕ} 512 0; numbers_long = length-replicate {A = ℕ} 512 0; values_are_long = length-replicate {A = ℕ} 2048 0 })
 
 pub blank_fits : fitting (lent_of blank) ≡ true
 blank_fits = start_fits [] (omega arith)

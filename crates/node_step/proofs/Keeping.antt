@@ -59,8 +59,8 @@ module _ {on ov : List ℕ} {kept : ℕ} (r : RoomToKeep on ov kept) (l : kept �
   ages_long_lem : length ages' ≡ length on - kept
   ages_long_lem = p.ages_long ∙ omega (arith, length-take (length on - kept) (drop kept on), length-drop kept on)
 
-  values_long_lem : length values' ≡ length ov - kept * 4
-  values_long_lem = p.values_long ∙ omega (arith, length-take (length ov - kept * 4) (drop (kept * 4) ov), length-drop (kept * 4) ov)
+  values_are_long : length values' ≡ length ov - kept * 4
+  values_are_long = p.values_long ∙ omega (arith, length-take (length ov - kept * 4) (drop (kept * 4) ov), length-drop (kept * 4) ov)
 
   count_is : n ≡ min (length on - kept + 1) (length pairs)
   count_is = rw (sym p.ages_long ∙ ages_long_lem) at p.counted
@@ -80,7 +80,7 @@ module _ {on ov : List ℕ} {kept : ℕ} (r : RoomToKeep on ov kept) (l : kept �
       let row = row_same (take (kept * 4) ov ++ (values' ++ rest_ov)) values' (kept + k) k
       (λ i m.
       let e : (kept + k) * 4 + i ≡ kept * 4 + (k * 4 + i) = omega arith in
-      ap (λ j. get_or (take (kept * 4) ov ++ (values' ++ rest_ov)) j 0) e ∙ put_there ov (kept * 4) (omega (arith, r.rows)) values' rest_ov (k * 4 + i) (omega (arith, values_long_lem, r.rows))) in
+      ap (λ j. get_or (take (kept * 4) ov ++ (values' ++ rest_ov)) j 0) e ∙ put_there ov (kept * 4) (omega (arith, r.rows)) values' rest_ov (k * 4 + i) (omega (arith, values_are_long, r.rows))) in
       rw z (ap₂ (λ a u. entry_of x 1 a u) number row)
 
   pub part_put : (x : ℕ) → EntriesPut x 1 on ov (take kept on ++ (ages' ++ rest_on)) (take (kept * 4) ov ++ (values' ++ rest_ov)) kept (kept + n) (aged_entries x pairs)

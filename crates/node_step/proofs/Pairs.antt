@@ -45,11 +45,11 @@ module _ (ns vs : List ℕ) (from to : ℕ) (l : from ≤ to) (n : to ≤ length
   ages_long_lem : length ages_part ≡ to - from
   ages_long_lem = omega (arith, length-take (to - from) (drop from ns), length-drop from ns)
 
-  values_long_lem : length values_part ≡ to * 4 - from * 4
-  values_long_lem = omega (arith, length-take (to * 4 - from * 4) (drop (from * 4) vs), length-drop (from * 4) vs)
+  values_are_long : length values_part ≡ to * 4 - from * 4
+  values_are_long = omega (arith, length-take (to * 4 - from * 4) (drop (from * 4) vs), length-drop (from * 4) vs)
 
   pub part_there : PairsThere ages_part values_part (length ages_part)
-  part_there = record { ages_there = omega arith; values_there = omega (arith, ages_long_lem, values_long_lem) }
+  part_there = record { ages_there = omega arith; values_there = omega (arith, ages_long_lem, values_are_long) }
 
   part_pair : (k : ℕ) → k < to - from → pair_at ages_part values_part (0 + k) ≡ pair_at ns vs (from + k)
   part_pair k h =

@@ -59,4 +59,4 @@ figures_fit_lem m f e = rw (f, e, ← entries_many m.owners m.numbers m.values m
 pub long_enough : (rule times os ns vs : List ℕ) → lengths_fit rule times os ns vs ≡ true → (length rule ≡ 652) × (64 ≤ length times) × EntriesWithin os ns vs most_kept
 long_enough rule times os ns vs f =
     let z : Sized rule times os ns vs = fits_sized rule times os ns vs f in
-    (z.rule_long, omega (arith, z.times_long), record { owners_there = omega (arith, z.owners_long); numbers_there = omega (arith, z.numbers_long); values_there = omega (arith, z.values_long_lem) })
+    (z.rule_long, omega (arith, z.times_long), record { owners_there = omega (arith, z.owners_long); numbers_there = omega (arith, z.numbers_long); values_there = omega (arith, z.values_are_long) })
