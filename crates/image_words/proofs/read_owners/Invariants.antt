@@ -1,0 +1,18 @@
+use Prim.Native.Nat.{◌+◌, ◌-◌, ◌*◌, ◌≤◌, ◌<◌}
+use native.Mathlib.Omega.{arith}
+use mathlib.Core.Path.{◌≡◌, sym, ◌∙◌}
+use mathlib.Core.Bool.{true}
+use lib.ListN.{length, get_or}
+use borrow.Author.Rules.{rules}
+use borrow.Author.Tests.{not-true, not-false}
+use Rattle.meaning.specs.Outcome.{most_nodes}
+use Rattle.image_words.specs.Parts.{owner_fits, OwnersRead}
+use Rattle.image_words.proofs.Reading.{owner_small, owners_none, owners_more}
+use Rattle.image_words.proofs.read_owners.Given as goal
+
+-- `read_owners` meets its contract. The loop's invariant: the owners of the first k entries are read.
+abbrev pub invariant-loop-k : goal.invariant-loop-k
+invariant-loop-k l = (l.k ≤ l.count) × (length l.owners ≡ length l.initial.owners) × (length l.numbers ≡ length l.initial.numbers) × OwnersRead l.image l.k l.owners l.numbers
+
+abbrev pub decreases-loop-k : goal.decreases-loop-k
+decreases-loop-k l = l.count - l.k

@@ -1,0 +1,7 @@
+-- `empty` meets its contract: the bytes copied are the rule, and the rest is of zeros.
+use borrow.Author.Rules.{rules}
+use Rattle.monitor.proofs.Starting.{rule_in_lem}
+use Rattle.monitor.proofs.empty.Goals as goal
+
+pub returns : goal.returns
+returns c = rule_in_lem c.zeros-state.result c.args.rule.now c.copy_bytes.new.to c.zeros-state.ensures (search rules) c.copy_bytes.ensures
