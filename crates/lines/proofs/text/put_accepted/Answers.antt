@@ -1,0 +1,19 @@
+-- `put_accepted` meets its contract: the figure, then the line end.
+use native.Mathlib.Omega.{arith}
+use lib.ListN.{length-append}
+use borrow.Author.Rules.{rules}
+use Rattle.writer.proofs.Putting.{put_then}
+use Rattle.lines.specs.Text.{accepted_line}
+use Rattle.lines.proofs.text.put_accepted.Goals as goal
+
+pub put_figure-a-requires : goal.put_figure-a-requires
+unfolding accepted_line
+put_figure-a-requires c = simp length-append (omega (arith, simp length-append at c.requires))
+
+pub put_text-requires : goal.put_text-requires
+unfolding accepted_line
+put_text-requires c = omega (arith, simp length-append at c.requires)
+
+pub returns : goal.returns
+unfolding accepted_line
+returns c = put_then c.put_figure-a.ensures c.put_text.ensures
