@@ -6,9 +6,10 @@ ghost use Rattle.meaning.specs.RuleFile.{checking};
 ghost use Rattle.writer.specs.Puts.{Put};
 ghost use Rattle.lines.specs.Answers.{checked_text};
 
-use libc::{STDIN_FILENO, STDOUT_FILENO};
-use lines::put_checked;
+use lines::{put_checked, read_full};
 use rulefile::check;
+use std::io;
+use std::io::Print;
 
 // Puts the answer for a whole file, of which the first 653 bytes were read, n of them if it has no more. A rule has at most 652, so that these are enough.
 fn put_file(out: &mut [u8], file: &[u8], n: usize) -> usize
@@ -19,10 +20,10 @@ fn put_file(out: &mut [u8], file: &[u8], n: usize) -> usize
     put_checked(out, check(&file[0..n]))
 }
 
-fn main() {
+fn main(rt: HostRuntime) -> io::Result<()> {
     let mut file = [0u8; meaning::RULE_BYTES + 1];
-    let n = io::read_full(STDIN_FILENO, &mut file);
+    let n = read_full(&mut rt.stdin(), &mut file)?;
     let mut line = [0u8; 64];
     let end = put_file(&mut line, &file, n);
-    io::write_all(STDOUT_FILENO, &line[0..end]);
+    rt.stdout().write_all(&line[0..end])
 }

@@ -5,15 +5,16 @@ mod event;
 mod input;
 mod text;
 
-ghost use Rattle.std.specs.Prelude.{◌+◌, ◌≤◌, length};
+ghost use Rattle.std.specs.Prelude.{◌+◌, ◌≤◌, length, IfOk};
 
 use event::{Figures, take_event};
 use input::{is_short, read_more, read_rule};
-use libc::STDOUT_FILENO;
 use lines::{Next, next_event, put_checked, rule_in};
 use meaning::{LogEnd, MOST_ROWS, RULE_BYTES, Stamp};
 use monitor::State;
 use rulefile::Checked;
+use std::io;
+use std::io::{Print, Read};
 use text::put_end;
 
 // Rows at most that an event has.
@@ -23,19 +24,19 @@ const ROWS: usize = MOST_ROWS as usize;
 const LARGEST: usize = 53504;
 
 // Writes the text up to `at` where the largest answer has no room behind it, and answers where the next one goes.
-fn make_room(text: &[u8], at: usize) -> usize
+fn make_room<W: Print>(output: &W, text: &[u8], at: usize) -> io::Result<usize>
     requires { (at ≤ length text.now) × (53504 ≤ length text.now) }
-    ensures { result + 53504 ≤ length text.now }
+    ensures { IfOk result (λ n. n + 53504 ≤ length text.now) }
 {
     if text.len() - at >= LARGEST {
-        return at;
+        return Ok(at);
     }
-    io::write_all(STDOUT_FILENO, &text[0..at]);
-    0
+    output.write_all(&text[0..at])?;
+    Ok(0)
 }
 
 // Takes the events on standard input and prints the answers, then the last line. Each turn takes an event, or reads where none is whole, once the text so far is written; the count of turns only bounds the loop. The state is changed where it stands.
-fn take_all(first: State) {
+fn take_all<R: Read, W: Print>(input: &mut R, output: &W, first: State) -> io::Result<()> {
     let mut bytes = [0u8; 65536];
     let mut event = [0u32; 2 + 5 * ROWS];
     let mut report = [0u32; 4326];
@@ -61,8 +62,8 @@ fn take_all(first: State) {
     while turns > 0 {
         turns -= 1;
         if is_short(&bytes[from..to], ended) {
-            io::write_all(STDOUT_FILENO, &text[0..at]);
-            let n = read_more(&mut bytes, from, to);
+            output.write_all(&text[0..at])?;
+            let n = read_more(input, &mut bytes, from, to)?;
             ended = n == to - from;
             from = 0;
             to = n;
@@ -85,8 +86,8 @@ fn take_all(first: State) {
                 count: figures.count,
             };
             let end = put_end(&mut text, at, next, state);
-            io::write_all(STDOUT_FILENO, &text[0..end]);
-            return;
+            output.write_all(&text[0..end])?;
+            return Ok(());
         };
         let answered = take_event(
             &rule,
@@ -103,22 +104,25 @@ fn take_all(first: State) {
         );
         let after = answered.figures;
         figures = after;
-        at = make_room(&text, answered.end);
+        at = make_room(output, &text, answered.end)?;
         from += 4 * n;
     }
+    Ok(())
 }
 
-fn main() {
+fn main(rt: HostRuntime) -> io::Result<()> {
+    let mut input = rt.stdin();
+    let output = rt.stdout();
     let mut bytes = [0u8; 4 + RULE_BYTES];
-    let n = read_rule(&mut bytes);
+    let n = read_rule(&mut input, &mut bytes)?;
     let started = monitor::start(rule_in(&bytes[0..n]));
     let checked = started.checked;
     let state = started.state;
     let mut line = [0u8; 64];
     let end = put_checked(&mut line, checked);
-    io::write_all(STDOUT_FILENO, &line[0..end]);
+    output.write_all(&line[0..end])?;
     let Checked::Accepted(_, _) = checked else {
-        return;
+        return Ok(());
     };
-    take_all(state);
+    take_all(&mut input, &output, state)
 }

@@ -20,7 +20,7 @@ use rulefile::Checked;
 
 // What is kept between calls, by value: the rule's bytes and how many they are; the points accepted; the latest known time, of a point or a notice; the retained times and how many they are; the kept entries, each with its owner (a node twice, and 1 more for a pair), the number of its point or its age, and its four values; and their count.
 #[repr(C)]
-#[derive(Drop)]
+#[derive(Clone, Copy)]
 pub struct State {
     pub rule: [u8; RULE_BYTES],
     pub bytes: u32,
@@ -35,21 +35,21 @@ pub struct State {
 }
 
 // What starting gives: the answer of checking the rule, and where it is accepted the state of an empty log.
-#[derive(Drop)]
+#[derive(Clone, Copy)]
 pub struct Started {
     pub checked: Checked,
     pub state: State,
 }
 
 // What a taking gives back: the state, which a refusal leaves as it was, and the answer.
-#[derive(Drop)]
+#[derive(Clone, Copy)]
 pub struct Step {
     pub state: State,
     pub answer: Answer,
 }
 
 // What reading in gives: the answer, and the state that was read, or one of zeros.
-#[derive(Drop)]
+#[derive(Clone, Copy)]
 pub struct Restored {
     pub read: Read,
     pub state: State,

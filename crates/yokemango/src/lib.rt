@@ -119,7 +119,7 @@ pub extern "C" fn yokemango_rows_word(report: &[u32], k: usize, i: usize) -> u64
 
 // What starting gives: 0, or the refusal's number and place; the reach and free variables; and the state, zeros where the rule is refused.
 #[repr(C)]
-#[derive(Drop)]
+#[derive(Clone, Copy)]
 pub struct StartParts {
     pub number: u32,
     pub place: u32,

@@ -1,0 +1,22 @@
+-- `put_figures` meets its contract, well formed or not.
+use native.Mathlib.Omega.{arith}
+use borrow.Author.Rules.{rules}
+use Rattle.lines.proofs.Lines.{refused_short, last_short}
+use Rattle.listing.specs.Ends.{figures_text}
+use Rattle.listing.proofs.text.put_figures.Goals as goal
+
+pub put_last-requires : goal.put_last-requires
+put_last-requires c = omega (arith, last_short c.in-Points.n c.kept-kept.result)
+
+pub put_refused-requires : goal.put_refused-requires
+put_refused-requires c = omega (arith, refused_short c.of_event.result.0 c.of_event.result.1)
+
+pub returns-in-Points : goal.returns-in-Points
+unfolding figures_text
+returns-in-Points c = let told = rw c.in-Points.is at c.open_points.ensures in
+    rw (← told, ← c.kept-kept.ensures) c.put_last.ensures
+
+pub returns-in-NotWellFormed : goal.returns-in-NotWellFormed
+unfolding figures_text
+returns-in-NotWellFormed c = let told = rw c.in-NotWellFormed.is at c.open_points.ensures in
+    rw (← told) (rw c.of_event.ensures at c.put_refused.ensures)
