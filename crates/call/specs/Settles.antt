@@ -1,5 +1,5 @@
 -- A call from a well-formed state and an admitted event or notice on: what 13 to 16 answer, and what is left of the buffer and the state's words.
-use Rattle.std.specs.Prelude.{ℕ, ◌+◌, ◌-◌, ◌*◌, ◌≤◌, ◌<◌, ◌≡◌, List, length, take}
+use Rattle.std.specs.Prelude.{ℕ, ◌+◌, ◌-◌, ◌*◌, ◌≤◌, ◌≡◌, List, length, take}
 use Rattle.meaning.specs.Outcome.{Outcome, most_kept}
 use Rattle.meaning.specs.RuleFile.{node_count, last_node}
 use Rattle.meaning.specs.Keeper.{weighed, buffer_after}

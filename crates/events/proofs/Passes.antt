@@ -1,6 +1,6 @@
 -- What is known of an event that was found fine: its form, each row, its time stamp and the room for its point.
 use Prim.Native.Nat.{ℕ, zero, suc, ◌+◌, ◌≤◌, ◌<◌}
-use mathlib.Core.Path.{◌≡◌, refl, ◌∙◌, ap}
+use mathlib.Core.Path.{◌≡◌, refl}
 use mathlib.Core.Bool.{Bool, true, false, not}
 use mathlib.Core.List.{List}
 use native.Mathlib.Omega.{arith}
@@ -13,9 +13,7 @@ use Rattle.meaning.specs.Event.{row_count, is_event, row_fits}
 use Rattle.meaning.specs.Keeper.{weigh_rows, admitted}
 use Rattle.meaning.specs.declared.Stamp.{Stamp}
 use Rattle.meaning.proofs.Points.{from_first}
-use Rattle.events.specs.declared.Admitted.{Admitted}
-use Rattle.events.specs.declared.Admitted.TheVariants.{Fine}
-use Rattle.events.specs.Answers.{Rowed, outcome_of}
+use Rattle.events.specs.Answers.{Rowed}
 use Rattle.events.proofs.Forms.{rowed}
 
 pub record Passed (b w : List ℕ) (last : Stamp) (points : ℕ) : Type 0 where

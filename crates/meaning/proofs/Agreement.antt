@@ -10,7 +10,7 @@ use lib.ListN.{length, get_or}
 use lib.Dec.{ltb, eqb}
 use borrow.Author.Tests.{ltb-true, eqb-true, lt-ltb, eq-eqb}
 use native.Mathlib.Omega.{arith}
-use Rattle.meaning.specs.Lists.{all, any, select, same_row}
+use Rattle.meaning.specs.Lists.{all, any, select}
 use Rattle.meaning.specs.Log.{Log, size, time, rows_at, elapsed, point, point_before, point_after, points_from}
 use Rattle.meaning.specs.Formula.{Formula, atom, and, and_not, keep, or, exists, previous, next, since, not_since, until, not_until, once, eventually, in_window, compares, is_variable, free, lowest_of, variables, within, term_within}
 use Rattle.meaning.specs.Definition2.{Valuation, value, replaced, Since, Until, Holds}

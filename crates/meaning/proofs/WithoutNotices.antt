@@ -1,13 +1,12 @@
 -- Over a list without notices the keeper gives what it gave before there were any.
 use Prim.Native.Nat.{ℕ, suc, ◌-◌}
 use mathlib.Core.Path.{◌≡◌, refl, sym, ◌∙◌, ap, ap₂}
-use mathlib.Core.List.{List, [], ◌∷◌, ◌++◌, map}
+use mathlib.Core.List.{List, [], ◌∷◌, map}
 use lib.ListN.{length, get_or}
 use native.Mathlib.Omega.{arith}
 use Rattle.meaning.specs.Outcome.{Outcome, refused, given}
 use Rattle.meaning.specs.Log.{Log, LogPoint, Taken, added, points_in, last_time, beyond, stamp, log_with, log_of}
-use Rattle.meaning.specs.Event.{point_of}
-use Rattle.meaning.specs.Keeper.{Taking, Given, event, report, grown, answer_on, answer, log_after, buffer_after, step, answered, keeper_log, keeper}
+use Rattle.meaning.specs.Keeper.{Given, event, report, grown, answer_on, answer, log_after, buffer_after, step, answered, keeper_log, keeper}
 use Rattle.meaning.specs.WithoutNotices.{EventTaking, point_log, points_with, event_answer, points_after, event_step, event_answered, event_log, event_keeper, of_event, AsBefore}
 use Rattle.meaning.specs.declared.Stamp.{Stamp}
 

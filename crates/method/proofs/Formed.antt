@@ -15,7 +15,7 @@ use Rattle.meaning.proofs.Points.{both, first, second}
 use Rattle.meaning.proofs.Rows.{all_at, all_points, range_of, same_row_lem}
 use Rattle.method.specs.Stored.{Stored, held, first_retained}
 use Rattle.method.specs.Step.{wanted_from, counts_stored, count_before, open_stored}
-use Rattle.method.specs.WellFormed.{most_times, not_falling, same_entry, same_entries, set_fits, own_entries, node_fits, well_formed, Formed}
+use Rattle.method.specs.WellFormed.{most_times, same_entry, same_entries, set_fits, own_entries, node_fits, well_formed, Formed}
 
 -- two lists of entries are the same where the test says so
 pub same_entries_lem : (es fs : List Entry) → es ≡ fs → same_entries es fs ≡ true

@@ -8,7 +8,7 @@ use lib.Dec.{ltb, eqb}
 use borrow.Author.Tests.{ltb-true, ltb-false, lt-ltb, le-ltb, ne_eqb}
 use Rattle.meaning.specs.Lists.{all, select, gather}
 use Rattle.meaning.specs.Log.{Log, Ordered, size, time, rows_at, elapsed, point_before, point_after, points_from}
-use Rattle.meaning.specs.Formula.{Formula, free, lowest_of, terms_of, in_window, variables}
+use Rattle.meaning.specs.Formula.{Formula, free, lowest_of, terms_of, in_window}
 use Rattle.meaning.specs.Evaluator.{cut_to, valuation_of, set_of, atom_rows, leading, until_rows, among, vals}
 use Rattle.meaning.specs.Settled.{settled, settled_since, settled_until}
 use Rattle.meaning.specs.View.{view_of}

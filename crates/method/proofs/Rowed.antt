@@ -18,7 +18,6 @@ use Rattle.meaning.specs.View.{view_of}
 use Rattle.meaning.specs.RuleFile.{node_count, node_at, formula_at}
 use Rattle.meaning.specs.Kept.{Entry, entry_of}
 use Rattle.meaning.specs.declared.Point.{Point}
-use Rattle.meaning.specs.declared.Window.{Window}
 use Rattle.meaning.specs.declared.View.{View}
 use Rattle.meaning.proofs.Points.{first, second}
 use Rattle.meaning.proofs.Rows.{all_at, gather_at, range_at, same_row_lem}

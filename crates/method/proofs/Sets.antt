@@ -2,15 +2,14 @@
 use Prim.Native.Nat.{ℕ, zero, suc, ◌-◌, ◌≤◌, ◌<◌}
 use native.Mathlib.Omega.{arith}
 use mathlib.Core.Path.{◌≡◌, refl, sym, subst}
-use mathlib.Core.Bool.{Bool, true, false, cond, ◌&&◌}
+use mathlib.Core.Bool.{Bool, true, ◌&&◌}
 use mathlib.Core.Logic.Iff
 use mathlib.Core.Logic.{inl, inr}
 use mathlib.Core.List.Memᴰ
 use mathlib.Core.List.{List, [], ◌∷◌, ◌++◌, map, Memᴰ}
-use lib.ListN.{length, get_or, drop}
-use lib.Dec.{ltb, eqb}
-use borrow.Author.Tests.{eqb-true}
-use Rattle.meaning.specs.Lists.{all, select, gather}
+use lib.ListN.{get_or, drop}
+use lib.Dec.{ltb}
+use Rattle.meaning.specs.Lists.{select, gather}
 use Rattle.meaning.specs.Order.{ascending}
 use Rattle.meaning.specs.Log.{point, elapsed, point_before, point_after, points_from}
 use Rattle.meaning.specs.Formula.{Formula, in_window, free, lowest_of, terms_of}
@@ -30,7 +29,7 @@ use Rattle.meaning.proofs.Agreement.{gives_or, gives_exists, gives_and, gives_at
 use Rattle.meaning.proofs.Points.{first, second}
 use Rattle.meaning.proofs.Rows.{all_at, cond_at, select_at, gather_at, same_row_lem, insert_all_at, set_of_ascends}
 use Rattle.method.specs.Stored.{Stored, held, held_pairs}
-use Rattle.method.specs.Settle.{Inputs, fresh, rows_since, candidates, settle, has_pairs, rows_of_turn}
+use Rattle.method.specs.Settle.{Inputs, fresh, rows_since, candidates, settle, rows_of_turn}
 use Rattle.method.specs.Step.{wanted_from, new_rows, turn_of, inputs_of, turns_to, rows_taken, stamps_now, count_before, count_after, turn}
 use Rattle.method.specs.WellFormed.{row_of_node, set_fits, pair_fits, pairs_fit, node_fits, Formed}
 use Rattle.method.proofs.Rowed.{pairs_each}

@@ -23,7 +23,6 @@ use Rattle.meaning.specs.declared.Times.{Times}
 use Rattle.meaning.specs.declared.Times.TheVariants.{Here, Before, After, Past, Future}
 use Rattle.meaning.proofs.Fine.{Fine}
 use Rattle.method.specs.Settle.{Inputs, settle, Turn, rows_of_turn}
-use Rattle.method.specs.Step
 use Rattle.method.specs.Step.{first_wanted, new_rows, new_pairs, turn_of, inputs_of, turns_to, no_turn}
 use Rattle.method.proofs.Views.{Branches, none, single, double, viewed}
 use Rattle.method.proofs.Counted.{Counted}

@@ -12,7 +12,7 @@ use Rattle.meaning.specs.Lists.{range}
 use Rattle.meaning.specs.Outcome.{Outcome, refused, given, when, most_points}
 use Rattle.meaning.specs.Log.{Log, LogPoint, Ordered, Taken, added, noted, time_of, points_in, in_order, relation_in, beyond, stamp, size, time, rows_at, latest, log_of}
 use Rattle.meaning.specs.RuleFile.{Accepted, checking, node_count, last_node, one_if}
-use Rattle.meaning.specs.Kept.{entries, kept, open_points}
+use Rattle.meaning.specs.Kept.{kept, open_points}
 use Rattle.meaning.specs.Event.{is_event, row_count, point_of}
 use Rattle.meaning.specs.Keeper.{Fed, event, notice, Taking, Given, report, weigh_rows, weigh_crowds, admitted, admits, weighed, backlog_of, crowded_at, taken_of, grown, answer_on, answer, log_after, buffer_after, step, answered, keeper_log, keeper}
 use Rattle.meaning.specs.declared.Stamp.{Stamp}

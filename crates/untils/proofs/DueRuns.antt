@@ -8,8 +8,7 @@ use lib.ListN.{length, get_or}
 use lib.Dec.{ltb}
 use borrow.Author.Tests.{ltb-true, ltb-false}
 use Rattle.meaning.specs.Lists.{all, select, gather}
-use Rattle.meaning.specs.Log.{point, elapsed, points_from}
-use Rattle.meaning.specs.Formula.{in_window}
+use Rattle.meaning.specs.Log.{point, points_from}
 use Rattle.meaning.specs.Evaluator.{leading, until_rows}
 use Rattle.meaning.specs.declared.Point.{Point}
 use Rattle.meaning.specs.declared.Stamp.{Stamp}

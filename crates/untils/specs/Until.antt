@@ -1,7 +1,7 @@
 -- The tests of a point and of left that until makes, over a node's sets, and where these sets stand.
 use Rattle.std.specs.Prelude.{ℕ, ◌+◌, ◌-◌, ◌≤◌, ◌<◌, ◌≡◌, Bool, not, List}
 use Rattle.meaning.specs.Lists.{all}
-use Rattle.meaning.specs.Log.{point, elapsed, points_from}
+use Rattle.meaning.specs.Log.{elapsed, points_from}
 use Rattle.meaning.specs.Formula.{in_window}
 use Rattle.meaning.specs.Evaluator.{cut_to, valuation_of}
 use Rattle.meaning.specs.LookUp.{look_up, is_there}

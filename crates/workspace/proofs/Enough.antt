@@ -1,10 +1,10 @@
 -- What a call needs, by its times, and that the largest room always has it.
-use Prim.Native.Nat.{ℕ, ◌+◌, ◌-◌, ◌*◌, ◌≤◌, ◌<◌}
+use Prim.Native.Nat.{ℕ, ◌*◌, ◌≤◌, ◌<◌}
 use native.Mathlib.Omega.{arith}
 use mathlib.Core.List.{List}
 use lib.ListN.{length}
 use Rattle.meaning.specs.declared.LogEnd.{LogEnd}
-use Rattle.method.specs.Room.{rows_needed, marks_needed, marks_to_time}
+use Rattle.method.specs.Room.{marks_needed, marks_to_time}
 use Rattle.method.proofs.Room.{room_enough}
 use Rattle.call.specs.Settles.{call_in, ReadyIn}
 use Rattle.call.proofs.Calls.{stamps_long}

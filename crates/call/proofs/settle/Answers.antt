@@ -3,8 +3,7 @@ use Prim.Native.Nat.{◌*◌}
 use native.Mathlib.Omega.{arith}
 use mathlib.Core.Path.{refl}
 use mathlib.Core.Logic.{inl, inr}
-use Rattle.call.proofs.Calls.{either_way, not_full, part_first, walked_is, rule_long, walk_asks, crowded_settles, last_ready, storable, refused_settles, written_fits, written_settles}
-use borrow.Author.Rules.{rules}
+use Rattle.call.proofs.Calls.{not_full, part_first, walked_is, rule_long, walk_asks, crowded_settles, last_ready, storable, refused_settles, written_fits, written_settles}
 use Rattle.call.proofs.settle.Goals as goal
 use Rattle.call.proofs.settle.Goals.{then-room-kept+else-room-lt-MOST_KEPT, else-room-kept}
 

@@ -1,7 +1,6 @@
 -- `store` meets its contract. The loop's invariant: the blocks of the first x nodes are stored.
-use Prim.Native.Nat.{◌-◌}
 use native.Mathlib.Omega.{arith}
-use Rattle.call.proofs.Storing.{Storing, storing_none, block_storable, storing_more, storing_all}
+use Rattle.call.proofs.Storing.{storing_none, block_storable, storing_more, storing_all}
 use Rattle.call.proofs.store.Goals as goal
 
 pub loop-x-init : goal.loop-x-init

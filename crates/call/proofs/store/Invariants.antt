@@ -1,6 +1,5 @@
 use Prim.Native.Nat.{◌-◌}
-use native.Mathlib.Omega.{arith}
-use Rattle.call.proofs.Storing.{Storing, storing_none, block_storable, storing_more, storing_all}
+use Rattle.call.proofs.Storing.{Storing}
 use Rattle.call.proofs.store.Given as goal
 
 -- `store` meets its contract. The loop's invariant: the blocks of the first x nodes are stored.

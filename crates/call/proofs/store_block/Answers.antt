@@ -5,7 +5,6 @@ use mathlib.Core.Path.{◌≡◌, sym, ◌∙◌}
 use lib.ListN.{get_or}
 use Rattle.node_step.specs.Walks.{set_words, block_word}
 use Rattle.call.proofs.Storing.{part_long, first_word, block_put-from, none_put}
-use borrow.Author.Rules.{rules}
 use Rattle.call.proofs.store_block.Goals as goal
 
 pub overflow_cast-from : goal.overflow_cast-from

@@ -2,7 +2,6 @@
 use native.Mathlib.Omega.{arith}
 use Rattle.meaning.specs.RuleFile.{last_node}
 use Rattle.call.proofs.Calls.{first_figure}
-use borrow.Author.Rules.{rules}
 use Rattle.call.proofs.weigh_last.Goals as goal
 
 pub overflow_cast-p-2 : goal.overflow_cast-p-2

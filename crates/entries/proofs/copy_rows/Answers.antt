@@ -1,7 +1,5 @@
 -- `copy_rows` meets its contract. The loop's invariant: the rows before i are copied.
-use Prim.Native.Nat.{◌-◌}
-use native.Mathlib.Omega.{arith}
-use Rattle.entries.proofs.Copies.{Copying, copied_none, copied_more, copied_all}
+use Rattle.entries.proofs.Copies.{copied_none, copied_more, copied_all}
 use Rattle.entries.proofs.copy_rows.Goals as goal
 
 pub loop-i-init : goal.loop-i-init

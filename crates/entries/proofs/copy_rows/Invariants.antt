@@ -1,6 +1,5 @@
 use Prim.Native.Nat.{◌-◌}
-use native.Mathlib.Omega.{arith}
-use Rattle.entries.proofs.Copies.{Copying, copied_none, copied_more, copied_all}
+use Rattle.entries.proofs.Copies.{Copying}
 use Rattle.entries.proofs.copy_rows.Given as goal
 
 -- `copy_rows` meets its contract. The loop's invariant: the rows before i are copied.

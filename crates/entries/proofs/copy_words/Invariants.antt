@@ -1,9 +1,6 @@
 use Prim.Native.Nat.{◌-◌, ◌≤◌}
-use native.Mathlib.Omega.{arith}
-use mathlib.Core.Path.{◌≡◌, refl}
 use lib.ListN.{get_or}
 use Rattle.entries.specs.Appended.{WordsPut}
-use Rattle.entries.proofs.Putting.{put_none, put_more}
 use Rattle.entries.proofs.copy_words.Given as goal
 
 -- `copy_words` meets its contract. The loop's invariant: the first k words are put.

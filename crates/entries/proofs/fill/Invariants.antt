@@ -1,8 +1,5 @@
 use Prim.Native.Nat.{◌-◌, ◌≤◌}
-use native.Mathlib.Omega.{arith}
-use mathlib.Core.Path.{◌≡◌, refl}
 use Rattle.entries.specs.Appended.{WordsPut}
-use Rattle.entries.proofs.Putting.{put_none, put_more}
 use Rattle.entries.proofs.fill.Given as goal
 
 -- `fill` meets its contract. The loop's invariant: the first k words are put.

@@ -1,5 +1,4 @@
 -- `push` meets its contract: the rows copied behind the last set, and the mark behind them, are one set more.
-use borrow.Author.Rules.{rules}
 use mathlib.Core.Path.{refl}
 use Rattle.entries.proofs.Growth.{pushed}
 use Rattle.entries.proofs.push.Goals as goal

@@ -1,10 +1,9 @@
 -- `run_end` meets its contract. The loop's invariant: the run's end is k and what the run from k on adds.
-use Prim.Native.Nat.{◌+◌, ◌-◌}
 use native.Mathlib.Omega.{arith}
 use borrow.Author.Tests.{eq-eqb, ne_eqb}
-use mathlib.Core.Path.{◌≡◌, refl}
+use mathlib.Core.Path.{refl}
 use lib.ListN.{get_or}
-use Rattle.entries.specs.Entries.{streak, is_word, run_of}
+use Rattle.entries.specs.Entries.{is_word, run_of}
 use Rattle.entries.proofs.Streaks.{streak_more, streak_stops, streak_ends}
 use Rattle.entries.proofs.run_end.Goals as goal
 

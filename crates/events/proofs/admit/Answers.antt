@@ -10,7 +10,6 @@ use Rattle.events.specs.declared.Order.TheVariants.{Kept}
 use Rattle.events.specs.Answers.{form_of, rows_of, order_of}
 use Rattle.events.proofs.Forms.{form_rowed}
 use Rattle.events.proofs.Admits.{not-admitted, row_out, time_falls_lem, log_full_lem, fine}
-use borrow.Author.Rules.{rules}
 use Rattle.events.proofs.admit.Goals as goal
 
 pub returns-in_default : goal.returns-in_default

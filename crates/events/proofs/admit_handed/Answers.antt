@@ -2,10 +2,8 @@
 use native.Mathlib.Omega.{arith}
 use mathlib.Core.Path.{◌≡◌, sym, subst}
 use lib.ListN.{length}
-use borrow.Author.Rules.{rules}
 use Rattle.meaning.specs.Keeper.{admits}
 use Rattle.events.specs.Answers.{outcome_of, fed_of, HandedWhole}
-use Rattle.events.specs.declared.Handed.TheVariants.{Event, Notice}
 use Rattle.events.proofs.admit_handed.Goals as goal
 
 pub bounds-words-0 : goal.bounds-words-0

@@ -1,6 +1,5 @@
 -- A notice's time is tested alone.
-use mathlib.Core.Path.{◌≡◌, sym, ◌∙◌}
-use borrow.Author.Rules.{rules}
+use mathlib.Core.Path.{sym, ◌∙◌}
 use Rattle.events.proofs.Admits.{notice_falls, notice_fine}
 use Rattle.events.proofs.admit_notice.Goals as goal
 

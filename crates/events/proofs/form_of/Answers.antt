@@ -1,6 +1,5 @@
 -- The form is told by the tests in their order.
 use Rattle.events.proofs.Forms.{form_short, form_many, form_off, form_event}
-use borrow.Author.Rules.{rules}
 use Rattle.events.proofs.form_of.Goals as goal
 
 pub returns-then-n-lt2 : goal.returns-then-n-lt2

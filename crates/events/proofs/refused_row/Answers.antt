@@ -1,7 +1,6 @@
 -- Each answer on the rows has its own on the event.
 use mathlib.Core.Path.{sym, ap}
 use Rattle.events.specs.Answers.{admitted_rows}
-use borrow.Author.Rules.{rules}
 use Rattle.events.proofs.refused_row.Goals as goal
 
 pub returns-in-Out : goal.returns-in-Out

@@ -2,7 +2,6 @@
 use mathlib.Core.Path.{sym, ◌∙◌}
 use native.Mathlib.Omega.{arith}
 use Rattle.events.proofs.Fits.{fits_not, fits_columns}
-use borrow.Author.Rules.{rules}
 use Rattle.events.proofs.row_fits.Goals as goal
 
 pub returns-then-wide-relation : goal.returns-then-wide-relation

@@ -1,10 +1,7 @@
 use Prim.Native.Nat.{◌-◌}
-use mathlib.Core.Path.{◌≡◌, sym, ◌∙◌}
-use borrow.Author.Tests.{not-true, not-false}
+use mathlib.Core.Path.{◌≡◌}
 use Rattle.meaning.specs.Lists.{range}
 use Rattle.events.specs.Answers.{rows_of}
-use Rattle.events.proofs.Fits.{rows_start, rows_more, rows_out, rows_end}
-use borrow.Author.Rules.{rules}
 use Rattle.events.proofs.rows_of.Given as goal
 
 -- The rows give what those from `k` on give, until one doesn't fit.

@@ -1,11 +1,6 @@
 -- The columns from the arity on are all 0 where those from `j` on are.
-use Prim.Native.Nat.{◌-◌}
-use mathlib.Core.Path.{◌≡◌, refl, sym, ◌∙◌}
-use lib.ListN.{length, drop}
-use lib.Dec.{eqb}
-use Rattle.meaning.specs.Lists.{all}
+use mathlib.Core.Path.{sym, ◌∙◌}
 use Rattle.events.proofs.Fits.{zeros_more, zeros_broken, zeros_end}
-use borrow.Author.Rules.{rules}
 use Rattle.events.proofs.unused_zero.Goals as goal
 
 pub returns-then-columns-j-ne0 : goal.returns-then-columns-j-ne0

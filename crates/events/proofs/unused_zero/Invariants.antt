@@ -1,10 +1,8 @@
 use Prim.Native.Nat.{◌-◌}
-use mathlib.Core.Path.{◌≡◌, refl, sym, ◌∙◌}
+use mathlib.Core.Path.{◌≡◌}
 use lib.ListN.{length, drop}
 use lib.Dec.{eqb}
 use Rattle.meaning.specs.Lists.{all}
-use Rattle.events.proofs.Fits.{zeros_more, zeros_broken, zeros_end}
-use borrow.Author.Rules.{rules}
 use Rattle.events.proofs.unused_zero.Given as goal
 
 -- The columns from the arity on are all 0 where those from `j` on are.

@@ -2,7 +2,6 @@
 use native.Mathlib.Omega.{arith}
 use Rattle.meaning.proofs.Accepted.{accepted, nodes_most}
 use Rattle.figures.proofs.Tabled.{counts_many, weighty, tabled}
-use borrow.Author.Rules.{rules}
 use Rattle.figures.proofs.call_table.Goals as goal
 
 pub weights-requires : goal.weights-requires

@@ -2,7 +2,6 @@
 use native.Mathlib.Omega.{arith}
 use mathlib.Core.Path.{refl}
 use mathlib.Core.List.Memᴰ
-use borrow.Author.Rules.{rules}
 use Rattle.figures.proofs.Weighed.{sum_one, sum_two}
 use Rattle.figures.proofs.children_weight.Goals as goal
 

@@ -3,7 +3,6 @@ use Prim.Native.Nat.{ℕ, ◌+◌, ◌-◌}
 use native.Mathlib.Omega.{arith}
 use mathlib.Core.Path.{◌≡◌, ap}
 use lib.ListN.{length, get_or}
-use borrow.Author.Rules.{rules}
 use Rattle.meaning.specs.Log.{stamp}
 use Rattle.meaning.specs.RuleFile.{node_count}
 use Rattle.meaning.specs.declared.LogEnd.{LogEnd}

@@ -1,10 +1,7 @@
-use Prim.Native.Nat.{◌+◌, ◌*◌, ◌≤◌, ◌-◌}
-use native.Mathlib.Omega.{arith}
+use Prim.Native.Nat.{◌≤◌, ◌-◌}
 use mathlib.Core.Path.{◌≡◌}
 use lib.ListN.{length}
-use borrow.Author.Rules.{rules}
 use Rattle.figures.specs.Tables.{TableOf}
-use Rattle.figures.proofs.Filled.{table_none, table_next, table_all}
 use Rattle.figures.proofs.fill_table.Given as goal
 
 -- `fill_table` meets its contract. The loop keeps that the nodes passed so far have their words.

@@ -2,7 +2,6 @@
 use native.Mathlib.Omega.{arith}
 use mathlib.Core.Path.{refl}
 use mathlib.Core.List.Memᴰ
-use borrow.Author.Rules.{rules}
 use Rattle.meaning.proofs.Accepted.{accepted}
 use Rattle.figures.proofs.Needs.{sized, child_sized, need_none, need_one, need_two}
 use Rattle.figures.proofs.need_at.Goals as goal

@@ -1,7 +1,6 @@
 -- `need_in_order` meets its contract, from the three nodes' rows.
 use mathlib.Core.Path.{refl}
 use lib.ListN.{get_or}
-use borrow.Author.Rules.{rules}
 use Rattle.figures.proofs.Needs.{most_of_lem}
 use Rattle.figures.proofs.need_in_order.Goals as goal
 

@@ -1,7 +1,6 @@
 -- `need_of_two` meets its contract, by the test of the weights.
 use mathlib.Core.List.{[]}
 use lib.ListN.{get_or}
-use borrow.Author.Rules.{rules}
 use Rattle.method.specs.Room.{need_of_two}
 use Rattle.figures.specs.Tables.{rows_in}
 use Rattle.figures.proofs.Needs.{right_first, left_first}

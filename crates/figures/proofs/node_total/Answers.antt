@@ -1,6 +1,5 @@
 -- `node_total` meets its contract: a byte fits.
 use native.Mathlib.Omega.{arith}
-use borrow.Author.Rules.{rules}
 use Rattle.figures.proofs.node_total.Goals as goal
 
 pub overflow_cast-result : goal.overflow_cast-result

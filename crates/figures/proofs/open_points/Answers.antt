@@ -2,11 +2,9 @@
 use Prim.Native.Nat.{◌≤◌}
 use native.Mathlib.Omega.{arith}
 use mathlib.Core.Path.{sym, ◌∙◌}
-use borrow.Author.Tests.{not-true, not-false}
 use Rattle.meaning.specs.Outcome.{most_bytes, most_kept}
 use Rattle.method.specs.WellFormed.{most_times}
 use Rattle.figures.proofs.Slices.{front_parts, figures_out, figures_in, not_open}
-use borrow.Author.Rules.{rules}
 use Rattle.figures.proofs.open_points.Goals as goal
 
 pub returns-then-not-figures_fit : goal.returns-then-not-figures_fit

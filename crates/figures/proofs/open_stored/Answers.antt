@@ -2,12 +2,10 @@
 use native.Mathlib.Omega.{arith}
 use mathlib.Core.Path.{◌≡◌, sym, ◌∙◌}
 use mathlib.Core.Bool.{true}
-use borrow.Author.Tests.{not-true, not-false}
 use Rattle.method.specs.WellFormed.{well_formed}
 use Rattle.method.proofs.Formed.{formed}
 use Rattle.formed.specs.StateFigures.{stored_in}
 use Rattle.figures.proofs.Slices.{node_sizes, not_open, last_most, open_counted}
-use borrow.Author.Rules.{rules}
 use Rattle.figures.proofs.open_stored.Goals as goal
 
 pub returns-then-not-well_formed : goal.returns-then-not-well_formed

@@ -2,7 +2,6 @@
 use native.Mathlib.Omega.{arith}
 use mathlib.Core.List.{[], ◌∷◌}
 use lib.ListN.{length-set}
-use borrow.Author.Rules.{rules}
 use Rattle.figures.proofs.Filled.{put_first}
 use Rattle.figures.proofs.put_node.Goals as goal
 

@@ -1,10 +1,9 @@
 -- `put_times` meets its contract. The loop keeps `Moved`: the first k times stand at the front.
-use Prim.Native.Nat.{◌+◌, ◌-◌, ◌≤◌}
+use Prim.Native.Nat.{◌+◌}
 use native.Mathlib.Omega.{arith}
 use mathlib.Core.Path.{◌≡◌, refl, sym, ◌∙◌, ap}
 use lib.ListN.{length, get_or, length-set}
-use Rattle.figures.proofs.Moved.{Moved, moved_none, moved_more, all_moved}
-use borrow.Author.Rules.{rules}
+use Rattle.figures.proofs.Moved.{moved_none, moved_more, all_moved}
 use Rattle.figures.proofs.put_times.Goals as goal
 
 pub loop-k-init : goal.loop-k-init

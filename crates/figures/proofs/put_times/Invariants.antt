@@ -1,9 +1,7 @@
-use Prim.Native.Nat.{◌+◌, ◌-◌, ◌≤◌}
-use native.Mathlib.Omega.{arith}
-use mathlib.Core.Path.{◌≡◌, refl, sym, ◌∙◌, ap}
-use lib.ListN.{length, get_or, length-set}
-use Rattle.figures.proofs.Moved.{Moved, moved_none, moved_more, all_moved}
-use borrow.Author.Rules.{rules}
+use Prim.Native.Nat.{◌-◌, ◌≤◌}
+use mathlib.Core.Path.{◌≡◌}
+use lib.ListN.{length}
+use Rattle.figures.proofs.Moved.{Moved}
 use Rattle.figures.proofs.put_times.Given as goal
 
 -- `put_times` meets its contract. The loop keeps `Moved`: the first k times stand at the front.

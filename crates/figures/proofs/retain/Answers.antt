@@ -5,7 +5,6 @@ use mathlib.Core.Path.{◌≡◌, refl, ◌∙◌, ap}
 use mathlib.Core.List.{List}
 use lib.ListN.{length, take, drop, length-drop}
 use lib.Seq.{take_all, length-take-le}
-use borrow.Author.Rules.{rules}
 use Rattle.meaning.specs.declared.Point.{Point}
 use Rattle.method.specs.Stored.{first_retained}
 use Rattle.method.proofs.Least.{least_most}

@@ -1,10 +1,10 @@
 -- `rows_needed` meets its contract. The loop keeps what the trees of the nodes passed so far need.
-use Prim.Native.Nat.{ℕ, ◌≤◌, ◌<◌, ◌-◌}
+use Prim.Native.Nat.{◌-◌}
 use native.Mathlib.Omega.{arith}
 use mathlib.Core.Path.{◌≡◌, ◌∙◌, ap}
-use lib.ListN.{length, get_or}
+use lib.ListN.{get_or}
 use borrow.Author.Rules.{rules}
-use Rattle.meaning.specs.RuleFile.{node_count, last_node}
+use Rattle.meaning.specs.RuleFile.{last_node}
 use Rattle.meaning.proofs.Accepted.{accepted, nodes_most, last_is_node}
 use Rattle.method.specs.Room.{need}
 use Rattle.figures.specs.Tables.{rows_in}

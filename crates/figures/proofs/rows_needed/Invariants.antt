@@ -1,13 +1,9 @@
 use Prim.Native.Nat.{ℕ, ◌≤◌, ◌<◌, ◌-◌}
-use native.Mathlib.Omega.{arith}
-use mathlib.Core.Path.{◌≡◌, ◌∙◌, ap}
+use mathlib.Core.Path.{◌≡◌}
 use lib.ListN.{length, get_or}
-use borrow.Author.Rules.{rules}
-use Rattle.meaning.specs.RuleFile.{node_count, last_node}
-use Rattle.meaning.proofs.Accepted.{accepted, nodes_most, last_is_node}
+use Rattle.meaning.specs.RuleFile.{node_count}
 use Rattle.method.specs.Room.{need}
 use Rattle.figures.specs.Tables.{rows_in}
-use Rattle.figures.proofs.Weighed.{one_more}
 use Rattle.figures.proofs.rows_needed.Given as goal
 
 -- `rows_needed` meets its contract. The loop keeps what the trees of the nodes passed so far need.

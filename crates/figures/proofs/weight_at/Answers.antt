@@ -1,6 +1,5 @@
 -- `weight_at` meets its contract: the children's words, and one more where the node isn't "previous".
 use native.Mathlib.Omega.{arith}
-use borrow.Author.Rules.{rules}
 use Rattle.meaning.proofs.Accepted.{accepted}
 use Rattle.figures.proofs.Weighed.{others_few, children_few, children_there, weight_previous, weight_other}
 use Rattle.figures.proofs.weight_at.Goals as goal

@@ -1,12 +1,8 @@
 use Prim.Native.Nat.{ℕ, ◌≤◌, ◌<◌, ◌-◌}
-use native.Mathlib.Omega.{arith}
 use mathlib.Core.Path.{◌≡◌}
 use lib.ListN.{length, get_or}
-use borrow.Author.Rules.{rules}
 use Rattle.meaning.specs.RuleFile.{node_count}
-use Rattle.meaning.proofs.Accepted.{accepted, nodes_most}
 use Rattle.method.specs.Room.{others_in}
-use Rattle.figures.proofs.Weighed.{one_more}
 use Rattle.figures.proofs.weights.Given as goal
 
 -- `weights` meets its contract. The loop keeps that the nodes passed so far have their words.

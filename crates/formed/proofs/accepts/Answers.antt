@@ -1,5 +1,4 @@
 -- `accepts` meets its contract.
-use borrow.Author.Rules.{rules}
 use Rattle.formed.proofs.Whole.{masks_of}
 use Rattle.formed.proofs.accepts.Goals as goal
 

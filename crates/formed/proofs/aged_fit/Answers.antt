@@ -1,5 +1,4 @@
 -- `aged_fit` meets its contract: the last pair's age says it of all, as they ascend.
-use borrow.Author.Rules.{rules}
 use Rattle.formed.proofs.Climbs.{aged_old, aged_tells}
 use Rattle.formed.proofs.aged_fit.Goals as goal
 

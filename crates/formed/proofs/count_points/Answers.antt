@@ -1,5 +1,4 @@
 -- `count_points` meets its contract.
-use borrow.Author.Rules.{rules}
 use Rattle.formed.proofs.Times.{counted}
 use Rattle.formed.proofs.count_points.Goals as goal
 

@@ -1,15 +1,15 @@
 -- `entries_fit` meets its contract. The loop keeps `NodesGoing`: the entries of the nodes below x fit them, and next is behind these; and `Noted`: where they stand.
-use Prim.Native.Nat.{◌+◌, ◌≤◌, ◌<◌, ◌-◌}
+use Prim.Native.Nat.{◌+◌, ◌<◌, ◌-◌}
 use native.Mathlib.Omega.{arith}
 use mathlib.Core.Path.{◌≡◌, refl, subst, ◌∙◌}
 use mathlib.Core.Bool.{false≢true}
-use lib.ListN.{length, get_or, length-set}
+use lib.ListN.{get_or, length-set}
 use borrow.Author.Rules.{rules}
 use Rattle.meaning.specs.Log.{point}
 use Rattle.meaning.specs.RuleFile.{node_count}
 use Rattle.formed.specs.Steps.{NodeTo, NodeEnded}
-use Rattle.formed.proofs.Nodes.{NodesGoing, nodes_none, nodes_more, nodes_stuck, nothing_left, nodes_all}
-use Rattle.formed.proofs.Placing.{Noted, noted_none, noted_more, noted_all}
+use Rattle.formed.proofs.Nodes.{nodes_none, nodes_more, nodes_stuck, nothing_left, nodes_all}
+use Rattle.formed.proofs.Placing.{noted_none, noted_more, noted_all}
 use Rattle.formed.proofs.entries_fit.Goals as goal
 
 pub loop-x-init : goal.loop-x-init

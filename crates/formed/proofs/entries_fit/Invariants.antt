@@ -1,14 +1,10 @@
-use Prim.Native.Nat.{◌+◌, ◌≤◌, ◌<◌, ◌-◌}
-use native.Mathlib.Omega.{arith}
-use mathlib.Core.Path.{◌≡◌, refl, subst, ◌∙◌}
-use mathlib.Core.Bool.{false≢true}
-use lib.ListN.{length, get_or, length-set}
-use borrow.Author.Rules.{rules}
+use Prim.Native.Nat.{◌≤◌, ◌-◌}
+use mathlib.Core.Path.{◌≡◌}
+use lib.ListN.{length, get_or}
 use Rattle.meaning.specs.Log.{point}
 use Rattle.meaning.specs.RuleFile.{node_count}
-use Rattle.formed.specs.Steps.{NodeTo, NodeEnded}
-use Rattle.formed.proofs.Nodes.{NodesGoing, nodes_none, nodes_more, nodes_stuck, nothing_left, nodes_all}
-use Rattle.formed.proofs.Placing.{Noted, noted_none, noted_more, noted_all}
+use Rattle.formed.proofs.Nodes.{NodesGoing}
+use Rattle.formed.proofs.Placing.{Noted}
 use Rattle.formed.proofs.entries_fit.Given as goal
 
 -- `entries_fit` meets its contract. The loop keeps `NodesGoing`: the entries of the nodes below x fit them, and next is behind these; and `Noted`: where they stand.

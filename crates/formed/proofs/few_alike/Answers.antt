@@ -1,10 +1,9 @@
 -- `few_alike` meets its contract. The loop keeps `AlikeYet`: whether one of all has such a number, or none before i has.
-use Prim.Native.Nat.{◌+◌, ◌-◌, ◌≤◌}
+use Prim.Native.Nat.{◌+◌}
 use native.Mathlib.Omega.{arith}
-use mathlib.Core.Path.{◌≡◌, refl}
-use borrow.Author.Rules.{rules}
+use mathlib.Core.Path.{refl}
 use Rattle.meaning.specs.Outcome.{most_rows}
-use Rattle.formed.proofs.Climbs.{alike_few, AlikeYet, yet_more, yet_all}
+use Rattle.formed.proofs.Climbs.{alike_few, yet_more, yet_all}
 use Rattle.formed.proofs.few_alike.Goals as goal
 
 pub returns-then-to-from : goal.returns-then-to-from

@@ -1,9 +1,7 @@
 use Prim.Native.Nat.{◌+◌, ◌-◌, ◌≤◌}
-use native.Mathlib.Omega.{arith}
-use mathlib.Core.Path.{◌≡◌, refl}
-use borrow.Author.Rules.{rules}
+use mathlib.Core.Path.{◌≡◌}
 use Rattle.meaning.specs.Outcome.{most_rows}
-use Rattle.formed.proofs.Climbs.{alike_few, AlikeYet, yet_more, yet_all}
+use Rattle.formed.proofs.Climbs.{AlikeYet}
 use Rattle.formed.proofs.few_alike.Given as goal
 
 -- `few_alike` meets its contract. The loop keeps `AlikeYet`: whether one of all has such a number, or none before i has.

@@ -2,7 +2,6 @@
 use Prim.Native.Nat.{◌-◌}
 use mathlib.Core.Path.{ap, ◌∙◌}
 use Rattle.meaning.specs.Log.{point}
-use borrow.Author.Rules.{rules}
 use Rattle.formed.proofs.first_retained.Goals as goal
 
 pub returns : goal.returns

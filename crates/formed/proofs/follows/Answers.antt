@@ -4,7 +4,6 @@ use native.Mathlib.Omega.{arith}
 use mathlib.Core.Path.{sym}
 use mathlib.Core.List.{[], ◌∷◌}
 use lib.ListN.{get_or}
-use borrow.Author.Rules.{rules}
 use Rattle.rowset.proofs.Searching.{by_before}
 use Rattle.pairs.proofs.Order.{joint_before}
 use Rattle.kinds.specs.Kinds.{pair_at}

@@ -3,7 +3,6 @@ use Prim.Native.Nat.{suc, ◌-◌}
 use mathlib.Core.Path.{ap₂, ◌∙◌}
 use mathlib.Core.List.{◌∷◌}
 use lib.ListN.{get_or}
-use borrow.Author.Rules.{rules}
 use Rattle.meaning.specs.Order.{before}
 use Rattle.formed.proofs.is_behind.Goals as goal
 

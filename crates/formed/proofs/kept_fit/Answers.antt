@@ -2,7 +2,6 @@
 use native.Mathlib.Omega.{arith}
 use mathlib.Core.Path.{ap, ◌∙◌}
 use mathlib.Core.Bool.{false≢true}
-use borrow.Author.Rules.{rules}
 use Rattle.meaning.specs.Log.{point}
 use Rattle.meaning.proofs.Accepted.{accepted, nodes_most}
 use Rattle.entries.specs.Entries.{entries_from}

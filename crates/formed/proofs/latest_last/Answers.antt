@@ -1,7 +1,5 @@
 -- `latest_last` meets its contract.
-use mathlib.Core.Path.{◌≡◌, sym, ◌∙◌}
-use borrow.Author.Tests.{not-false}
-use borrow.Author.Rules.{rules}
+use mathlib.Core.Path.{sym, ◌∙◌}
 use Rattle.formed.proofs.Times.{behind_last}
 use Rattle.formed.proofs.latest_last.Goals as goal
 

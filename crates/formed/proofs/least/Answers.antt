@@ -2,9 +2,8 @@
 use mathlib.Core.Path.{◌≡◌, ap, ◌∙◌}
 use lib.ListN.{drop}
 use native.Mathlib.Omega.{arith}
-use borrow.Author.Rules.{rules}
 use Rattle.method.specs.Stored.{least_of}
-use Rattle.formed.proofs.Times.{Least, least_none, least_more}
+use Rattle.formed.proofs.Times.{least_none, least_more}
 use Rattle.formed.proofs.least.Goals as goal
 
 pub loop-i-init : goal.loop-i-init

@@ -1,9 +1,4 @@
-use mathlib.Core.Path.{◌≡◌, ap, ◌∙◌}
-use lib.ListN.{drop}
-use native.Mathlib.Omega.{arith}
-use borrow.Author.Rules.{rules}
-use Rattle.method.specs.Stored.{least_of}
-use Rattle.formed.proofs.Times.{Least, least_none, least_more}
+use Rattle.formed.proofs.Times.{Least}
 use Rattle.formed.proofs.least.Given as goal
 
 -- `least` meets its contract. The loop keeps `Least`: m is the least of the counts from i on.

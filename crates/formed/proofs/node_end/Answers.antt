@@ -2,8 +2,6 @@
 use Prim.Native.Nat.{◌-◌, ◌*◌}
 use native.Mathlib.Omega.{arith}
 use mathlib.Core.Path.{refl, sym, ◌∙◌}
-use borrow.Author.Tests.{not-true, not-false}
-use borrow.Author.Rules.{rules}
 use Rattle.entries.specs.Entries.{is_word}
 use Rattle.formed.proofs.Runs.{PairsFound, pairs_found_lem, SetsTo}
 use Rattle.formed.proofs.Ordered.{Streaked, own_run, sets_fit}

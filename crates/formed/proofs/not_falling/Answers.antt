@@ -1,7 +1,5 @@
 -- `not_falling` meets its contract. The loop keeps `Rising`: the times up to i don't fall.
-use Prim.Native.Nat.{◌-◌}
-use borrow.Author.Rules.{rules}
-use Rattle.formed.proofs.Times.{Rising, rising_none, rising_more, rising_falls, rising_all}
+use Rattle.formed.proofs.Times.{rising_none, rising_more, rising_falls, rising_all}
 use Rattle.formed.proofs.not_falling.Goals as goal
 
 pub loop-i-init : goal.loop-i-init

@@ -1,6 +1,5 @@
 use Prim.Native.Nat.{◌-◌}
-use borrow.Author.Rules.{rules}
-use Rattle.formed.proofs.Times.{Rising, rising_none, rising_more, rising_falls, rising_all}
+use Rattle.formed.proofs.Times.{Rising}
 use Rattle.formed.proofs.not_falling.Given as goal
 
 -- `not_falling` meets its contract. The loop keeps `Rising`: the times up to i don't fall.

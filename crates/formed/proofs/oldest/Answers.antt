@@ -1,5 +1,4 @@
 -- `oldest` meets its contract, with no end and with one.
-use borrow.Author.Rules.{rules}
 use Rattle.formed.proofs.Ages.{fits_no_end, fits_end}
 use Rattle.formed.proofs.oldest.Goals as goal
 

@@ -1,5 +1,4 @@
 -- `pairs_fit` meets its contract: none fit, and some are tested by the node's kind.
-use borrow.Author.Rules.{rules}
 use Rattle.meaning.specs.View.{view_of}
 use Rattle.meaning.specs.RuleFile.{node_at}
 use Rattle.formed.proofs.NoPairs.{pairs_none}

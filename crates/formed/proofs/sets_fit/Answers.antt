@@ -1,7 +1,6 @@
 -- `sets_fit` meets its contract: the first and the last number say it of all, as they ascend.
 use Prim.Native.Nat.{◌-◌, ◌<◌}
 use native.Mathlib.Omega.{arith}
-use borrow.Author.Rules.{rules}
 use Rattle.formed.proofs.Climbs.{tells_as, said_so, said_not, sets_empty, sets_are}
 use Rattle.formed.proofs.sets_fit.Goals as goal
 use mathlib.Core.Path.{ap}

@@ -2,7 +2,6 @@
 use Prim.Native.Nat.{◌-◌}
 use mathlib.Core.Path.{◌≡◌, sym, ap, ◌∙◌}
 use borrow.Author.Tests.{eq-eqb, ne_eqb}
-use borrow.Author.Rules.{rules}
 use Rattle.meaning.specs.declared.Point.{Point}
 use Rattle.method.specs.Stored.{first_retained}
 use Rattle.formed.proofs.times_asked.Goals as goal

@@ -4,7 +4,6 @@ use native.Mathlib.Omega.{arith}
 use mathlib.Core.Path.{◌≡◌, ◌∙◌}
 use mathlib.Core.Bool.{false≢true}
 use lib.ListN.{get_or}
-use borrow.Author.Rules.{rules}
 use Rattle.meaning.specs.RuleFile.{last_node}
 use Rattle.formed.specs.Parts.{counts_in}
 use Rattle.formed.proofs.Whole.{part_open, points_many, times_many, open_many, times_tested}

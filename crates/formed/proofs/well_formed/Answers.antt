@@ -3,8 +3,6 @@ use Prim.Native.Nat.{◌≤◌}
 use native.Mathlib.Omega.{arith}
 use mathlib.Core.Path.{◌≡◌, sym, ◌∙◌}
 use mathlib.Core.Bool.{true, false≢true}
-use borrow.Author.Tests.{not-true, not-false}
-use borrow.Author.Rules.{rules}
 use Rattle.meaning.specs.Outcome.{given, most_points}
 use Rattle.meaning.specs.RuleFile.{Accepted, checking, is_accepted}
 use Rattle.meaning.proofs.Accepted.{accepted, nodes_most, last_is_node}

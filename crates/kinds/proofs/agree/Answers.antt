@@ -1,5 +1,4 @@
 -- `agree` meets its contract: variable by variable, from the last.
-use borrow.Author.Rules.{rules}
 use Rattle.kinds.proofs.agree.Goals as goal
 
 pub returns : goal.returns

@@ -1,13 +1,12 @@
 -- `and` meets its contract: each row of the left run is joined with the right run.
 use Prim.Native.Nat.{ℕ, ◌-◌}
-use native.Mathlib.Omega.{arith}
 use mathlib.Core.Path.{refl, ap}
 use mathlib.Core.List.{List, map}
 use Rattle.meaning.specs.Lists.{select}
-use Rattle.meaning.specs.Evaluator.{agrees, joined, and_rows}
+use Rattle.meaning.specs.Evaluator.{agrees, joined}
 use Rattle.kinds.specs.Kinds.{in_mask}
-use Rattle.rowset.specs.Rows.{row_at, rows_from}
-use Rattle.rowset.proofs.Growing.{Through, begun, turned, ended}
+use Rattle.rowset.specs.Rows.{rows_from}
+use Rattle.rowset.proofs.Growing.{begun, turned, ended}
 use Rattle.kinds.proofs.and.Goals as goal
 
 pub loop-i-init : goal.loop-i-init

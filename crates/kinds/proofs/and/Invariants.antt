@@ -1,12 +1,8 @@
-use Prim.Native.Nat.{ℕ, ◌-◌}
-use native.Mathlib.Omega.{arith}
-use mathlib.Core.Path.{refl, ap}
-use mathlib.Core.List.{List, map}
-use Rattle.meaning.specs.Lists.{select}
-use Rattle.meaning.specs.Evaluator.{agrees, joined, and_rows}
+use Prim.Native.Nat.{◌-◌}
+use Rattle.meaning.specs.Evaluator.{and_rows}
 use Rattle.kinds.specs.Kinds.{in_mask}
 use Rattle.rowset.specs.Rows.{row_at, rows_from}
-use Rattle.rowset.proofs.Growing.{Through, begun, turned, ended}
+use Rattle.rowset.proofs.Growing.{Through}
 use Rattle.kinds.proofs.and.Given as goal
 
 -- `and` meets its contract: each row of the left run is joined with the right run.

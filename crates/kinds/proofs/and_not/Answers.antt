@@ -1,16 +1,13 @@
 -- `and_not` meets its contract: each row of the left run that has none in the right run is put in.
 use Prim.Native.Nat.{ℕ, ◌-◌}
-use native.Mathlib.Omega.{arith}
 use mathlib.Core.Path.{refl, ap, ◌∙◌}
 use mathlib.Core.Bool.{Bool, not, cond}
 use mathlib.Core.List.{List, [], ◌∷◌}
-use borrow.Author.Rules.{rules}
-use Rattle.meaning.specs.Lists.{select}
 use Rattle.meaning.specs.Evaluator.{cut_to, valuation_of}
 use Rattle.meaning.specs.LookUp.{look_up, is_there}
 use Rattle.kinds.specs.Kinds.{in_mask}
-use Rattle.rowset.specs.Rows.{row_at, rows_from}
-use Rattle.rowset.proofs.Growing.{Gathering, gathers_from, gathers_on, gather_from, gather_room, ended, select_one, chosen}
+use Rattle.rowset.specs.Rows.{rows_from}
+use Rattle.rowset.proofs.Growing.{gathers_from, gathers_on, gather_from, gather_room, ended, select_one, chosen}
 use Rattle.kinds.proofs.and_not.Goals as goal
 
 pub loop-i-init : goal.loop-i-init

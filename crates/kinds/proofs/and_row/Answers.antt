@@ -1,15 +1,12 @@
 -- `and_row` meets its contract: each row of the run that agrees is put in, joined.
-use Prim.Native.Nat.{ℕ, ◌-◌}
-use native.Mathlib.Omega.{arith}
+use Prim.Native.Nat.{ℕ}
 use mathlib.Core.Path.{refl}
 use mathlib.Core.Bool.{Bool, cond}
-use mathlib.Core.List.{List, [], ◌∷◌, map}
-use borrow.Author.Rules.{rules}
-use Rattle.meaning.specs.Lists.{select}
+use mathlib.Core.List.{List, [], ◌∷◌}
 use Rattle.meaning.specs.Evaluator.{agrees, joined}
 use Rattle.kinds.specs.Kinds.{in_mask}
-use Rattle.rowset.specs.Rows.{words_of, row_at, rows_from}
-use Rattle.rowset.proofs.Growing.{Gathering, gathers_from, gathers_on, gather_from, gather_room, ended, map_select_one, chosen}
+use Rattle.rowset.specs.Rows.{words_of, rows_from}
+use Rattle.rowset.proofs.Growing.{gathers_from, gathers_on, gather_from, gather_room, ended, map_select_one, chosen}
 use Rattle.kinds.proofs.and_row.Goals as goal
 
 pub loop-i-init : goal.loop-i-init

@@ -1,14 +1,10 @@
-use Prim.Native.Nat.{ℕ, ◌-◌}
-use native.Mathlib.Omega.{arith}
-use mathlib.Core.Path.{refl}
-use mathlib.Core.Bool.{Bool, cond}
-use mathlib.Core.List.{List, [], ◌∷◌, map}
-use borrow.Author.Rules.{rules}
+use Prim.Native.Nat.{◌-◌}
+use mathlib.Core.List.{map}
 use Rattle.meaning.specs.Lists.{select}
 use Rattle.meaning.specs.Evaluator.{agrees, joined}
 use Rattle.kinds.specs.Kinds.{in_mask}
 use Rattle.rowset.specs.Rows.{words_of, row_at, rows_from}
-use Rattle.rowset.proofs.Growing.{Gathering, gathers_from, gathers_on, gather_from, gather_room, ended, map_select_one, chosen}
+use Rattle.rowset.proofs.Growing.{Gathering}
 use Rattle.kinds.proofs.and_row.Given as goal
 
 -- `and_row` meets its contract: each row of the run that agrees is put in, joined.

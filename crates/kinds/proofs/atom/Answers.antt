@@ -1,18 +1,17 @@
 -- `atom` meets its contract: each row of the event that matches is put in, as the values of its variables.
-use Prim.Native.Nat.{ℕ, ◌+◌, ◌-◌, ◌*◌, ◌≤◌}
+use Prim.Native.Nat.{ℕ, ◌+◌, ◌*◌, ◌≤◌}
 use native.Mathlib.Omega.{arith}
 use mathlib.Core.Path.{◌≡◌, refl, ap}
 use mathlib.Core.Bool.{cond, ◌&&◌}
 use mathlib.Core.List.{List, [], ◌∷◌, map}
 use lib.ListN.{length}
 use lib.Dec.{eqb}
-use borrow.Author.Rules.{rules}
-use Rattle.meaning.specs.Log.{Row, relation_in}
+use Rattle.meaning.specs.Log.{Row}
 use Rattle.meaning.specs.Event.{row_count, relation_of}
 use Rattle.meaning.specs.Formula.{terms_of, variables}
-use Rattle.meaning.specs.Evaluator.{bound, matches, atom_rows}
-use Rattle.rowset.proofs.Growing.{Gathering, gathers_all, gathers_on, gather_from, gather_room, ended}
-use Rattle.kinds.specs.Kinds.{row_from, row_with, rows_with}
+use Rattle.meaning.specs.Evaluator.{bound, matches}
+use Rattle.rowset.proofs.Growing.{gathers_all, gathers_on, gather_from, gather_room, ended}
+use Rattle.kinds.specs.Kinds.{row_from}
 use Rattle.kinds.proofs.Atoms.{atom_more}
 use Rattle.kinds.proofs.atom.Goals as goal
 

@@ -9,7 +9,6 @@ use Rattle.meaning.specs.Formula.{terms_of}
 use Rattle.meaning.specs.Evaluator.{matches}
 use Rattle.rowset.specs.Rows.{words_of}
 use Rattle.rowset.proofs.Growing.{added_as, gathered_none}
-use borrow.Author.Rules.{rules}
 use Rattle.kinds.proofs.atom_row.Goals as goal
 
 pub shape_of-out-then-found-relation : goal.shape_of-out-then-found-relation

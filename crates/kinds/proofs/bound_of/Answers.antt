@@ -1,9 +1,7 @@
 -- `bound_of` meets its contract: the first term that is used and is the variable gives its column.
 use mathlib.Core.Path.{◌≡◌, sym, ◌∙◌}
 use mathlib.Core.Bool.{false, ◌&&◌}
-use mathlib.Core.Logic.{⊎_elim}
 use lib.Dec.{ltb}
-use borrow.Author.Rules.{rules}
 use borrow.Author.Tests.{lt-ltb, le-ltb}
 use Rattle.meaning.specs.Formula.{is_variable}
 use Rattle.kinds.proofs.Atoms.{bound-four}

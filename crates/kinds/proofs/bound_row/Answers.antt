@@ -1,7 +1,6 @@
 -- `bound_row` meets its contract: column by column, from the last.
 use native.Mathlib.Omega.{arith}
 use mathlib.Core.Path.{ap, ◌∙◌}
-use borrow.Author.Rules.{rules}
 use Rattle.kinds.proofs.Atoms.{put_in, bound_all}
 use Rattle.kinds.proofs.bound_row.Goals as goal
 

@@ -1,7 +1,6 @@
 -- `column` meets its contract; a variable above 3 has no column.
 use native.Mathlib.Omega.{arith}
 use mathlib.Core.Path.{sym}
-use borrow.Author.Rules.{rules}
 use lib.ListN.{get_or-eq_default}
 use Rattle.rowset.specs.Rows.{words_of}
 use Rattle.kinds.proofs.column.Goals as goal

@@ -3,7 +3,6 @@ use Prim.Native.Nat.{◌+◌, ◌*◌}
 use mathlib.Core.Path.{sym, ap, ◌∙◌}
 use lib.ListN.{take, drop}
 use Rattle.kinds.proofs.Atoms.{four_words}
-use borrow.Author.Rules.{rules}
 use Rattle.kinds.proofs.columns_at.Goals as goal
 
 pub returns : goal.returns

@@ -1,14 +1,12 @@
 -- `columns_match` meets its contract. The loop keeps `Matching`: the columns before place k are their terms' values.
-use Prim.Native.Nat.{◌-◌}
 use native.Mathlib.Omega.{arith}
 use mathlib.Core.Path.{◌≡◌, sym, ap, ◌∙◌}
 use lib.ListN.{take}
-use borrow.Author.Rules.{rules}
 use Rattle.meaning.specs.Formula.{terms_of}
 use Rattle.meaning.specs.Definition2.{value}
 use Rattle.meaning.specs.Evaluator.{bound}
 use Rattle.rowset.specs.Rows.{words_of}
-use Rattle.kinds.proofs.Atoms.{term_at, Matching, matching_none, matching_more, matching_all, matching_ends}
+use Rattle.kinds.proofs.Atoms.{term_at, matching_none, matching_more, matching_all, matching_ends}
 use Rattle.kinds.proofs.columns_match.Goals as goal
 
 pub loop-k-init : goal.loop-k-init

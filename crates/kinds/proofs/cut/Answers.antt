@@ -1,5 +1,4 @@
 -- `cut` meets its contract: the variables of the mask are kept, the others are 0.
-use borrow.Author.Rules.{rules}
 use Rattle.kinds.proofs.cut.Goals as goal
 
 pub returns : goal.returns

@@ -1,14 +1,12 @@
 -- `exists` meets its contract: each row of the run is put in with the variable at 0.
-use Prim.Native.Nat.{ℕ, ◌-◌}
-use native.Mathlib.Omega.{arith}
+use Prim.Native.Nat.{ℕ}
 use mathlib.Core.Path.{refl, ap, ◌∙◌}
 use mathlib.Core.Bool.{not}
-use mathlib.Core.List.{List, [], ◌∷◌, map}
-use borrow.Author.Rules.{rules}
+use mathlib.Core.List.{List, [], ◌∷◌}
 use lib.Dec.{eqb}
 use Rattle.meaning.specs.Evaluator.{cut_to, valuation_of}
-use Rattle.rowset.specs.Rows.{row_at, rows_from}
-use Rattle.rowset.proofs.Growing.{Gathering, gathers_from, gathers_on, gather_from, gather_room, ended}
+use Rattle.rowset.specs.Rows.{rows_from}
+use Rattle.rowset.proofs.Growing.{gathers_from, gathers_on, gather_from, gather_room, ended}
 use Rattle.kinds.proofs.exists.Goals as goal
 
 pub loop-i-init : goal.loop-i-init

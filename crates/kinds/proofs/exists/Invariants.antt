@@ -1,13 +1,10 @@
-use Prim.Native.Nat.{ℕ, ◌-◌}
-use native.Mathlib.Omega.{arith}
-use mathlib.Core.Path.{refl, ap, ◌∙◌}
+use Prim.Native.Nat.{◌-◌}
 use mathlib.Core.Bool.{not}
-use mathlib.Core.List.{List, [], ◌∷◌, map}
-use borrow.Author.Rules.{rules}
+use mathlib.Core.List.{map}
 use lib.Dec.{eqb}
 use Rattle.meaning.specs.Evaluator.{cut_to, valuation_of}
 use Rattle.rowset.specs.Rows.{row_at, rows_from}
-use Rattle.rowset.proofs.Growing.{Gathering, gathers_from, gathers_on, gather_from, gather_room, ended}
+use Rattle.rowset.proofs.Growing.{Gathering}
 use Rattle.kinds.proofs.exists.Given as goal
 
 -- `exists` meets its contract: each row of the run is put in with the variable at 0.

@@ -1,5 +1,4 @@
 -- `is_variable` meets its contract, by cases.
-use borrow.Author.Rules.{rules}
 use Rattle.kinds.proofs.is_variable.Goals as goal
 
 pub returns-in-Variable : goal.returns-in-Variable

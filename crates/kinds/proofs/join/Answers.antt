@@ -1,5 +1,4 @@
 -- `join` meets its contract: each variable is taken from the row that the mask says.
-use borrow.Author.Rules.{rules}
 use Rattle.kinds.proofs.join.Goals as goal
 
 pub returns : goal.returns

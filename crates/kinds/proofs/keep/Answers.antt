@@ -1,16 +1,13 @@
 -- `keep` meets its contract: each row of the run that passes is put in.
-use Prim.Native.Nat.{ℕ, ◌-◌}
-use native.Mathlib.Omega.{arith}
+use Prim.Native.Nat.{ℕ}
 use mathlib.Core.Path.{refl, ap₂, ◌∙◌}
 use mathlib.Core.Bool.{Bool, cond}
 use mathlib.Core.List.{List, [], ◌∷◌}
-use borrow.Author.Rules.{rules}
-use Rattle.meaning.specs.Lists.{select}
 use Rattle.meaning.specs.Formula.{compares}
 use Rattle.meaning.specs.Definition2.{value}
 use Rattle.meaning.specs.Evaluator.{valuation_of}
-use Rattle.rowset.specs.Rows.{row_at, rows_from}
-use Rattle.rowset.proofs.Growing.{Gathering, gathers_from, gathers_on, gather_from, gather_room, ended, select_one, chosen}
+use Rattle.rowset.specs.Rows.{rows_from}
+use Rattle.rowset.proofs.Growing.{gathers_from, gathers_on, gather_from, gather_room, ended, select_one, chosen}
 use Rattle.kinds.proofs.keep.Goals as goal
 
 pub loop-i-init : goal.loop-i-init

@@ -1,15 +1,10 @@
-use Prim.Native.Nat.{ℕ, ◌-◌}
-use native.Mathlib.Omega.{arith}
-use mathlib.Core.Path.{refl, ap₂, ◌∙◌}
-use mathlib.Core.Bool.{Bool, cond}
-use mathlib.Core.List.{List, [], ◌∷◌}
-use borrow.Author.Rules.{rules}
+use Prim.Native.Nat.{◌-◌}
 use Rattle.meaning.specs.Lists.{select}
 use Rattle.meaning.specs.Formula.{compares}
 use Rattle.meaning.specs.Definition2.{value}
 use Rattle.meaning.specs.Evaluator.{valuation_of}
 use Rattle.rowset.specs.Rows.{row_at, rows_from}
-use Rattle.rowset.proofs.Growing.{Gathering, gathers_from, gathers_on, gather_from, gather_room, ended, select_one, chosen}
+use Rattle.rowset.proofs.Growing.{Gathering}
 use Rattle.kinds.proofs.keep.Given as goal
 
 -- `keep` meets its contract: each row of the run that passes is put in.

@@ -1,6 +1,5 @@
 -- `lowest_of` meets its contract: the first variable that the mask has is the lowest.
 use mathlib.Core.Path.{sym, ◌∙◌}
-use borrow.Author.Rules.{rules}
 use Rattle.kinds.proofs.lowest_of.Goals as goal
 
 pub returns-then-v : goal.returns-then-v

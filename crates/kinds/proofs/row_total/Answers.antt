@@ -1,9 +1,7 @@
 -- The second word where there is one, and none past the end.
-use Prim.Native.Nat.{◌≤◌}
 use native.Mathlib.Omega.{arith}
 use lib.ListN.{get_or-eq_default}
 use mathlib.Core.Path.{sym}
-use borrow.Author.Rules.{rules}
 use Rattle.kinds.proofs.row_total.Goals as goal
 
 pub overflow_cast-result : goal.overflow_cast-result

@@ -1,5 +1,4 @@
 -- `term_value` meets its contract, by cases.
-use borrow.Author.Rules.{rules}
 use Rattle.kinds.proofs.term_value.Goals as goal
 
 pub returns-in-Variable : goal.returns-in-Variable

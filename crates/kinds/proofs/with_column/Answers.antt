@@ -1,5 +1,4 @@
 -- `with_column` meets its contract, by cases.
-use borrow.Author.Rules.{rules}
 use Rattle.kinds.proofs.with_column.Goals as goal
 
 pub returns-in-Variable : goal.returns-in-Variable

@@ -1,5 +1,4 @@
 -- `word_agrees` meets its contract: the words are compared where both sets have the variable.
-use borrow.Author.Rules.{rules}
 use borrow.Author.Tests.{eq-eqb, ne_eqb}
 use Rattle.kinds.proofs.word_agrees.Goals as goal
 

@@ -1,6 +1,5 @@
 -- `finish` meets its contract: a refusal stores nothing, else what is retained is stored.
 use Rattle.lent_state.proofs.Ready.{finish_refused, finish_done}
-use borrow.Author.Rules.{rules}
 use Rattle.lent_state.proofs.finish.Goals as goal
 
 pub returns-in-Refused : goal.returns-in-Refused

@@ -1,7 +1,6 @@
 -- `refusal_of` meets its contract, case by case.
 use mathlib.Core.Path.{sym, ap}
 use Rattle.events.specs.Answers.{outcome_of}
-use borrow.Author.Rules.{rules}
 use Rattle.lent_state.proofs.refusal_of.Goals as goal
 
 pub returns-in-Fine : goal.returns-in-Fine

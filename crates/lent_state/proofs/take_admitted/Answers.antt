@@ -10,7 +10,6 @@ use Rattle.meaning.proofs.Accepted.{accepted, nodes_most}
 use Rattle.method.specs.Step.{points_added}
 use Rattle.method.proofs.Bounds.{one_added}
 use Rattle.lent_state.proofs.Ready.{counting, few_rows, call_ready, rows_enough, taken_now}
-use borrow.Author.Rules.{rules}
 use Rattle.lent_state.proofs.take_admitted.Goals as goal
 
 -- `take_admitted` meets its contract: the table is that of the call, and what the call leaves is finished.

@@ -4,8 +4,6 @@ use native.Mathlib.Omega.{arith}
 use mathlib.Core.Path.{◌≡◌, sym, ◌∙◌}
 use mathlib.Core.Bool.{true}
 use lib.ListN.{take}
-use borrow.Author.Rules.{rules}
-use borrow.Author.Tests.{not-true, not-false}
 use Rattle.meaning.specs.Outcome.{most_bytes, most_kept}
 use Rattle.method.specs.WellFormed.{most_times}
 use Rattle.formed.specs.StateFigures.{stored_in}

@@ -3,16 +3,12 @@ use Prim.Native.Nat.{◌-◌}
 use native.Mathlib.Omega.{arith}
 use mathlib.Core.Path.{◌≡◌, sym, ◌∙◌}
 use mathlib.Core.Bool.{true}
-use mathlib.Core.List.{[], ◌∷◌}
 use lib.ListN.{take}
-use types.Run.{miss}
-use borrow.Author.Tests.{not-true, not-false}
 use Rattle.method.specs.WellFormed.{well_formed}
 use Rattle.method.proofs.Formed.{formed}
 use Rattle.formed.specs.StateFigures.{stored_in}
 use Rattle.events.specs.Answers.{fed_of}
 use Rattle.lent_state.proofs.Stored.{from_first, well_is, known_is, places_is, rule_sizes, not_formed, fine_fed, refused_first, taken_on}
-use borrow.Author.Rules.{rules}
 use Rattle.lent_state.proofs.take_stored.Goals as goal
 
 pub returns-then-not-well_formed : goal.returns-then-not-well_formed

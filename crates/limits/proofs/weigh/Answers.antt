@@ -1,13 +1,7 @@
 -- Each branch gives what 14 to 16 say; 16 is what the writer answers.
-use Prim.Native.Nat.{◌^◌, ◌<◌}
 use native.Mathlib.Omega.{arith}
-use mathlib.Core.Path.{◌≡◌, ◌∙◌}
-use borrow.Author.Rules.{rules}
-use Rattle.writer.specs.declared.Wrote.{Wrote}
-use Rattle.writer.specs.declared.Wrote.TheVariants.{Words, Short}
 use Rattle.writer.specs.Words.{words}
-use Rattle.writer.specs.Puts.{wrote}
-use Rattle.limits.proofs.Weighing.{weighs_backlog, weighs_over, weighs_wrote, count_of, wrote_count}
+use Rattle.limits.proofs.Weighing.{weighs_backlog, weighs_over, weighs_wrote, wrote_count}
 use Rattle.limits.proofs.weigh.Goals as goal
 
 pub returns-then-unsettled-gt-MOST_OPEN : goal.returns-then-unsettled-gt-MOST_OPEN

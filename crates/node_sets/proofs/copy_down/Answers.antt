@@ -1,7 +1,7 @@
 -- `copy_down` meets its contract. The loop's invariant: the rows before i are copied, and those from k on are as they were.
 use Prim.Native.Nat.{◌-◌}
 use native.Mathlib.Omega.{arith}
-use Rattle.node_sets.proofs.Moving.{Moving, moved_onto, moved_none, moved_more, moved_all}
+use Rattle.node_sets.proofs.Moving.{moved_onto, moved_none, moved_more, moved_all}
 use Rattle.node_sets.proofs.copy_down.Goals as goal
 
 pub returns-then-end-from : goal.returns-then-end-from

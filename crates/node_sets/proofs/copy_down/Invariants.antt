@@ -1,6 +1,5 @@
 use Prim.Native.Nat.{◌-◌}
-use native.Mathlib.Omega.{arith}
-use Rattle.node_sets.proofs.Moving.{Moving, moved_onto, moved_none, moved_more, moved_all}
+use Rattle.node_sets.proofs.Moving.{Moving}
 use Rattle.node_sets.proofs.copy_down.Given as goal
 
 -- `copy_down` meets its contract. The loop's invariant: the rows before i are copied, and those from k on are as they were.

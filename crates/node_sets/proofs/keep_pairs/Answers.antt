@@ -3,7 +3,6 @@ use Prim.Native.Nat.{◌-◌}
 use native.Mathlib.Omega.{arith}
 use mathlib.Core.Path.{◌≡◌}
 use lib.ListN.{length}
-use borrow.Author.Rules.{rules}
 use Rattle.node_sets.proofs.Keeping.{pairs_full, pairs-kept}
 use Rattle.node_sets.proofs.keep_pairs.Goals as goal
 

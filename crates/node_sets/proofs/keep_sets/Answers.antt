@@ -1,7 +1,6 @@
 -- `keep_sets` meets its contract: the sets' rows and their points are put behind what is kept, or there is no room for them, or there are none.
 use Prim.Native.Nat.{◌+◌, ◌-◌}
 use native.Mathlib.Omega.{arith}
-use borrow.Author.Rules.{rules}
 use Rattle.node_sets.proofs.Keeping.{sets_rise, sets_run, sets_none, sets_full, sets-kept}
 use Rattle.node_sets.proofs.keep_sets.Goals as goal
 

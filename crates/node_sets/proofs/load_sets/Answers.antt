@@ -1,8 +1,6 @@
 -- `load_sets` meets its contract: rows copied, marks filled, set by the entries and raised are the node's sets; or there is nothing to load.
-use Prim.Native.Nat.{◌-◌}
 use native.Mathlib.Omega.{arith}
 use mathlib.Core.Path.{◌∙◌}
-use borrow.Author.Rules.{rules}
 use Rattle.node_sets.proofs.Loading.{loaded_none, loaded_all, numbers_fit}
 use Rattle.node_sets.proofs.load_sets.Goals as goal
 

@@ -1,9 +1,8 @@
 -- `lower_marks` meets its contract. The loop's invariant: the marks of k sets are lowered, and those behind them are as they were.
-use Prim.Native.Nat.{◌+◌, ◌-◌}
+use Prim.Native.Nat.{◌+◌}
 use native.Mathlib.Omega.{arith}
 use mathlib.Core.Path.{refl}
-use borrow.Author.Rules.{rules}
-use Rattle.node_sets.proofs.Moving.{Lowering, lowered_none, lowered_more, lowered_all}
+use Rattle.node_sets.proofs.Moving.{lowered_none, lowered_more, lowered_all}
 use Rattle.node_sets.proofs.lower_marks.Goals as goal
 
 pub loop-k-init : goal.loop-k-init

@@ -1,8 +1,5 @@
-use Prim.Native.Nat.{◌+◌, ◌-◌}
-use native.Mathlib.Omega.{arith}
-use mathlib.Core.Path.{refl}
-use borrow.Author.Rules.{rules}
-use Rattle.node_sets.proofs.Moving.{Lowering, lowered_none, lowered_more, lowered_all}
+use Prim.Native.Nat.{◌-◌}
+use Rattle.node_sets.proofs.Moving.{Lowering}
 use Rattle.node_sets.proofs.lower_marks.Given as goal
 
 -- `lower_marks` meets its contract. The loop's invariant: the marks of k sets are lowered, and those behind them are as they were.

@@ -3,8 +3,7 @@ use Prim.Native.Nat.{◌+◌, ◌-◌, ◌≤◌, ◌<◌}
 use native.Mathlib.Omega.{arith}
 use mathlib.Core.Path.{refl}
 use lib.ListN.{length, get_or}
-use borrow.Author.Rules.{rules}
-use Rattle.node_sets.proofs.Marking.{Marking, marked_none, marked_more, marked_all}
+use Rattle.node_sets.proofs.Marking.{marked_none, marked_more, marked_all}
 use Rattle.node_sets.proofs.mark_ends.Goals as goal
 
 pub loop-i-init : goal.loop-i-init

@@ -1,9 +1,5 @@
-use Prim.Native.Nat.{◌+◌, ◌-◌, ◌≤◌, ◌<◌}
-use native.Mathlib.Omega.{arith}
-use mathlib.Core.Path.{refl}
-use lib.ListN.{length, get_or}
-use borrow.Author.Rules.{rules}
-use Rattle.node_sets.proofs.Marking.{Marking, marked_none, marked_more, marked_all}
+use Prim.Native.Nat.{◌-◌}
+use Rattle.node_sets.proofs.Marking.{Marking}
 use Rattle.node_sets.proofs.mark_ends.Given as goal
 
 -- `mark_ends` meets its contract. The loop's invariant: the entries from cursor to i are marked.

@@ -1,7 +1,6 @@
 -- `move_down` meets its contract: rows moved and marks lowered together are sets moved.
 use Prim.Native.Nat.{◌+◌}
 use native.Mathlib.Omega.{arith}
-use borrow.Author.Rules.{rules}
 use Rattle.node_sets.proofs.Moving.{down, down_rows, down_marks}
 use Rattle.node_sets.proofs.move_down.Goals as goal
 

@@ -1,9 +1,8 @@
 -- `put_numbers` meets its contract: points copied from the numbers that stand, and those of the other sets put behind them.
-use Prim.Native.Nat.{◌+◌, ◌-◌, ◌<◌}
+use Prim.Native.Nat.{◌+◌, ◌-◌}
 use native.Mathlib.Omega.{arith}
 use mathlib.Core.Path.{◌≡◌, ◌∙◌}
 use lib.ListN.{length, length-take, length-drop}
-use borrow.Author.Rules.{rules}
 use Rattle.node_sets.proofs.Keeping.{Spans, spans, part_word, points_copied}
 use Rattle.node_sets.proofs.put_numbers.Goals as goal
 

@@ -1,8 +1,7 @@
 -- `put_points` meets its contract. The loop's invariant: the points of k sets are put, and next is behind them.
-use Prim.Native.Nat.{◌+◌, ◌-◌}
+use Prim.Native.Nat.{◌+◌}
 use native.Mathlib.Omega.{arith}
-use borrow.Author.Rules.{rules}
-use Rattle.node_sets.proofs.Keeping.{Numbering, points_empty, points_none, next_rises, points_fit, points_more, points_all}
+use Rattle.node_sets.proofs.Keeping.{points_empty, points_none, next_rises, points_fit, points_more, points_all}
 use Rattle.node_sets.proofs.put_points.Goals as goal
 
 pub returns-then-at-q : goal.returns-then-at-q

@@ -1,7 +1,5 @@
-use Prim.Native.Nat.{◌+◌, ◌-◌}
-use native.Mathlib.Omega.{arith}
-use borrow.Author.Rules.{rules}
-use Rattle.node_sets.proofs.Keeping.{Numbering, points_empty, points_none, next_rises, points_fit, points_more, points_all}
+use Prim.Native.Nat.{◌-◌}
+use Rattle.node_sets.proofs.Keeping.{Numbering}
 use Rattle.node_sets.proofs.put_points.Given as goal
 
 -- `put_points` meets its contract. The loop's invariant: the points of k sets are put, and next is behind them.

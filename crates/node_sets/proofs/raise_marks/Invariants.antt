@@ -1,10 +1,5 @@
-use Prim.Native.Nat.{ℕ, ◌+◌, ◌-◌, ◌≤◌}
-use native.Mathlib.Omega.{arith}
-use mathlib.Core.Logic.{⊎_elim}
-use mathlib.Core.Path.{refl}
-use lib.ListN.{get_or}
-use borrow.Author.Rules.{rules}
-use Rattle.node_sets.proofs.Marking.{Raising, raised_none, raised_more, raised_all}
+use Prim.Native.Nat.{◌-◌}
+use Rattle.node_sets.proofs.Marking.{Raising}
 use Rattle.node_sets.proofs.raise_marks.Given as goal
 
 -- `raise_marks` meets its contract. The loop's invariant: k marks are raised, m is the last of them, and those behind it are as they were.

@@ -1,6 +1,5 @@
 -- `child_at` meets its contract: its words are those of the node's figures.
 use native.Mathlib.Omega.{arith}
-use borrow.Author.Rules.{rules}
 use Rattle.node_step.proofs.Reading.{mask_word, child_is}
 use Rattle.node_step.proofs.child_at.Goals as goal
 

@@ -1,5 +1,4 @@
 -- `children_at` meets its contract, for no child, one and two.
-use borrow.Author.Rules.{rules}
 use Rattle.node_step.proofs.Reading.{children_none, figures_one, figures_two, children_one, children_two}
 use Rattle.node_step.proofs.children_at.Goals as goal
 

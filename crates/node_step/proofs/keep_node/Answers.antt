@@ -1,6 +1,5 @@
 -- `keep_node` meets its contract: its rows and then its pairs are put behind what is kept, and the table says where.
 use native.Mathlib.Omega.{arith}
-use borrow.Author.Rules.{rules}
 use Rattle.node_step.proofs.Keeping.{sets_ready, room_then, rising, block_put}
 use Rattle.node_step.proofs.keep_node.Goals as goal
 

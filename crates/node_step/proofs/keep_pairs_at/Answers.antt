@@ -1,7 +1,5 @@
 -- `keep_pairs_at` meets its contract: the old pairs where no point is new, none where there is no room, else those at the last point.
-use Prim.Native.Nat.{◌-◌}
 use native.Mathlib.Omega.{arith}
-use borrow.Author.Rules.{rules}
 use Rattle.node_step.proofs.Keeping.{old_kept, none_kept, pairs_there, new_small, new_kept}
 use Rattle.node_step.proofs.keep_pairs_at.Goals as goal
 

@@ -1,21 +1,17 @@
 -- `leaf_step` meets its contract: it is the step of a node whose children's sets are none, which settles the point that is added, keeps no pairs and moves no set.
-use Prim.Native.Nat.{ℕ, ◌+◌, ◌-◌, ◌≤◌}
+use Prim.Native.Nat.{◌+◌, ◌-◌, ◌≤◌}
 use native.Mathlib.Omega.{arith}
 use mathlib.Core.Path.{◌≡◌, refl, ◌∙◌}
 use mathlib.Core.Bool.{true}
 use mathlib.Core.Logic.{◌⊎◌, inl, inr}
-use mathlib.Core.List.{List, ◌++◌}
+use mathlib.Core.List.{◌++◌}
 use lib.ListN.{length, drop}
-use borrow.Author.Rules.{rules}
-use borrow.Author.Tests.{not-true, not-false}
 use Rattle.meaning.specs.Log.{point}
 use Rattle.meaning.specs.RuleFile.{node_at}
 use Rattle.meaning.proofs.Accepted.{accepted}
-use Rattle.method.specs.Stored.{Stored}
 use Rattle.method.specs.Step.{points_added}
 use Rattle.method.proofs.Bounds.{some_added}
 use Rattle.room.specs.declared.Child.{Child}
-use Rattle.node_step.specs.declared.Spot.{Spot}
 use Rattle.node_step.specs.Figures.{called}
 use Rattle.node_step.specs.Walks.{set_words}
 use Rattle.node_step.specs.Parts.{NextSettled, PointsSettled}

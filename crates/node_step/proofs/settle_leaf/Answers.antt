@@ -1,7 +1,6 @@
 -- `settle_leaf` meets its contract: the rows that the atom has, put behind the others, are its set; of a notice it has none to settle.
 use native.Mathlib.Omega.{arith}
 use mathlib.Core.Path.{◌≡◌, refl, sym, ◌∙◌}
-use borrow.Author.Rules.{rules}
 use Rattle.method.specs.Step.{points_added}
 use Rattle.method.proofs.Bounds.{one_added}
 use Rattle.node_step.proofs.Going.{next_settled}

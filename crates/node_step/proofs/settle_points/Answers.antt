@@ -1,11 +1,7 @@
 -- `settle_points` meets its contract. The loop's invariant: the points before i are settled.
-use Prim.Native.Nat.{◌-◌}
 use native.Mathlib.Omega.{arith}
-use mathlib.Core.Path.{◌≡◌, ◌∙◌}
-use lib.ListN.{length}
-use borrow.Author.Tests.{not-true, not-false}
-use Rattle.meaning.specs.Log.{point}
-use Rattle.node_step.proofs.Going.{Going, going_none, point_ready, going_crowded, going_more, going_all}
+use mathlib.Core.Path.{◌∙◌}
+use Rattle.node_step.proofs.Going.{going_none, point_ready, going_crowded, going_more, going_all}
 use Rattle.node_step.proofs.settle_points.Goals as goal
 
 pub loop-i-init : goal.loop-i-init

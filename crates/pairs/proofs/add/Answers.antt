@@ -4,7 +4,6 @@ use native.Mathlib.Omega.{arith}
 use mathlib.Core.Path.{◌≡◌, sym, ◌∙◌}
 use mathlib.Core.List.{◌∷◌}
 use lib.ListN.{length}
-use borrow.Author.Rules.{rules}
 use Rattle.meaning.specs.LookUp.{look_up}
 use Rattle.meaning.specs.declared.Sought.TheVariants.{There, Absent}
 use Rattle.rowset.specs.Rows.{words_of}

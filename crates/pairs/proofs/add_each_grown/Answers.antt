@@ -1,12 +1,11 @@
 -- `add_each_grown` meets its contract: each pair is put in, grown older.
-use Prim.Native.Nat.{◌+◌, ◌-◌, min}
+use Prim.Native.Nat.{◌+◌, min}
 use native.Mathlib.Omega.{arith}
 use mathlib.Core.Path.{refl, ap₂}
 use mathlib.Core.List.{[], ◌∷◌}
 use lib.ListN.{get_or, drop}
-use Rattle.rowset.proofs.Growing.{Turns, starts_all, goes_on, ended}
-use Rattle.kinds.specs.Kinds.{pair_at, pairs_from}
-use Rattle.pairs.specs.Pairs.{PairsAdded, grown_pairs}
+use Rattle.rowset.proofs.Growing.{starts_all, goes_on, ended}
+use Rattle.kinds.specs.Kinds.{pairs_from}
 use Rattle.pairs.proofs.Adding.{add_none}
 use Rattle.pairs.proofs.Growing.{pairs_then}
 use Rattle.pairs.proofs.add_each_grown.Goals as goal

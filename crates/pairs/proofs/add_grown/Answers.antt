@@ -1,7 +1,6 @@
 -- `add_grown` meets its contract: pairs that belong behind those that are there are put in at once, others one by one.
 use Prim.Native.Nat.{◌<◌}
 use native.Mathlib.Omega.{arith}
-use borrow.Author.Rules.{rules}
 use Rattle.pairs.proofs.Behind.{ages_small, add_behind}
 use Rattle.pairs.proofs.add_grown.Goals as goal
 

@@ -1,5 +1,4 @@
 -- `add_if` meets its contract: the test decides.
-use borrow.Author.Rules.{rules}
 use Rattle.pairs.proofs.Adding.{add_none}
 use Rattle.pairs.proofs.add_if.Goals as goal
 

@@ -1,11 +1,9 @@
 -- `add_young` meets its contract: each row of the run is put in at the age.
-use Prim.Native.Nat.{ℕ, ◌-◌}
-use native.Mathlib.Omega.{arith}
+use Prim.Native.Nat.{ℕ}
 use mathlib.Core.Path.{refl, ap}
-use mathlib.Core.List.{[], ◌∷◌, map}
-use Rattle.rowset.specs.Rows.{row_at, rows_from}
-use Rattle.rowset.proofs.Growing.{Turns, starts, goes_on, ended}
-use Rattle.pairs.specs.Pairs.{PairsAdded}
+use mathlib.Core.List.{[], ◌∷◌}
+use Rattle.rowset.specs.Rows.{rows_from}
+use Rattle.rowset.proofs.Growing.{starts, goes_on, ended}
 use Rattle.pairs.proofs.Adding.{add_none}
 use Rattle.pairs.proofs.Growing.{pairs_then}
 use Rattle.pairs.proofs.add_young.Goals as goal

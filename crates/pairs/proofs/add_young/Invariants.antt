@@ -1,12 +1,8 @@
-use Prim.Native.Nat.{ℕ, ◌-◌}
-use native.Mathlib.Omega.{arith}
-use mathlib.Core.Path.{refl, ap}
-use mathlib.Core.List.{[], ◌∷◌, map}
+use Prim.Native.Nat.{◌-◌}
+use mathlib.Core.List.{◌∷◌, map}
 use Rattle.rowset.specs.Rows.{row_at, rows_from}
-use Rattle.rowset.proofs.Growing.{Turns, starts, goes_on, ended}
+use Rattle.rowset.proofs.Growing.{Turns}
 use Rattle.pairs.specs.Pairs.{PairsAdded}
-use Rattle.pairs.proofs.Adding.{add_none}
-use Rattle.pairs.proofs.Growing.{pairs_then}
 use Rattle.pairs.proofs.add_young.Given as goal
 
 -- `add_young` meets its contract: each row of the run is put in at the age.

@@ -2,7 +2,6 @@
 use native.Mathlib.Omega.{arith}
 use mathlib.Core.Path.{◌∙◌}
 use mathlib.Core.List.{◌∷◌, []}
-use borrow.Author.Rules.{rules}
 use Rattle.pairs.proofs.Order.{joint_before, joint_after, joint_same}
 use Rattle.pairs.proofs.compare.Goals as goal
 

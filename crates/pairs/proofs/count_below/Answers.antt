@@ -1,7 +1,7 @@
 -- `count_below` meets its contract. The loop's invariant: the ages up to low are below the bound, and those from high on aren't.
 use Prim.Native.Nat.{◌+◌, ◌-◌, ◌/◌}
 use native.Mathlib.Omega.{arith}
-use Rattle.pairs.proofs.Ascents.{Halving, halving_none, halving_up, halving_down, halving_all}
+use Rattle.pairs.proofs.Ascents.{halving_none, halving_up, halving_down, halving_all}
 use Rattle.pairs.proofs.count_below.Goals as goal
 
 pub loop-low-init : goal.loop-low-init

@@ -1,6 +1,5 @@
-use Prim.Native.Nat.{◌+◌, ◌-◌, ◌/◌}
-use native.Mathlib.Omega.{arith}
-use Rattle.pairs.proofs.Ascents.{Halving, halving_none, halving_up, halving_down, halving_all}
+use Prim.Native.Nat.{◌-◌}
+use Rattle.pairs.proofs.Ascents.{Halving}
 use Rattle.pairs.proofs.count_below.Given as goal
 
 -- `count_below` meets its contract. The loop's invariant: the ages up to low are below the bound, and those from high on aren't.

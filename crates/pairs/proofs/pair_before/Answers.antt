@@ -2,7 +2,6 @@
 use Prim.Native.Nat.{suc}
 use mathlib.Core.Path.{sym, ◌∙◌}
 use mathlib.Core.List.{◌∷◌}
-use borrow.Author.Rules.{rules}
 use Rattle.rowset.specs.Rows.{words_of}
 use Rattle.rowset.proofs.Searching.{by_before, by_same, by_after}
 use Rattle.pairs.proofs.pair_before.Goals as goal

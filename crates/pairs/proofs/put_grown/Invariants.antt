@@ -1,9 +1,6 @@
 use Prim.Native.Nat.{◌+◌, ◌-◌, ◌≤◌}
-use native.Mathlib.Omega.{arith}
-use mathlib.Core.Path.{◌≡◌, refl}
 use lib.ListN.{get_or}
 use Rattle.entries.specs.Appended.{WordsPut}
-use Rattle.entries.proofs.Putting.{put_none, put_more}
 use Rattle.pairs.proofs.put_grown.Given as goal
 
 -- `put_grown` meets its contract. The loop's invariant: the first k ages are put, each grown.

@@ -1,11 +1,10 @@
 -- `put_in` meets its contract. The loop's invariant: the pairs up to i, the pair held and the rest are the pairs with the new one in place p.
-use Prim.Native.Nat.{◌-◌}
 use native.Mathlib.Omega.{arith}
-use mathlib.Core.Path.{◌≡◌, refl, ap, ◌∙◌}
+use mathlib.Core.Path.{refl, ap, ◌∙◌}
 use mathlib.Core.List.{◌∷◌}
-use lib.ListN.{length, get_or, length-set}
+use lib.ListN.{get_or, length-set}
 use Rattle.rowset.specs.Rows.{words_of}
-use Rattle.rowset.proofs.Runs.{Passing, passing, passed_on, passed_all}
+use Rattle.rowset.proofs.Runs.{passing, passed_on, passed_all}
 use Rattle.kinds.specs.Kinds.{pair_at, pairs_from}
 use Rattle.pairs.proofs.Runs.{pair_replaced}
 use Rattle.pairs.proofs.put_in.Goals as goal

@@ -1,12 +1,10 @@
 use Prim.Native.Nat.{◌-◌}
-use native.Mathlib.Omega.{arith}
-use mathlib.Core.Path.{◌≡◌, refl, ap, ◌∙◌}
+use mathlib.Core.Path.{◌≡◌}
 use mathlib.Core.List.{◌∷◌}
-use lib.ListN.{length, get_or, length-set}
+use lib.ListN.{length}
 use Rattle.rowset.specs.Rows.{words_of}
-use Rattle.rowset.proofs.Runs.{Passing, passing, passed_on, passed_all}
-use Rattle.kinds.specs.Kinds.{pair_at, pairs_from}
-use Rattle.pairs.proofs.Runs.{pair_replaced}
+use Rattle.rowset.proofs.Runs.{Passing}
+use Rattle.kinds.specs.Kinds.{pair_at}
 use Rattle.pairs.proofs.put_in.Given as goal
 
 -- `put_in` meets its contract. The loop's invariant: the pairs up to i, the pair held and the rest are the pairs with the new one in place p.

@@ -1,13 +1,9 @@
 use Prim.Native.Nat.{suc, ◌-◌, ◌≤◌}
-use native.Mathlib.Omega.{arith}
-use mathlib.Core.Path.{◌≡◌, refl, sym, ap, ◌∙◌}
+use mathlib.Core.Path.{◌≡◌}
 use mathlib.Core.List.{◌∷◌}
-use lib.ListN.{get_or}
-use borrow.Author.Rules.{rules}
 use Rattle.meaning.specs.LookUp.{onward, look_up}
-use Rattle.rowset.specs.Rows.{words_of, compared}
-use Rattle.rowset.proofs.Searching.{seek_on, seek_there, seek_absent, seek_end}
-use Rattle.kinds.specs.Kinds.{pair_at, pairs_from}
+use Rattle.rowset.specs.Rows.{words_of}
+use Rattle.kinds.specs.Kinds.{pairs_from}
 use Rattle.pairs.proofs.seek.Given as goal
 
 -- `seek` meets its contract. The loop's invariant: the answer is that of the pairs from i on.

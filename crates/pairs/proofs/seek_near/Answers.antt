@@ -2,7 +2,6 @@
 use Prim.Native.Nat.{suc, ◌≤◌}
 use mathlib.Core.Path.{refl, sym, subst, ◌∙◌}
 use mathlib.Core.List.{◌∷◌}
-use borrow.Author.Rules.{rules}
 use Rattle.rowset.specs.Rows.{words_of}
 use Rattle.rowset.specs.Sets.{AllBefore, Begins}
 use Rattle.rowset.proofs.Searching.{from_start}

@@ -4,7 +4,6 @@ use native.Mathlib.Omega.{arith}
 use mathlib.Core.Path.{refl, sym, ap, ◌∙◌}
 use mathlib.Core.List.{◌∷◌}
 use lib.ListN.{get_or}
-use borrow.Author.Rules.{rules}
 use Rattle.rowset.specs.Rows.{words_of, compared}
 use Rattle.rowset.proofs.Searching.{start_behind, start_found}
 use Rattle.kinds.specs.Kinds.{pair_at}

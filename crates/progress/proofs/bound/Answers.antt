@@ -1,6 +1,5 @@
 -- The time by which a window has to end, by the test of the children's count.
 use borrow.Author.Tests.{lt-ltb, le-ltb}
-use borrow.Author.Rules.{rules}
 use Rattle.progress.proofs.bound.Goals as goal
 
 pub returns-then-m-log : goal.returns-then-m-log

@@ -1,14 +1,7 @@
 -- `count_of` meets its contract: each arm answers what `advance_by` says of its times.
-use Prim.Native.Nat.{ℕ}
-use mathlib.Core.Path.{◌≡◌, refl}
-use mathlib.Core.List.{List, map}
+use mathlib.Core.Path.{refl}
 use lib.ListN.{get_or}
-use borrow.Author.Rules.{rules}
-use Rattle.meaning.specs.View.{view_of}
-use Rattle.meaning.specs.RuleFile.{node_at, children_of}
-use Rattle.meaning.specs.declared.Times.{Times}
-use Rattle.method.specs.Stored.{stamp_in, least_of}
-use Rattle.method.specs.Counts.{advance_by, advance}
+use Rattle.method.specs.Stored.{stamp_in}
 use Rattle.progress.proofs.Heads.{until_as, end_read, counted}
 use Rattle.progress.proofs.count_of.Goals as goal
 

@@ -1,11 +1,7 @@
 -- After each turn the counts of one node more are in place.
-use Prim.Native.Nat.{◌-◌}
 use native.Mathlib.Omega.{arith}
-use mathlib.Core.Path.{◌≡◌, refl}
-use Rattle.meaning.specs.RuleFile.{node_count}
-use Rattle.method.specs.Stored.{stamp_in}
-use Rattle.progress.proofs.Fills.{Filling, filling_none, filling_more, filling_all}
-use borrow.Author.Rules.{rules}
+use mathlib.Core.Path.{refl}
+use Rattle.progress.proofs.Fills.{filling_none, filling_more, filling_all}
 use Rattle.progress.proofs.counts.Goals as goal
 
 pub loop-x-init : goal.loop-x-init

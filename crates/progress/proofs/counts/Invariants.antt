@@ -1,10 +1,8 @@
 use Prim.Native.Nat.{◌-◌}
-use native.Mathlib.Omega.{arith}
-use mathlib.Core.Path.{◌≡◌, refl}
+use mathlib.Core.Path.{◌≡◌}
 use Rattle.meaning.specs.RuleFile.{node_count}
 use Rattle.method.specs.Stored.{stamp_in}
-use Rattle.progress.proofs.Fills.{Filling, filling_none, filling_more, filling_all}
-use borrow.Author.Rules.{rules}
+use Rattle.progress.proofs.Fills.{Filling}
 use Rattle.progress.proofs.counts.Given as goal
 
 -- After each turn the counts of one node more are in place.

@@ -1,12 +1,6 @@
 -- The scan gives from the start what it gives from `i` on, until it stops.
-use Prim.Native.Nat.{◌-◌}
-use mathlib.Core.Path.{◌≡◌, refl, sym, ◌∙◌}
-use Rattle.meaning.specs.Log.{point}
-use Rattle.method.specs.Stored.{stamp_in}
-use Rattle.method.specs.Counts.{scan}
+use mathlib.Core.Path.{sym, ◌∙◌}
 use Rattle.progress.proofs.Scans.{scan_more, scan_stops, scan_ends}
-use borrow.Author.Tests.{not-true, not-false}
-use borrow.Author.Rules.{rules}
 use Rattle.progress.proofs.first_open.Goals as goal
 
 pub returns-then-not-ends_by : goal.returns-then-not-ends_by

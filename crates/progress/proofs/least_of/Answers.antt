@@ -1,5 +1,4 @@
 -- `least_of` meets its contract, for no child, one and two.
-use borrow.Author.Rules.{rules}
 use Rattle.progress.proofs.least_of.Goals as goal
 
 pub returns-in-One : goal.returns-in-One

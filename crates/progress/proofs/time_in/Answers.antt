@@ -1,5 +1,4 @@
 -- The word of the retained times as far after the first as the point is after the base.
-use borrow.Author.Rules.{rules}
 use Rattle.progress.proofs.time_in.Goals as goal
 
 pub returns : goal.returns

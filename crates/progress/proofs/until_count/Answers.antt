@@ -1,6 +1,5 @@
 -- The scan up to the bound's time stamp is the count.
 use Rattle.progress.proofs.Scans.{until_same}
-use borrow.Author.Rules.{rules}
 use Rattle.progress.proofs.until_count.Goals as goal
 
 pub returns : goal.returns

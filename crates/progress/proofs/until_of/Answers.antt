@@ -1,5 +1,4 @@
 -- The window's end and the count to start from are read, the rest is `until_count`.
-use borrow.Author.Rules.{rules}
 use Rattle.method.specs.Stored.{stamp_in}
 use Rattle.progress.proofs.Heads.{until_as}
 use Rattle.progress.proofs.until_of.Goals as goal

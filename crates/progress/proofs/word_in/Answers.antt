@@ -1,7 +1,6 @@
 -- A word past the end of the slice is 0.
 use mathlib.Core.Path.{sym}
 use lib.ListN.{get_or-eq_default}
-use borrow.Author.Rules.{rules}
 use Rattle.progress.proofs.word_in.Goals as goal
 
 pub returns-else-k-words : goal.returns-else-k-words

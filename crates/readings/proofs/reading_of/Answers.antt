@@ -5,7 +5,6 @@ use lib.IntN.{pos, negsuc, ◌-ℤ◌}
 use mir.Syntax.{w32, w64}
 use mir.Val.{SFits, to_z, of_z}
 use mir.Facts.{to_z-of_z}
-use borrow.Author.Rules.{rules}
 use Rattle.meaning.specs.Readings.{reading_of}
 use Rattle.meaning.proofs.ReadingLaws.{reading_laws}
 use Rattle.readings.proofs.Wide.{word_sum_fits, word_sum, int32}

@@ -5,7 +5,6 @@ use lib.Signed.{lt_z}
 use mir.Syntax.{w32, w64}
 use mir.Val.{SFits, to_z, of_z}
 use mir.Facts.{to_z-of_z}
-use borrow.Author.Rules.{rules}
 use Rattle.readings.proofs.Wide.{word_wide, int_fits, int_wide, int_small, sum_fits}
 use Rattle.readings.proofs.shifted_less.Goals as goal
 

@@ -8,7 +8,6 @@ use mir.Syntax.{w32, w64}
 use mir.Val.{SFits, to_z, of_z}
 use mir.Facts.{to_z-of_z, to_z_pos}
 use borrow.Author.Tests.{lt-ltb, le-ltb}
-use borrow.Author.Rules.{rules}
 use Rattle.meaning.specs.Readings.{twos_complement}
 use Rattle.meaning.proofs.ReadingLaws.{reading_laws}
 use Rattle.readings.proofs.Wide.{word_sum_fits, word_sum, int32}

@@ -1,5 +1,4 @@
 -- `of_event` meets its contract, refusal by refusal.
-use borrow.Author.Rules.{rules}
 use Rattle.refusals.proofs.of_event.Goals as goal
 
 pub returns-in-NotWellFormed : goal.returns-in-NotWellFormed

@@ -1,5 +1,4 @@
 -- `of_rule` meets its contract, answer by answer.
-use borrow.Author.Rules.{rules}
 use Rattle.refusals.proofs.of_rule.Goals as goal
 
 pub returns-in-Accepted : goal.returns-in-Accepted

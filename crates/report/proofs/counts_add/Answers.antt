@@ -1,5 +1,4 @@
 -- `report::counts_add` meets its contract: the words read are P and the total.
-use borrow.Author.Rules.{rules}
 use Rattle.report.proofs.counts_add.Goals as goal
 
 pub returns : goal.returns

@@ -1,8 +1,6 @@
 -- `report::in_form` meets its contract: the tests are the parts of the form, in its order, and each gives the next what it asks.
 use mathlib.Core.Bool.{true}
 use mathlib.Core.Path.{◌≡◌, sym, ◌∙◌}
-use borrow.Author.Rules.{rules}
-use borrow.Author.Tests.{not-true, not-false}
 use Rattle.report.specs.Form.{sizes_fit}
 use Rattle.report.proofs.Forms.{sum_test, points_test, sized_of, summed_by, sizes_fail, sum_fails, points_fail, rows_decide}
 use Rattle.report.proofs.in_form.Goals as goal

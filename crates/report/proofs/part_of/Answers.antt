@@ -2,8 +2,6 @@
 use native.Mathlib.Omega.{arith}
 use mathlib.Core.Bool.{true}
 use mathlib.Core.Path.{◌≡◌, sym, ◌∙◌}
-use borrow.Author.Rules.{rules}
-use borrow.Author.Tests.{not-true, not-false}
 use Rattle.report.proofs.Reading.{entry_test, entry_of, part_given, part_refused}
 use Rattle.report.proofs.Sums.{small_product}
 use Rattle.report.proofs.part_of.Goals as goal

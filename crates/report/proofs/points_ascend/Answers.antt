@@ -1,7 +1,6 @@
 -- `report::points_ascend` meets its contract: the points are rows of one word, three words apart.
 use native.Mathlib.Omega.{arith}
 use mathlib.Core.Path.{◌∙◌}
-use borrow.Author.Rules.{rules}
 use Rattle.report.proofs.Runs.{points_run}
 use Rattle.report.proofs.points_ascend.Goals as goal
 

@@ -1,5 +1,4 @@
 -- `report::row_before` meets its contract: the rows that zeros make of the two stand in the same order.
-use borrow.Author.Rules.{rules}
 use Rattle.report.proofs.Compare.{rows_before}
 use Rattle.report.proofs.row_before.Goals as goal
 

@@ -2,7 +2,6 @@
 use native.Mathlib.Omega.{arith}
 use mathlib.Core.Bool.{true}
 use mathlib.Core.Path.{◌≡◌, sym, ◌∙◌}
-use borrow.Author.Rules.{rules}
 use Rattle.report.proofs.Reading.{entry_test, entry_of, count_given, count_refused}
 use Rattle.report.proofs.row_count.Goals as goal
 

@@ -2,7 +2,6 @@
 use Prim.Native.Nat.{◌+◌, ◌≤◌}
 use native.Mathlib.Omega.{arith}
 use lib.ListN.{length}
-use borrow.Author.Rules.{rules}
 use Rattle.report.proofs.Reading.{part_room, part_read}
 use Rattle.report.proofs.rows.Goals as goal
 

@@ -1,10 +1,9 @@
 -- `report::rows_ascend` meets its contract: after k turns the first k entries are passed, and `at` is where the rows of the next begin.
-use Prim.Native.Nat.{◌+◌, ◌-◌, ◌*◌, ◌≤◌}
+use Prim.Native.Nat.{◌+◌, ◌*◌, ◌≤◌}
 use native.Mathlib.Omega.{arith}
 use lib.ListN.{length}
 use borrow.Author.Rules.{rules}
-use borrow.Author.Tests.{not-true, not-false}
-use Rattle.report.proofs.Entries.{Passed, passed_none, passed_all, passed_broken, passed_more, entry_room}
+use Rattle.report.proofs.Entries.{passed_none, passed_all, passed_broken, passed_more, entry_room}
 use Rattle.report.proofs.rows_ascend.Goals as goal
 
 pub loop-k-init : goal.loop-k-init

@@ -1,9 +1,5 @@
-use Prim.Native.Nat.{◌+◌, ◌-◌, ◌*◌, ◌≤◌}
-use native.Mathlib.Omega.{arith}
-use lib.ListN.{length}
-use borrow.Author.Rules.{rules}
-use borrow.Author.Tests.{not-true, not-false}
-use Rattle.report.proofs.Entries.{Passed, passed_none, passed_all, passed_broken, passed_more, entry_room}
+use Prim.Native.Nat.{◌-◌}
+use Rattle.report.proofs.Entries.{Passed}
 use Rattle.report.proofs.rows_ascend.Given as goal
 
 -- `report::rows_ascend` meets its contract: after k turns the first k entries are passed, and `at` is where the rows of the next begin.

@@ -1,7 +1,5 @@
 -- `report::rows_before` meets its contract: after j turns the sum is that of the first j counts, and at most j words large.
-use Prim.Native.Nat.{◌-◌, ◌≤◌}
 use borrow.Author.Rules.{rules}
-use Rattle.report.specs.Form.{Sum}
 use Rattle.report.proofs.Sums.{sum_none, sum_more, sum_all}
 use Rattle.report.proofs.rows_before.Goals as goal
 

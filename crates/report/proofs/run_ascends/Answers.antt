@@ -3,8 +3,7 @@ use Prim.Native.Nat.{◌+◌, ◌≤◌}
 use native.Mathlib.Omega.{arith}
 use lib.ListN.{length}
 use borrow.Author.Rules.{rules}
-use borrow.Author.Tests.{not-true, not-false}
-use Rattle.report.proofs.Runs.{Rising, rising_none, rising_all, rising_broken, rising_more, two_rows}
+use Rattle.report.proofs.Runs.{rising_none, rising_all, rising_broken, rising_more, two_rows}
 use Rattle.report.proofs.run_ascends.Goals as goal
 
 pub loop-left-init : goal.loop-left-init

@@ -1,9 +1,4 @@
-use Prim.Native.Nat.{◌+◌, ◌≤◌}
-use native.Mathlib.Omega.{arith}
-use lib.ListN.{length}
-use borrow.Author.Rules.{rules}
-use borrow.Author.Tests.{not-true, not-false}
-use Rattle.report.proofs.Runs.{Rising, rising_none, rising_all, rising_broken, rising_more, two_rows}
+use Rattle.report.proofs.Runs.{Rising}
 use Rattle.report.proofs.run_ascends.Given as goal
 
 -- `report::run_ascends` meets its contract: each turn compares the first two of the rows that are left, and leaves the first of them behind.

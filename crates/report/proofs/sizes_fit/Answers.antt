@@ -1,6 +1,5 @@
 -- `report::sizes_fit` meets its contract: each `return` is one case of the test.
 use native.Mathlib.Omega.{arith}
-use borrow.Author.Rules.{rules}
 use Rattle.report.proofs.Forms.{too_short, points_out, free_out, words_test}
 use Rattle.report.proofs.Sums.{small_product}
 use Rattle.report.proofs.sizes_fit.Goals as goal

@@ -1,6 +1,5 @@
 -- `report::start_of` meets its contract: the place is computed as the definition has it, and no sum or product of it wraps.
 use native.Mathlib.Omega.{arith}
-use borrow.Author.Rules.{rules}
 use Rattle.report.proofs.Sums.{small_product}
 use Rattle.report.proofs.start_of.Goals as goal
 

@@ -1,5 +1,4 @@
 -- `report::word_of` meets its contract: a word of the row, or 0 past its end.
-use borrow.Author.Rules.{rules}
 use Rattle.report.proofs.Compare.{word_in, word_past}
 use Rattle.report.proofs.word_of.Goals as goal
 

@@ -1,7 +1,6 @@
 -- `add` meets its contract: the set is full, or the row is there, or it is put in where the search has stopped.
 use native.Mathlib.Omega.{arith}
 use mathlib.Core.Path.{◌≡◌, sym, ◌∙◌}
-use borrow.Author.Rules.{rules}
 use Rattle.meaning.specs.LookUp.{look_up}
 use Rattle.meaning.specs.declared.Sought.TheVariants.{There, Absent}
 use Rattle.rowset.specs.Rows.{words_of, rows_from}

@@ -1,5 +1,4 @@
 -- `add_if` meets its contract: the test decides.
-use borrow.Author.Rules.{rules}
 use Rattle.rowset.proofs.Growing.{gathered_none}
 use Rattle.rowset.proofs.add_if.Goals as goal
 

@@ -1,10 +1,8 @@
 -- `add_rows` meets its contract: each row of the run is put in.
-use Prim.Native.Nat.{◌-◌}
-use native.Mathlib.Omega.{arith}
 use mathlib.Core.Path.{refl, ap}
 use mathlib.Core.List.{[], ◌∷◌}
-use Rattle.rowset.specs.Rows.{row_at, rows_from}
-use Rattle.rowset.proofs.Growing.{Gathering, gathers_from, gathers_on, gather_room, ended}
+use Rattle.rowset.specs.Rows.{rows_from}
+use Rattle.rowset.proofs.Growing.{gathers_from, gathers_on, gather_room, ended}
 use Rattle.rowset.proofs.add_rows.Goals as goal
 
 pub loop-i-init : goal.loop-i-init

@@ -1,9 +1,6 @@
 use Prim.Native.Nat.{◌-◌}
-use native.Mathlib.Omega.{arith}
-use mathlib.Core.Path.{refl, ap}
-use mathlib.Core.List.{[], ◌∷◌}
 use Rattle.rowset.specs.Rows.{row_at, rows_from}
-use Rattle.rowset.proofs.Growing.{Gathering, gathers_from, gathers_on, gather_room, ended}
+use Rattle.rowset.proofs.Growing.{Gathering}
 use Rattle.rowset.proofs.add_rows.Given as goal
 
 -- `add_rows` meets its contract: each row of the run is put in.

@@ -1,6 +1,5 @@
 -- `compare` meets its contract: the first word that differs decides.
 use mathlib.Core.Path.{◌∙◌}
-use borrow.Author.Rules.{rules}
 use Rattle.rowset.proofs.Words.{decides_0, decides_1, decides_2, decides_3, none_decides}
 use Rattle.rowset.proofs.compare.Goals as goal
 

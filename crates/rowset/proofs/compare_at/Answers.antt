@@ -1,6 +1,5 @@
 -- `compare_at` meets its contract: the way that the word goes decides.
 use borrow.Author.Tests.{lt-ltb, le-ltb}
-use borrow.Author.Rules.{rules}
 use Rattle.rowset.proofs.compare_at.Goals as goal
 
 pub returns-then-lowest-k : goal.returns-then-lowest-k

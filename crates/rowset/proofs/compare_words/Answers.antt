@@ -1,5 +1,4 @@
 -- `compare_words` meets its contract: each way out has decided it.
-use native.Mathlib.Omega.{arith}
 use borrow.Author.Tests.{lt-ltb, le-ltb, eq-eqb, ne_eqb}
 use Rattle.rowset.proofs.compare_words.Goals as goal
 

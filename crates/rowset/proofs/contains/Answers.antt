@@ -1,7 +1,6 @@
 -- `contains` meets its contract: each answer of the search says whether the row is there.
 use Prim.Native.Nat.{◌-◌}
 use mathlib.Core.Path.{◌≡◌, sym, ap, ◌∙◌}
-use borrow.Author.Rules.{rules}
 use Rattle.meaning.specs.LookUp.{look_up, is_there}
 use Rattle.meaning.proofs.LookUp.{is_onward}
 use Rattle.rowset.specs.Rows.{words_of, rows_from}

@@ -1,6 +1,5 @@
 -- `is_before` meets its contract: the comparison tells.
 use mathlib.Core.Path.{sym, ◌∙◌}
-use borrow.Author.Rules.{rules}
 use Rattle.rowset.specs.Rows.{words_of}
 use Rattle.rowset.proofs.Searching.{by_before, by_same, by_after}
 use Rattle.rowset.proofs.is_before.Goals as goal

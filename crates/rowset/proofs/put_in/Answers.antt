@@ -1,10 +1,8 @@
 -- `put_in` meets its contract. The loop's invariant: the rows up to i, the row held and the rest are the set with the row in place p.
-use Prim.Native.Nat.{◌-◌}
 use native.Mathlib.Omega.{arith}
-use mathlib.Core.Path.{◌≡◌, refl, ◌∙◌}
-use lib.ListN.{length}
+use mathlib.Core.Path.{refl, ◌∙◌}
 use Rattle.rowset.specs.Rows.{words_of, row_at, rows_from}
-use Rattle.rowset.proofs.Runs.{Passing, passing, passed_on, passed_all, row-replaced}
+use Rattle.rowset.proofs.Runs.{passing, passed_on, passed_all, row-replaced}
 use Rattle.rowset.proofs.put_in.Goals as goal
 
 pub loop-i-init : goal.loop-i-init

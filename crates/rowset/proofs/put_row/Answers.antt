@@ -1,6 +1,5 @@
 -- `put_row` meets its contract: the four stores are those of `set_row`.
 use native.Mathlib.Omega.{arith}
-use borrow.Author.Rules.{rules}
 use lib.ListN.{length-set}
 use mathlib.Core.Path.{refl}
 use Rattle.rowset.specs.Rows.{set_row}

@@ -1,9 +1,6 @@
 -- `seek` meets its contract. The loop's invariant: the run's answer is that of the rest of it.
-use Prim.Native.Nat.{◌-◌, ◌≤◌}
 use native.Mathlib.Omega.{arith}
-use borrow.Author.Rules.{rules}
-use mathlib.Core.Path.{◌≡◌, refl, sym, ap, ◌∙◌}
-use Rattle.meaning.specs.LookUp.{onward, look_up}
+use mathlib.Core.Path.{refl, sym, ap, ◌∙◌}
 use Rattle.rowset.specs.Rows.{words_of, row_at, rows_from, compared}
 use Rattle.rowset.proofs.Searching.{seek_on, seek_there, seek_absent, seek_end}
 use Rattle.rowset.proofs.seek.Goals as goal

@@ -1,7 +1,6 @@
 -- `seek_near` meets its contract: it is found where the search begins, or from there on it answers as from the front.
 use Prim.Native.Nat.{◌≤◌}
 use mathlib.Core.Path.{refl, sym, subst, ◌∙◌}
-use borrow.Author.Rules.{rules}
 use Rattle.rowset.specs.Rows.{words_of, row_at, rows_from}
 use Rattle.rowset.specs.Sets.{AllBefore, Begins}
 use Rattle.rowset.proofs.Searching.{from_start}

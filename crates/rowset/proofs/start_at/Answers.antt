@@ -1,7 +1,6 @@
 -- `start_at` meets its contract: all rows that the search would pass stand before the one looked for.
 use native.Mathlib.Omega.{arith}
 use mathlib.Core.Path.{refl, sym, ap, ◌∙◌}
-use borrow.Author.Rules.{rules}
 use Rattle.rowset.specs.Rows.{words_of, row_at, compared}
 use Rattle.rowset.proofs.Searching.{start_behind, start_found}
 use Rattle.rowset.proofs.start_at.Goals as goal

@@ -1,9 +1,7 @@
 -- `rulefile::reach_of` meets its contract: the number of the node falls at each call, and what the calls give makes the node's reach.
-use Prim.Native.Nat.{ℕ, ◌<◌}
 use native.Mathlib.Omega.{arith}
 use mathlib.Core.Path.{◌≡◌, refl, ap, ◌∙◌}
 use mathlib.Core.List.Memᴰ
-use borrow.Author.Rules.{rules}
 use Rattle.meaning.specs.RuleFile.{node_at, children_of}
 use Rattle.meaning.specs.declared.Children.TheVariants.{One, Two}
 use Rattle.ruleshape.specs.Sound.{window_reach}

@@ -1,7 +1,6 @@
 -- `rulefile::accepts` meets its contract: a rule is accepted where weighing it gives no refusal.
 use mathlib.Core.Path.{sym, ap, subst}
 use mathlib.Core.Bool.{false≢true}
-use borrow.Author.Rules.{rules}
 use Rattle.meaning.specs.RuleFile.{checking, is_accepted}
 use Rattle.rulefile.specs.Weighing.{Tells}
 use Rattle.rulefile.proofs.accepts.Goals as goal

@@ -1,5 +1,4 @@
 -- `rulefile::arity_fits` meets its contract, from the arity that it reads.
-use borrow.Author.Rules.{rules}
 use Rattle.rulefile.proofs.arity_fits.Goals as goal
 
 pub returns : goal.returns

@@ -1,7 +1,6 @@
 -- `rulefile::check` meets its contract: what weighing the rule tells, and where nothing is refused, the reach.
 use native.Mathlib.Omega.{arith}
 use mathlib.Core.Path.{◌≡◌, sym, ap, subst, ◌∙◌}
-use borrow.Author.Rules.{rules}
 use Rattle.meaning.specs.Outcome.{Outcome, given}
 use Rattle.meaning.specs.Formula.{reach}
 use Rattle.meaning.specs.RuleFile.{Accepted as Answer, pattern, checking}

@@ -1,5 +1,4 @@
 -- `rulefile::count_child` meets its contract: one count is raised by 1.
-use borrow.Author.Rules.{rules}
 use Rattle.rulefile.proofs.Parents.{child_counted}
 use Rattle.rulefile.proofs.count_child.Goals as goal
 

@@ -3,7 +3,6 @@ use native.Mathlib.Omega.{arith}
 use mathlib.Core.List.Memᴰ
 use mathlib.Core.Path.{refl}
 use lib.ListN.{length}
-use borrow.Author.Rules.{rules}
 use Rattle.meaning.specs.declared.Children.TheVariants.{One, Two}
 use Rattle.rulefile.proofs.Parents.{counted_no_child, counted_one, counted_two, counted_room, child_room}
 use Rattle.rulefile.proofs.count_children.Goals as goal

@@ -1,7 +1,6 @@
 -- `rulefile::first_of` meets its contract, by the count and by what was found before.
 use mathlib.Core.Path.{sym, ap}
 use borrow.Author.Tests.{eq-eqb, ne_eqb}
-use borrow.Author.Rules.{rules}
 use Rattle.rulefile.specs.Weighing.{stray_or}
 use Rattle.rulefile.proofs.first_of.Goals as goal
 

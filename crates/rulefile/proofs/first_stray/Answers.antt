@@ -1,5 +1,5 @@
 -- `rulefile::first_stray` meets its contract. The loop keeps `FirstStray` of the nodes passed so far.
-use Prim.Native.Nat.{◌≤◌, ◌-◌, ◌+◌}
+use Prim.Native.Nat.{◌+◌}
 use native.Mathlib.Omega.{arith}
 use mathlib.Core.Path.{◌≡◌, sym, subst}
 use borrow.Author.Rules.{rules}

@@ -1,9 +1,5 @@
-use Prim.Native.Nat.{◌≤◌, ◌-◌, ◌+◌}
-use native.Mathlib.Omega.{arith}
-use mathlib.Core.Path.{◌≡◌, sym, subst}
-use borrow.Author.Rules.{rules}
+use Prim.Native.Nat.{◌≤◌, ◌-◌}
 use Rattle.rulefile.specs.Weighing.{FirstStray}
-use Rattle.rulefile.proofs.Parents.{stray_more}
 use Rattle.rulefile.proofs.first_stray.Given as goal
 
 -- `rulefile::first_stray` meets its contract. The loop keeps `FirstStray` of the nodes passed so far.

@@ -1,5 +1,4 @@
 -- `rulefile::sizes_fit` meets its contract, from the answers on its eight arities.
-use borrow.Author.Rules.{rules}
 use Rattle.meaning.specs.RuleFile.{sizes_fit}
 use Rattle.rulefree.proofs.Bools.{and_true}
 use Rattle.rulefile.proofs.sizes_fit.Goals as goal

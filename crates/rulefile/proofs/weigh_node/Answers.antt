@@ -1,7 +1,5 @@
 -- `rulefile::weigh_node` meets its contract: the three tests' answers make the node's weighing.
 use mathlib.Core.Path.{sym, ap, ◌∙◌}
-use borrow.Author.Tests.{not-true, not-false}
-use borrow.Author.Rules.{rules}
 use Rattle.rulefile.specs.declared.Tested.TheVariants.{Free}
 use Rattle.rulefile.proofs.weigh_node.Goals as goal
 

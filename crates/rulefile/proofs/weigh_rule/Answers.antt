@@ -1,7 +1,7 @@
 -- `rulefile::weigh_rule` meets its contract: each refusal of the sizes and the length, in their order, and then the nodes.
 use native.Mathlib.Omega.{arith}
 use mathlib.Core.Path.{◌≡◌, refl, sym, subst, ◌∙◌}
-use borrow.Author.Tests.{lt-ltb, le-ltb, eq-eqb, ne_eqb, not-true, not-false}
+use borrow.Author.Tests.{lt-ltb, le-ltb, eq-eqb, ne_eqb}
 use borrow.Author.Rules.{rules}
 use Rattle.meaning.specs.RuleFile.{checking}
 use Rattle.rulefile.specs.declared.Checked.TheVariants.{Cut, OtherVersion, SizeOut}

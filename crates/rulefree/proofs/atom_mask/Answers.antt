@@ -1,6 +1,5 @@
 -- `rulefree::atom_mask` meets its contract: of one term by that term, else from the answers on its four variables.
 use mathlib.Core.Path.{◌∙◌}
-use borrow.Author.Rules.{rules}
 use Rattle.rulefree.proofs.Bools.{one_term}
 use Rattle.rulefree.proofs.atom_mask.Goals as goal
 

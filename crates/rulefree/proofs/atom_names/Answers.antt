@@ -1,5 +1,4 @@
 -- `rulefree::atom_names` meets its contract: the terms within the arity are gone through one by one.
-use borrow.Author.Rules.{rules}
 use Rattle.meaning.specs.Formula.{is_variable}
 use Rattle.rulefree.proofs.Bools.{any_of_four}
 use Rattle.rulefree.proofs.atom_names.Goals as goal

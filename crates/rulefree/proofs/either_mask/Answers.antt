@@ -1,5 +1,4 @@
 -- `rulefree::either_mask` meets its contract, bit by bit.
-use borrow.Author.Rules.{rules}
 use Rattle.rulefree.proofs.either_mask.Goals as goal
 
 pub returns : goal.returns

@@ -1,5 +1,4 @@
 -- `rulefree::mask_within` meets its contract, bit by bit.
-use borrow.Author.Rules.{rules}
 use Rattle.rulefree.proofs.Bools.{and_true}
 use Rattle.rulefree.proofs.mask_within.Goals as goal
 

@@ -1,5 +1,4 @@
 -- `rulefree::mask_without` meets its contract, bit by bit.
-use borrow.Author.Rules.{rules}
 use Rattle.rulefree.proofs.mask_without.Goals as goal
 
 pub returns : goal.returns

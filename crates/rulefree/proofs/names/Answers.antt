@@ -1,5 +1,4 @@
 -- `rulefree::names` meets its contract, for a variable and for a constant.
-use borrow.Author.Rules.{rules}
 use Rattle.rulefree.proofs.names.Goals as goal
 
 pub returns-in-Variable : goal.returns-in-Variable

@@ -1,7 +1,6 @@
 -- `rulefree::node_fits` meets its contract, kind by kind.
 use mathlib.Core.Bool.{◌&&◌}
 use mathlib.Core.Path.{sym, ap, ap₂, ◌∙◌}
-use borrow.Author.Rules.{rules}
 use Rattle.rulefree.specs.Mask.{variable_in, mask_within, sides_within, node_fits}
 use Rattle.rulefree.proofs.node_fits.Goals as goal
 

@@ -1,6 +1,5 @@
 -- `rulefree::node_mask` meets its contract, kind by kind.
 use mathlib.Core.Path.{sym, ap, ap₂, ◌∙◌}
-use borrow.Author.Rules.{rules}
 use Rattle.rulefree.specs.Mask.{either_mask, mask_without, node_mask}
 use Rattle.rulefree.proofs.node_mask.Goals as goal
 

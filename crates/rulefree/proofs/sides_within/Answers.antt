@@ -1,5 +1,4 @@
 -- `rulefree::sides_within` meets its contract, from the answers on its two terms.
-use borrow.Author.Rules.{rules}
 use Rattle.rulefree.proofs.sides_within.Goals as goal
 
 pub returns : goal.returns

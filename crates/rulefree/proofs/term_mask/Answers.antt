@@ -1,5 +1,4 @@
 -- `rulefree::term_mask` meets its contract, from the answers on the four variables.
-use borrow.Author.Rules.{rules}
 use Rattle.rulefree.proofs.term_mask.Goals as goal
 
 pub returns : goal.returns

@@ -1,5 +1,4 @@
 -- `rulefree::term_within` meets its contract, for a variable and for a constant.
-use borrow.Author.Rules.{rules}
 use Rattle.rulefree.proofs.term_within.Goals as goal
 
 pub returns-in-Variable : goal.returns-in-Variable

@@ -1,6 +1,5 @@
 -- `rulefree::variable_in` meets its contract, variable by variable.
 use borrow.Author.Tests.{ne_eqb}
-use borrow.Author.Rules.{rules}
 use Rattle.rulefree.proofs.variable_in.Goals as goal
 
 pub returns-in-0 : goal.returns-in-0

@@ -1,7 +1,6 @@
 -- `rulenodes::arity_at` meets its contract: past the end of the file the arity is 0.
 use mathlib.Core.Path.{sym}
 use lib.ListN.{get_or-eq_default}
-use borrow.Author.Rules.{rules}
 use Rattle.rulenodes.proofs.arity_at.Goals as goal
 
 pub returns-else-at-rule : goal.returns-else-at-rule

@@ -1,6 +1,5 @@
 -- `rulenodes::atom_at` meets its contract: what it reads are the parts of an atom, and a node without children is one.
 use mathlib.Core.Path.{sym, ap, ◌∙◌}
-use borrow.Author.Rules.{rules}
 use Rattle.meaning.specs.RuleFile.{arity, head_at, body_at, bodies, node_at}
 use Rattle.rulenodes.proofs.Childless.{childless}
 use Rattle.rulenodes.proofs.atom_at.Goals as goal

@@ -1,5 +1,4 @@
 -- `rulenodes::body_at` meets its contract: the body is its four words.
-use borrow.Author.Rules.{rules}
 use Rattle.meaning.specs.RuleFile.{body_at}
 use Rattle.rulenodes.proofs.body_at.Goals as goal
 

@@ -1,6 +1,5 @@
 -- `rulenodes::children_at` meets its contract, from the head that it reads.
 use mathlib.Core.Path.{◌∙◌, ap}
-use borrow.Author.Rules.{rules}
 use Rattle.meaning.specs.RuleFile.{arity, head_at, body_at, bodies, node_of, node_at, children_of}
 use Rattle.rulenodes.proofs.children_at.Goals as goal
 

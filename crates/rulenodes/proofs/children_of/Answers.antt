@@ -1,6 +1,5 @@
 -- `rulenodes::children_of` meets its contract: the children are the view's.
 use mathlib.Core.Path.{ap}
-use borrow.Author.Rules.{rules}
 use Rattle.meaning.specs.View.{children_in}
 use Rattle.meaning.specs.declared.View.{View}
 use Rattle.rulenodes.proofs.children_of.Goals as goal

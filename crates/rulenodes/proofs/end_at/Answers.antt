@@ -2,7 +2,6 @@
 use Prim.Native.Nat.{◌+◌, ◌*◌}
 use mathlib.Core.Path.{ap, ◌∙◌}
 use lib.ListN.{get_or}
-use borrow.Author.Rules.{rules}
 use Rattle.meaning.specs.RuleFile.{word_at, body_at}
 use Rattle.rulenodes.proofs.Rest.{rest_whole}
 use Rattle.rulenodes.proofs.end_at.Goals as goal

@@ -1,5 +1,4 @@
 -- `rulenodes::node_at` meets its contract, from what it reads.
-use borrow.Author.Rules.{rules}
 use Rattle.meaning.specs.RuleFile.{node_at}
 use Rattle.rulenodes.proofs.node_at.Goals as goal
 

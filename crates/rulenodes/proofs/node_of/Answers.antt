@@ -1,6 +1,5 @@
 -- `rulenodes::node_of` meets its contract, kind by kind.
 use borrow.Author.Tests.{ne_eqb}
-use borrow.Author.Rules.{rules}
 use Rattle.meaning.specs.RuleFile.{node_of}
 use Rattle.rulenodes.proofs.node_of.Goals as goal
 

@@ -1,5 +1,4 @@
 -- `rulenodes::sides_of` meets its contract, from its two terms.
-use borrow.Author.Rules.{rules}
 use Rattle.rulenodes.proofs.sides_of.Goals as goal
 
 pub returns : goal.returns

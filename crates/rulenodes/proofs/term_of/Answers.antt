@@ -1,6 +1,5 @@
 -- `rulenodes::term_of` meets its contract, by the mask's bit.
 use mathlib.Core.Path.{sym, ◌∙◌}
-use borrow.Author.Rules.{rules}
 use Rattle.rulenodes.proofs.term_of.Goals as goal
 
 pub returns-then-has_bit : goal.returns-then-has_bit

@@ -1,5 +1,4 @@
 -- `rulenodes::terms_of` meets its contract, from its four terms.
-use borrow.Author.Rules.{rules}
 use Rattle.rulenodes.proofs.terms_of.Goals as goal
 
 pub returns : goal.returns

@@ -1,8 +1,7 @@
 -- `rulenodes::times_at` meets its contract, kind by kind.
-use mathlib.Core.Path.{◌≡◌, sym, ◌∙◌, ap}
-use borrow.Author.Rules.{rules}
+use mathlib.Core.Path.{sym, ◌∙◌, ap}
 use Rattle.meaning.specs.View.{view_of}
-use Rattle.meaning.specs.RuleFile.{arity, head_at, bodies, body_at, node_of, node_at}
+use Rattle.meaning.specs.RuleFile.{node_at}
 use Rattle.meaning.specs.declared.Node.{Node}
 use Rattle.meaning.proofs.Shapes.{node_1, node_2, node_3, node_4, node_5, node_6, node_7, node_8, node_9, node_10, node_11, node_12, node_13, node_15, node_rest}
 use Rattle.rulenodes.proofs.times_at.Goals as goal

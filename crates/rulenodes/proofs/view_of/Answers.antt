@@ -1,6 +1,5 @@
 -- `rulenodes::view_of` meets its contract, kind by kind.
 use mathlib.Core.Path.{sym, ap, ◌∙◌}
-use borrow.Author.Rules.{rules}
 use Rattle.meaning.specs.View.{view_of}
 use Rattle.rulenodes.proofs.view_of.Goals as goal
 

@@ -1,5 +1,4 @@
 -- `rulenodes::word_at` meets its contract: a word is its four bytes, and they fit.
-use borrow.Author.Rules.{rules}
 use Rattle.meaning.specs.RuleFile.{word_at}
 use Rattle.rulenodes.proofs.word_at.Goals as goal
 

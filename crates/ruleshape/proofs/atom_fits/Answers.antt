@@ -1,5 +1,4 @@
 -- `ruleshape::atom_fits` meets its contract, from the answers on its four words.
-use borrow.Author.Rules.{rules}
 use Rattle.ruleshape.proofs.atom_fits.Goals as goal
 
 pub returns : goal.returns

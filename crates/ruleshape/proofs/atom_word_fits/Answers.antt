@@ -1,6 +1,5 @@
 -- `ruleshape::atom_word_fits` meets its contract, within the arity and past it.
 use borrow.Author.Tests.{lt-ltb, le-ltb}
-use borrow.Author.Rules.{rules}
 use Rattle.ruleshape.proofs.atom_word_fits.Goals as goal
 
 pub returns-then-k-a : goal.returns-then-k-a

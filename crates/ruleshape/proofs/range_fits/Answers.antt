@@ -1,6 +1,5 @@
 -- `ruleshape::range_fits` meets its contract, kind by kind; a kind below 7 has no window.
 use borrow.Author.Tests.{ne_eqb}
-use borrow.Author.Rules.{rules}
 use Rattle.meaning.specs.RuleFile.{range_fits}
 use Rattle.ruleshape.proofs.range_fits.Goals as goal
 

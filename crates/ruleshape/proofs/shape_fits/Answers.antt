@@ -1,6 +1,5 @@
 -- `ruleshape::shape_fits` meets its contract, kind by kind; any other number is no kind.
 use borrow.Author.Tests.{ne_eqb}
-use borrow.Author.Rules.{rules}
 use Rattle.meaning.specs.RuleFile.{shape_fits}
 use Rattle.ruleshape.proofs.shape_fits.Goals as goal
 

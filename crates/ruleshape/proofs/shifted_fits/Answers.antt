@@ -1,5 +1,4 @@
 -- `ruleshape::shifted_fits` meets its contract, from the answer on its terms.
-use borrow.Author.Rules.{rules}
 use Rattle.ruleshape.proofs.shifted_fits.Goals as goal
 
 pub returns : goal.returns

@@ -1,5 +1,4 @@
 -- `ruleshape::sides_fit` meets its contract, from the answers on its two terms.
-use borrow.Author.Rules.{rules}
 use Rattle.ruleshape.proofs.sides_fit.Goals as goal
 
 pub returns : goal.returns

@@ -1,6 +1,5 @@
 -- `and_at` meets its contract: the two parts that are joined are the children's sets.
 use mathlib.Core.Path.{ap₂}
-use borrow.Author.Rules.{rules}
 use Rattle.meaning.specs.Evaluator.{and_rows}
 use Rattle.kinds.specs.Kinds.{in_mask}
 use Rattle.rowset.proofs.Growing.{added_as}

@@ -1,7 +1,6 @@
 -- `and_not_at` meets its contract: the part that is chosen from and the part that is looked through are the children's sets.
 use mathlib.Core.Path.{ap₂}
 use mathlib.Core.Bool.{not}
-use borrow.Author.Rules.{rules}
 use Rattle.meaning.specs.Lists.{select}
 use Rattle.meaning.specs.Evaluator.{cut_to, valuation_of}
 use Rattle.meaning.specs.LookUp.{look_up, is_there}

@@ -1,5 +1,4 @@
 -- `copy_at` meets its contract: the part that is copied is the set.
-use borrow.Author.Rules.{rules}
 use Rattle.rowset.proofs.Growing.{added_as}
 use Rattle.untils.proofs.Spans.{set_run, set_read}
 use Rattle.settling.proofs.copy_at.Goals as goal

@@ -1,5 +1,4 @@
 -- `copy_if` meets its contract: the test decides.
-use borrow.Author.Rules.{rules}
 use Rattle.rowset.proofs.Growing.{added_none}
 use Rattle.settling.proofs.copy_if.Goals as goal
 

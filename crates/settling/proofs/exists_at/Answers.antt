@@ -3,7 +3,6 @@ use mathlib.Core.Path.{ap}
 use mathlib.Core.Bool.{not}
 use mathlib.Core.List.{map}
 use lib.Dec.{eqb}
-use borrow.Author.Rules.{rules}
 use Rattle.meaning.specs.Evaluator.{cut_to, valuation_of}
 use Rattle.rowset.proofs.Growing.{added_as}
 use Rattle.untils.proofs.Spans.{set_run, set_read}

@@ -1,6 +1,5 @@
 -- `keep_at` meets its contract: the part that is chosen from is the set.
 use mathlib.Core.Path.{ap}
-use borrow.Author.Rules.{rules}
 use Rattle.meaning.specs.Lists.{select}
 use Rattle.meaning.specs.Formula.{compares}
 use Rattle.meaning.specs.Definition2.{value}

@@ -1,5 +1,4 @@
 -- `next_at` meets its contract: the window decides, and point i + 1 is the point after.
-use borrow.Author.Rules.{rules}
 use Rattle.meaning.specs.Log.{elapsed}
 use Rattle.meaning.specs.Formula.{in_window}
 use Rattle.method.specs.Stored.{stamp_in}

@@ -1,5 +1,4 @@
 -- `or_at` meets its contract: one set is put in after the other.
-use borrow.Author.Rules.{rules}
 use Rattle.rowset.proofs.Growing.{added_then}
 use Rattle.settling.proofs.or_at.Goals as goal
 

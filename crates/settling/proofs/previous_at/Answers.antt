@@ -3,7 +3,6 @@ use mathlib.Core.Path.{ap}
 use mathlib.Core.Bool.{cond}
 use mathlib.Core.List.{[]}
 use borrow.Author.Tests.{lt-ltb, le-ltb}
-use borrow.Author.Rules.{rules}
 use Rattle.meaning.specs.Log.{point_before}
 use Rattle.rowset.proofs.Growing.{added_none, added_as}
 use Rattle.untils.proofs.Passing.{due_read}

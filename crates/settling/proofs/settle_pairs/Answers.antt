@@ -1,19 +1,9 @@
 -- `settle_pairs` meets its contract, by the node's times: since's pairs are put in, and other nodes have none.
-use Prim.Native.Nat.{ℕ, suc}
 use native.Mathlib.Omega.{arith}
-use mathlib.Core.Path.{◌≡◌, refl, sym, ap, subst, ◌∙◌}
-use mathlib.Core.Bool.{false}
-use mathlib.Core.List.{List}
-use borrow.Author.Rules.{rules}
-use Rattle.meaning.specs.Evaluator.{set_of}
-use Rattle.meaning.specs.View.{view_of}
-use Rattle.meaning.specs.declared.Times.{Times}
+use mathlib.Core.Path.{refl, sym, ap, subst, ◌∙◌}
 use Rattle.meaning.specs.declared.Times.TheVariants.{Past}
 use Rattle.meaning.specs.declared.View.{View}
-use Rattle.method.specs.Settle.{has_pairs}
-use Rattle.room.specs.declared.Child.{Child}
-use Rattle.since.specs.Since.{held_in, pairs_in, PairsPut}
-use Rattle.settling.specs.Inputs.{ChildThere, right_in, PairsSettled}
+use Rattle.settling.specs.Inputs.{ChildThere, right_in}
 use Rattle.settling.proofs.Gives.{past_there, past_settled, no_pairs}
 use Rattle.settling.proofs.settle_pairs.Goals as goal
 

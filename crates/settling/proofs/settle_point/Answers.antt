@@ -1,17 +1,12 @@
 -- `settle_point` meets its contract, kind by kind: what is asked for the node is asked for its kind, and what the kind gives the node gives.
-use Prim.Native.Nat.{ℕ}
 use native.Mathlib.Omega.{arith}
-use mathlib.Core.Path.{◌≡◌, refl, ap, subst}
-use mathlib.Core.List.{List}
-use borrow.Author.Rules.{rules}
+use mathlib.Core.Path.{refl, ap, subst}
 use Rattle.meaning.specs.Formula.{terms_of}
-use Rattle.meaning.specs.Evaluator.{set_of, atom_rows}
-use Rattle.meaning.specs.declared.Node.{Node}
-use Rattle.rowset.specs.Sets.{Added, SetMade}
+use Rattle.meaning.specs.Evaluator.{atom_rows}
 use Rattle.rowset.proofs.Growing.{added_as, set_made}
 use Rattle.kinds.proofs.Atoms.{atom_reads}
-use Rattle.settling.specs.Inputs.{asked, PointSettled}
-use Rattle.settling.proofs.Gives.{given, point-settled, both_stand}
+use Rattle.settling.specs.Inputs.{asked}
+use Rattle.settling.proofs.Gives.{point-settled, both_stand}
 use Rattle.settling.proofs.settle_point.Goals as goal
 
 pub atom-requires : goal.atom-requires

@@ -1,6 +1,5 @@
 -- `until_at` meets its contract: the points are those before the lower of the two counts.
 use mathlib.Core.Path.{ap}
-use borrow.Author.Rules.{rules}
 use Rattle.meaning.specs.Evaluator.{until_rows}
 use Rattle.method.specs.Stored.{stamp_in}
 use Rattle.rowset.proofs.Growing.{added_as}

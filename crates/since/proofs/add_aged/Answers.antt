@@ -1,7 +1,6 @@
 -- `add_aged` meets its contract: the test of the age decides.
 use mathlib.Core.Path.{ap}
 use mathlib.Core.List.{[], ◌∷◌}
-use borrow.Author.Rules.{rules}
 use borrow.Author.Tests.{lt-ltb, le-ltb}
 use Rattle.rowset.specs.Rows.{words_of}
 use Rattle.pairs.proofs.Adding.{add_none}

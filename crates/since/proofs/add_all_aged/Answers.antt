@@ -3,8 +3,6 @@ use native.Mathlib.Omega.{arith}
 use mathlib.Core.Path.{◌∙◌}
 use mathlib.Core.Bool.{true}
 use lib.ListN.{length}
-use borrow.Author.Rules.{rules}
-use Rattle.meaning.specs.Order.{before}
 use Rattle.pairs.proofs.Ascents.{rising, fewer_ascend}
 use Rattle.pairs.proofs.Growing.{pairs_as}
 use Rattle.since.proofs.Held.{pairs_run, pairs-bound}

@@ -1,18 +1,16 @@
 -- `add_all_older` meets its contract: each held pair is put in, grown older, where it stays.
-use Prim.Native.Nat.{◌+◌, ◌-◌}
+use Prim.Native.Nat.{◌+◌}
 use native.Mathlib.Omega.{arith}
 use mathlib.Core.Path.{refl}
 use lib.ListN.{length}
-use borrow.Author.Rules.{rules}
 use Rattle.meaning.specs.Log.{point}
-use Rattle.rowset.proofs.Growing.{Turns, starts_all, ended}
-use Rattle.kinds.specs.Kinds.{pair_at, pairs_from}
+use Rattle.rowset.proofs.Growing.{starts_all, ended}
+use Rattle.kinds.specs.Kinds.{pairs_from}
 use Rattle.room.specs.Room.{set_at}
 use Rattle.untils.specs.Until.{leads}
-use Rattle.pairs.specs.Pairs.{PairsAdded}
 use Rattle.pairs.proofs.Adding.{add_none}
 use Rattle.pairs.proofs.Growing.{pairs_as}
-use Rattle.since.proofs.Held.{bound_pairs, pair_turned, pairs-bound}
+use Rattle.since.proofs.Held.{pair_turned, pairs-bound}
 use Rattle.since.proofs.add_all_older.Goals as goal
 
 pub loop-x-init : goal.loop-x-init

@@ -4,19 +4,16 @@ use native.Mathlib.Omega.{arith}
 use mathlib.Core.Path.{refl, ap, ◌∙◌}
 use mathlib.Core.Bool.{cond}
 use mathlib.Core.List.{List, [], ◌∷◌, map}
-use borrow.Author.Rules.{rules}
-use Rattle.meaning.specs.Lists.{range}
 use Rattle.meaning.specs.Log.{point, elapsed}
 use Rattle.meaning.specs.Kept.{below_end, counted_age}
 use Rattle.meaning.specs.declared.Point.{Point}
 use Rattle.meaning.specs.declared.Stamp.{Stamp}
 use Rattle.method.specs.Stored.{stamp_in}
-use Rattle.rowset.proofs.Growing.{Turns, starts_all, goes_on, ended}
+use Rattle.rowset.proofs.Growing.{starts_all, goes_on, ended}
 use Rattle.room.specs.Room.{set_at}
 use Rattle.untils.proofs.Spans.{stand_part}
-use Rattle.pairs.specs.Pairs.{PairsAdded}
 use Rattle.pairs.proofs.Adding.{add_none}
-use Rattle.since.proofs.Fresh.{lasting_to, pairs_over, pairs_of, pairs_one, pairs_fresh}
+use Rattle.since.proofs.Fresh.{lasting_to, pairs_of, pairs_one, pairs_fresh}
 use Rattle.pairs.proofs.Growing.{pairs_then, pairs_as}
 use Rattle.since.proofs.add_fresh.Goals as goal
 

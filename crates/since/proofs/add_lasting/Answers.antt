@@ -1,16 +1,12 @@
 -- `add_lasting` meets its contract: each row of the run for which left passes is put in at the age.
-use Prim.Native.Nat.{ℕ, ◌-◌}
-use native.Mathlib.Omega.{arith}
+use Prim.Native.Nat.{ℕ}
 use mathlib.Core.Path.{refl}
 use mathlib.Core.Bool.{Bool, cond}
-use mathlib.Core.List.{List, [], ◌∷◌, map}
-use borrow.Author.Rules.{rules}
-use Rattle.meaning.specs.Lists.{select}
-use Rattle.rowset.specs.Rows.{row_at, rows_from}
-use Rattle.rowset.proofs.Growing.{Turns, starts, goes_on, ended, map_select_one, chosen}
+use mathlib.Core.List.{List, [], ◌∷◌}
+use Rattle.rowset.specs.Rows.{rows_from}
+use Rattle.rowset.proofs.Growing.{starts, goes_on, ended, map_select_one, chosen}
 use Rattle.room.specs.Room.{set_at}
 use Rattle.untils.specs.Until.{leads}
-use Rattle.pairs.specs.Pairs.{PairsAdded}
 use Rattle.pairs.proofs.Adding.{add_none}
 use Rattle.pairs.proofs.Growing.{pairs_then}
 use Rattle.since.proofs.add_lasting.Goals as goal

@@ -1,17 +1,11 @@
-use Prim.Native.Nat.{ℕ, ◌-◌}
-use native.Mathlib.Omega.{arith}
-use mathlib.Core.Path.{refl}
-use mathlib.Core.Bool.{Bool, cond}
-use mathlib.Core.List.{List, [], ◌∷◌, map}
-use borrow.Author.Rules.{rules}
+use Prim.Native.Nat.{◌-◌}
+use mathlib.Core.List.{◌∷◌, map}
 use Rattle.meaning.specs.Lists.{select}
 use Rattle.rowset.specs.Rows.{row_at, rows_from}
-use Rattle.rowset.proofs.Growing.{Turns, starts, goes_on, ended, map_select_one, chosen}
+use Rattle.rowset.proofs.Growing.{Turns}
 use Rattle.room.specs.Room.{set_at}
 use Rattle.untils.specs.Until.{leads}
 use Rattle.pairs.specs.Pairs.{PairsAdded}
-use Rattle.pairs.proofs.Adding.{add_none}
-use Rattle.pairs.proofs.Growing.{pairs_then}
 use Rattle.since.proofs.add_lasting.Given as goal
 
 -- `add_lasting` meets its contract: each row of the run for which left passes is put in at the age.

@@ -2,7 +2,6 @@
 use mathlib.Core.Path.{sym, ◌∙◌}
 use mathlib.Core.Bool.{and-true, and-false}
 use lib.Dec.{ltb}
-use borrow.Author.Rules.{rules}
 use Rattle.pairs.proofs.Adding.{add_none}
 use Rattle.since.proofs.add_older.Goals as goal
 

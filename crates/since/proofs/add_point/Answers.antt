@@ -3,7 +3,6 @@ use Prim.Native.Nat.{◌+◌}
 use native.Mathlib.Omega.{arith}
 use mathlib.Core.Path.{ap, ◌∙◌}
 use mathlib.Core.List.{◌∷◌, map}
-use borrow.Author.Rules.{rules}
 use Rattle.meaning.specs.Lists.{select}
 use Rattle.meaning.specs.Log.{point}
 use Rattle.room.specs.Room.{set_at}

@@ -1,6 +1,5 @@
 -- `bounds_of` meets its contract, with no end and with one.
 use mathlib.Core.Path.{refl}
-use borrow.Author.Rules.{rules}
 use borrow.Author.Tests.{eq-eqb, ne_eqb}
 use Rattle.since.proofs.bounds_of.Goals as goal
 

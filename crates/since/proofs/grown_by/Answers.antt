@@ -1,9 +1,7 @@
 -- `grown_by` meets its contract: the first point has none before it.
 use mathlib.Core.Path.{ap₂, ◌∙◌}
-use borrow.Author.Rules.{rules}
 use borrow.Author.Tests.{eq-eqb, ne_eqb}
 use Rattle.meaning.specs.Log.{elapsed}
-use Rattle.meaning.specs.Order.{before}
 use Rattle.since.proofs.grown_by.Goals as goal
 
 pub returns-then-start-eq0 : goal.returns-then-start-eq0

@@ -2,7 +2,6 @@
 use Prim.Native.Nat.{ℕ, ◌+◌}
 use mathlib.Core.Path.{refl}
 use mathlib.Core.List.{List}
-use borrow.Author.Rules.{rules}
 use Rattle.meaning.specs.Log.{point}
 use Rattle.meaning.specs.declared.Point.{Point}
 use Rattle.method.specs.Stored.{stamp_in}

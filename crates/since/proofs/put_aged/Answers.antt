@@ -3,7 +3,6 @@ use native.Mathlib.Omega.{arith}
 use mathlib.Core.Path.{subst, ◌∙◌}
 use mathlib.Core.Bool.{true}
 use lib.ListN.{length}
-use borrow.Author.Rules.{rules}
 use Rattle.pairs.proofs.Ascents.{rising}
 use Rattle.since.specs.Since.{RowsPut}
 use Rattle.since.proofs.Held.{rows_run, rows_bound}

@@ -3,18 +3,16 @@ use Prim.Native.Nat.{ℕ, ◌+◌, ◌-◌, ◌<◌}
 use native.Mathlib.Omega.{arith}
 use mathlib.Core.Path.{refl, ap}
 use mathlib.Core.Bool.{cond}
-use mathlib.Core.List.{List, [], map}
-use borrow.Author.Rules.{rules}
-use Rattle.meaning.specs.Lists.{range}
+use mathlib.Core.List.{List, []}
 use Rattle.meaning.specs.Log.{point}
 use Rattle.meaning.specs.declared.Point.{Point}
 use Rattle.meaning.specs.declared.Stamp.{Stamp}
 use Rattle.method.specs.Stored.{stamp_in}
-use Rattle.rowset.proofs.Growing.{ended, Through, begun_all, turned, added_as}
+use Rattle.rowset.proofs.Growing.{ended, begun_all, turned, added_as}
 use Rattle.room.specs.Room.{set_at}
 use Rattle.untils.proofs.Spans.{stand_part}
 use Rattle.untils.proofs.Passing.{due_read}
-use Rattle.since.proofs.Fresh.{lasting_to, rows_over, rows_of, rows_one, rows_fresh}
+use Rattle.since.proofs.Fresh.{lasting_to, rows_of, rows_one, rows_fresh}
 use Rattle.since.proofs.put_fresh.Goals as goal
 
 pub overflow_sub-count : goal.overflow_sub-count

@@ -1,19 +1,11 @@
-use Prim.Native.Nat.{ℕ, ◌+◌, ◌-◌, ◌<◌}
-use native.Mathlib.Omega.{arith}
-use mathlib.Core.Path.{refl, ap}
-use mathlib.Core.Bool.{cond}
-use mathlib.Core.List.{List, [], map}
-use borrow.Author.Rules.{rules}
+use Prim.Native.Nat.{◌-◌}
+use mathlib.Core.List.{map}
 use Rattle.meaning.specs.Lists.{range}
 use Rattle.meaning.specs.Log.{point}
-use Rattle.meaning.specs.declared.Point.{Point}
-use Rattle.meaning.specs.declared.Stamp.{Stamp}
 use Rattle.method.specs.Stored.{stamp_in}
-use Rattle.rowset.proofs.Growing.{ended, Through, begun_all, turned, added_as}
+use Rattle.rowset.proofs.Growing.{Through}
 use Rattle.room.specs.Room.{set_at}
-use Rattle.untils.proofs.Spans.{stand_part}
-use Rattle.untils.proofs.Passing.{due_read}
-use Rattle.since.proofs.Fresh.{lasting_to, rows_over, rows_of, rows_one, rows_fresh}
+use Rattle.since.proofs.Fresh.{rows_over}
 use Rattle.since.proofs.put_fresh.Given as goal
 
 -- `put_fresh` meets its contract: each point from i back to start puts in what it gives.

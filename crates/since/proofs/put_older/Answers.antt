@@ -1,15 +1,14 @@
 -- `put_older` meets its contract: the row of each held pair that stays is put in.
-use Prim.Native.Nat.{◌+◌, ◌-◌}
+use Prim.Native.Nat.{◌+◌}
 use native.Mathlib.Omega.{arith}
 use mathlib.Core.Path.{refl}
 use lib.ListN.{length}
-use borrow.Author.Rules.{rules}
 use Rattle.meaning.specs.Log.{point}
-use Rattle.rowset.proofs.Growing.{Gathering, gathers_all, gather_from, gather_room, ended, added_as, made_more}
-use Rattle.kinds.specs.Kinds.{pair_at, pairs_from}
+use Rattle.rowset.proofs.Growing.{gathers_all, gather_from, gather_room, ended, added_as, made_more}
+use Rattle.kinds.specs.Kinds.{pairs_from}
 use Rattle.room.specs.Room.{set_at}
 use Rattle.untils.specs.Until.{leads}
-use Rattle.since.proofs.Held.{bound_rows, row_turned, rows_bound}
+use Rattle.since.proofs.Held.{row_turned, rows_bound}
 use Rattle.since.proofs.put_older.Goals as goal
 
 pub loop-x-init : goal.loop-x-init

@@ -1,14 +1,9 @@
-use Prim.Native.Nat.{◌+◌, ◌-◌}
-use native.Mathlib.Omega.{arith}
-use mathlib.Core.Path.{refl}
-use lib.ListN.{length}
-use borrow.Author.Rules.{rules}
-use Rattle.meaning.specs.Log.{point}
-use Rattle.rowset.proofs.Growing.{Gathering, gathers_all, gather_from, gather_room, ended, added_as, made_more}
+use Prim.Native.Nat.{◌-◌}
+use Rattle.rowset.proofs.Growing.{Gathering}
 use Rattle.kinds.specs.Kinds.{pair_at, pairs_from}
 use Rattle.room.specs.Room.{set_at}
 use Rattle.untils.specs.Until.{leads}
-use Rattle.since.proofs.Held.{bound_rows, row_turned, rows_bound}
+use Rattle.since.proofs.Held.{bound_rows}
 use Rattle.since.proofs.put_older.Given as goal
 
 -- `put_older` meets its contract: the row of each held pair that stays is put in.

@@ -2,7 +2,6 @@
 use Prim.Native.Nat.{◌+◌}
 use native.Mathlib.Omega.{arith}
 use mathlib.Core.Path.{ap}
-use borrow.Author.Rules.{rules}
 use Rattle.meaning.specs.Lists.{select}
 use Rattle.meaning.specs.Log.{point}
 use Rattle.rowset.proofs.Growing.{added_none, added_as}

@@ -1,9 +1,7 @@
 -- `put_run` meets its contract: run by run, from the last, all rows are put in.
-use Prim.Native.Nat.{◌≤◌}
 use native.Mathlib.Omega.{arith}
-use borrow.Author.Rules.{rules}
 use Rattle.rowset.proofs.Growing.{gather_room}
-use Rattle.since.proofs.FromBack.{FromBack, none_yet, run_more, all_put}
+use Rattle.since.proofs.FromBack.{none_yet, run_more, all_put}
 use Rattle.since.proofs.put_run.Goals as goal
 
 pub loop-x-init : goal.loop-x-init

@@ -1,8 +1,5 @@
 use Prim.Native.Nat.{◌≤◌}
-use native.Mathlib.Omega.{arith}
-use borrow.Author.Rules.{rules}
-use Rattle.rowset.proofs.Growing.{gather_room}
-use Rattle.since.proofs.FromBack.{FromBack, none_yet, run_more, all_put}
+use Rattle.since.proofs.FromBack.{FromBack}
 use Rattle.since.proofs.put_run.Given as goal
 
 -- `put_run` meets its contract: run by run, from the last, all rows are put in.

@@ -1,9 +1,7 @@
 -- `rows_at` meets its contract: right's rows, and then those of the held pairs, are put into nothing; where nothing is asked of left, every row passes.
 use Prim.Native.Nat.{ℕ, ◌+◌}
-use native.Mathlib.Omega.{arith}
 use mathlib.Core.Path.{◌≡◌, refl, sym, ap, subst, ◌∙◌}
 use mathlib.Core.List.{List, [], ◌++◌}
-use borrow.Author.Rules.{rules}
 use Rattle.meaning.specs.Log.{point}
 use Rattle.meaning.specs.Evaluator.{insert, insert_all, set_of}
 use Rattle.meaning.specs.declared.Point.{Point}

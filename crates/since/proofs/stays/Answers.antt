@@ -1,6 +1,5 @@
 -- `stays` meets its contract: the age is tested first, then left.
 use mathlib.Core.Path.{sym, ◌∙◌}
-use borrow.Author.Rules.{rules}
 use Rattle.since.proofs.stays.Goals as goal
 
 pub returns-then-within : goal.returns-then-within

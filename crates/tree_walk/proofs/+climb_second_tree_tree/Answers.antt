@@ -1,17 +1,14 @@
 -- `climb`, `second_tree` and `tree` meet their contracts: `climb` calls `second_tree` on a lower node, that calls `tree` on its own, and `tree` calls `climb` on nodes that are no higher.
-use Prim.Native.Nat.{ℕ, ◌+◌, ◌-◌, ◌*◌, ◌≤◌, ◌<◌}
+use Prim.Native.Nat.{◌-◌, ◌<◌}
 use native.Mathlib.Omega.{arith}
 use mathlib.Core.Path.{◌≡◌, refl, sym, ap, ◌∙◌}
 use mathlib.Core.List.{[], ◌∷◌}
-use lib.ListN.{get_or}
-use borrow.Author.Rules.{rules}
 use Rattle.meaning.specs.RuleFile.{node_at, children_of}
 use Rattle.meaning.specs.View.{children_in}
-use Rattle.node_step.specs.Figures.{called}
 use Rattle.tree_walk.proofs.Trees.{head_there}
 use Rattle.tree_walk.proofs.Arms.{TwoOrdered, none_room, none_walks, weights_there, figure_there, sets_figured, stood_figured, low_first, first_calm, one_inside, one_room, one_stand, one_out, one_climbs, one_stuck, two_lower, two_ordered, first_inside, second_lower, second_inside, second_ready, first_few, two_few, two_room, two_stand, two_out, two_stuck, two_climbs}
 use Rattle.tree_walk.proofs.Paths.{path_low}
-use Rattle.tree_walk.proofs.Spine.{Climbed, climbed_none, climbed_more, path_first, path_inside, leaf_room, path_walks, path_walked, path_end}
+use Rattle.tree_walk.proofs.Spine.{climbed_none, climbed_more, path_first, path_inside, leaf_room, path_walks, path_walked, path_end}
 use Rattle.tree_walk.proofs.+climb_second_tree_tree.Goals as goal
 
 pub climb-children_at-children-requires : goal.climb-children_at-children-requires

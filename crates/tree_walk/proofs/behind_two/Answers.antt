@@ -1,5 +1,4 @@
 -- `behind_two` meets its contract.
-use borrow.Author.Rules.{rules}
 use Rattle.tree_walk.proofs.behind_two.Goals as goal
 
 pub returns-then-swapped : goal.returns-then-swapped

@@ -1,11 +1,11 @@
 -- `descend` meets its contract: each node is lower than the one before it.
-use Prim.Native.Nat.{◌+◌, ◌≤◌}
+use Prim.Native.Nat.{◌+◌}
 use native.Mathlib.Omega.{arith}
-use mathlib.Core.Path.{◌≡◌, refl, ◌∙◌}
-use lib.ListN.{length, get_or, length-set}
+use mathlib.Core.Path.{refl, ◌∙◌}
+use lib.ListN.{length-set}
 use lib.Seq.{get_or-set_same}
 use Rattle.meaning.proofs.Accepted.{nodes_most}
-use Rattle.tree_walk.proofs.Paths.{Noted, noted_none, noted_more, noted_all}
+use Rattle.tree_walk.proofs.Paths.{noted_none, noted_more, noted_all}
 use Rattle.tree_walk.proofs.descend.Goals as goal
 
 pub bounds-path-0 : goal.bounds-path-0

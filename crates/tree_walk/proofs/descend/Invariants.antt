@@ -1,10 +1,7 @@
-use Prim.Native.Nat.{◌+◌, ◌≤◌}
-use native.Mathlib.Omega.{arith}
-use mathlib.Core.Path.{◌≡◌, refl, ◌∙◌}
-use lib.ListN.{length, get_or, length-set}
-use lib.Seq.{get_or-set_same}
-use Rattle.meaning.proofs.Accepted.{nodes_most}
-use Rattle.tree_walk.proofs.Paths.{Noted, noted_none, noted_more, noted_all}
+use Prim.Native.Nat.{◌≤◌}
+use mathlib.Core.Path.{◌≡◌}
+use lib.ListN.{length, get_or}
+use Rattle.tree_walk.proofs.Paths.{Noted}
 use Rattle.tree_walk.proofs.descend.Given as goal
 
 -- `descend` meets its contract: each node is lower than the one before it.

@@ -1,6 +1,5 @@
 -- `first_child` meets its contract.
 use native.Mathlib.Omega.{arith}
-use borrow.Author.Rules.{rules}
 use mathlib.Core.Path.{sym, ap, ◌∙◌}
 use Rattle.meaning.specs.View.{children_in}
 use Rattle.method.proofs.Bounds.{below}

@@ -1,5 +1,4 @@
 -- `ordered` meets its contract.
-use borrow.Author.Rules.{rules}
 use borrow.Author.Tests.{lt-ltb, le-ltb}
 use mathlib.Core.Path.{sym}
 use Rattle.tree_walk.proofs.ordered.Goals as goal

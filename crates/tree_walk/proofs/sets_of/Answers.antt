@@ -1,7 +1,6 @@
 -- `sets_of` meets its contract: the difference of two words fits.
 use Prim.Native.Nat.{◌+◌, ◌*◌}
 use native.Mathlib.Omega.{arith}
-use borrow.Author.Rules.{rules}
 use Rattle.tree_walk.proofs.sets_of.Goals as goal
 
 pub overflow_cast-result : goal.overflow_cast-result

@@ -1,6 +1,5 @@
 -- `stood` meets its contract.
 use borrow.Author.Tests.{ne_eqb}
-use borrow.Author.Rules.{rules}
 use Rattle.tree_walk.proofs.stood.Goals as goal
 
 pub returns-then-low-eq-NO_NODE : goal.returns-then-low-eq-NO_NODE

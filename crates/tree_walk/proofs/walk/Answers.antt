@@ -2,7 +2,6 @@
 use native.Mathlib.Omega.{arith}
 use mathlib.Core.Path.{◌∙◌}
 use lib.ListN.{length-set}
-use borrow.Author.Rules.{rules}
 use Rattle.meaning.proofs.Accepted.{accepted}
 use Rattle.tree_walk.proofs.Whole.{last_node_lem, whole_ready, whole_walked}
 use Rattle.tree_walk.proofs.walk.Goals as goal

@@ -1,6 +1,5 @@
 -- `due` meets its contract: one result put into the other.
 use mathlib.Core.Path.{ap, ◌∙◌}
-use borrow.Author.Rules.{rules}
 use Rattle.meaning.specs.Formula.{in_window}
 use Rattle.untils.proofs.due.Goals as goal
 

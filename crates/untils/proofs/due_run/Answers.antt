@@ -1,13 +1,9 @@
 -- `due_run` meets its contract. The loop's invariant: the points from j on before k are due as is wanted.
-use Prim.Native.Nat.{◌-◌}
-use native.Mathlib.Omega.{arith}
 use mathlib.Core.Path.{refl, sym, ◌∙◌}
-use borrow.Author.Rules.{rules}
-use Rattle.meaning.specs.Log.{point}
 use Rattle.method.specs.Stored.{stamp_in}
 use Rattle.untils.specs.Until.{due_at}
 use Rattle.untils.proofs.Passing.{due_read}
-use Rattle.untils.proofs.DueRuns.{Passing, passing_none, passing_more, passing_stops, passing_all, same_value, other_value}
+use Rattle.untils.proofs.DueRuns.{passing_none, passing_more, passing_stops, passing_all, same_value, other_value}
 use Rattle.untils.proofs.due_run.Goals as goal
 
 pub loop-k-init : goal.loop-k-init

@@ -1,6 +1,5 @@
 -- `due_there` meets its contract: the marks decide first whether the window is asked.
 use mathlib.Core.Path.{refl}
-use borrow.Author.Rules.{rules}
 use Rattle.method.specs.Stored.{stamp_in}
 use Rattle.untils.specs.Until.{due_at}
 use Rattle.untils.proofs.Passing.{due_read, none_there, some_there}

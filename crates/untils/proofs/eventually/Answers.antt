@@ -1,5 +1,5 @@
 -- `eventually` meets its contract. The loop's invariant: the points before j are taken.
-use Prim.Native.Nat.{◌+◌, ◌-◌, ◌≤◌, ◌<◌}
+use Prim.Native.Nat.{◌+◌, ◌-◌}
 use native.Mathlib.Omega.{arith}
 use mathlib.Core.Bool.{true, false}
 use lib.ListN.{length}
@@ -8,7 +8,7 @@ use Rattle.meaning.specs.Log.{point}
 use Rattle.method.specs.Stored.{stamp_in}
 use Rattle.room.specs.Room.{set_at}
 use Rattle.untils.specs.Until.{due_at, DueRun}
-use Rattle.untils.proofs.DueRuns.{RunLaid, run_laid, joined, joined_run, goes_on, Going, going_none, going_more, going_all}
+use Rattle.untils.proofs.DueRuns.{RunLaid, run_laid, joined, joined_run, goes_on, going_none, going_more, going_all}
 use Rattle.untils.proofs.eventually.Goals as goal
 
 pub loop-j-init : goal.loop-j-init

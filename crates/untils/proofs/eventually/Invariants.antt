@@ -1,13 +1,8 @@
-use Prim.Native.Nat.{◌+◌, ◌-◌, ◌≤◌, ◌<◌}
-use native.Mathlib.Omega.{arith}
-use mathlib.Core.Bool.{true, false}
-use lib.ListN.{length}
-use borrow.Author.Rules.{rules}
+use Prim.Native.Nat.{◌-◌}
 use Rattle.meaning.specs.Log.{point}
 use Rattle.method.specs.Stored.{stamp_in}
 use Rattle.room.specs.Room.{set_at}
-use Rattle.untils.specs.Until.{due_at, DueRun}
-use Rattle.untils.proofs.DueRuns.{RunLaid, run_laid, joined, joined_run, goes_on, Going, going_none, going_more, going_all}
+use Rattle.untils.proofs.DueRuns.{Going}
 use Rattle.untils.proofs.eventually.Given as goal
 
 -- `eventually` meets its contract. The loop's invariant: the points before j are taken.

@@ -1,6 +1,5 @@
 -- `found_at` meets its contract: the part that is looked through is the set.
 use mathlib.Core.Path.{ap, ◌∙◌}
-use borrow.Author.Rules.{rules}
 use Rattle.meaning.specs.LookUp.{look_up, is_there}
 use Rattle.rowset.specs.Rows.{words_of}
 use Rattle.untils.proofs.Spans.{set_run, set_read}

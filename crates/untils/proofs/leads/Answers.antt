@@ -1,7 +1,6 @@
 -- `leads` meets its contract: where something is asked, it is asked of the row cut down to left's variables.
 use Prim.Native.Nat.{◌-◌}
 use mathlib.Core.Path.{ap, ◌∙◌}
-use borrow.Author.Rules.{rules}
 use Rattle.meaning.specs.Lists.{all}
 use Rattle.meaning.specs.Log.{points_from}
 use Rattle.meaning.specs.Evaluator.{cut_to, valuation_of}

@@ -1,16 +1,10 @@
 use Prim.Native.Nat.{◌-◌, ◌≤◌}
-use native.Mathlib.Omega.{arith}
-use mathlib.Core.Path.{◌≡◌, refl, sym, ◌∙◌}
-use borrow.Author.Tests.{not-true, not-false}
-use borrow.Author.Rules.{rules}
+use mathlib.Core.Path.{◌≡◌}
 use Rattle.meaning.specs.Lists.{all}
 use Rattle.meaning.specs.Log.{point, points_from}
-use Rattle.meaning.specs.declared.Left.{Left}
 use Rattle.rowset.specs.Rows.{words_of}
 use Rattle.room.specs.Room.{set_at}
 use Rattle.untils.specs.Until.{passes_at}
-use Rattle.untils.proofs.Spans.{stand_part}
-use Rattle.untils.proofs.Passing.{all_more, all_stops, all_ends, passes_as}
 use Rattle.untils.proofs.passes_from.Given as goal
 
 -- `passes_from` meets its contract: the test from the first point on is the test from point k on, until it fails at one or none is left.

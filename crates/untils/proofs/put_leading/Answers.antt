@@ -1,13 +1,10 @@
 -- `put_leading` meets its contract: each row of the run for which left passes is put in.
-use Prim.Native.Nat.{ℕ, ◌-◌}
-use native.Mathlib.Omega.{arith}
+use Prim.Native.Nat.{ℕ}
 use mathlib.Core.Path.{refl}
 use mathlib.Core.Bool.{Bool, cond}
 use mathlib.Core.List.{List, [], ◌∷◌}
-use borrow.Author.Rules.{rules}
-use Rattle.meaning.specs.Lists.{select}
-use Rattle.rowset.specs.Rows.{row_at, rows_from}
-use Rattle.rowset.proofs.Growing.{Gathering, gathers_from, gathers_on, gather_from, gather_room, ended, select_one, chosen}
+use Rattle.rowset.specs.Rows.{rows_from}
+use Rattle.rowset.proofs.Growing.{gathers_from, gathers_on, gather_from, gather_room, ended, select_one, chosen}
 use Rattle.room.specs.Room.{set_at}
 use Rattle.untils.specs.Until.{leads}
 use Rattle.untils.proofs.put_leading.Goals as goal

@@ -1,12 +1,7 @@
-use Prim.Native.Nat.{ℕ, ◌-◌}
-use native.Mathlib.Omega.{arith}
-use mathlib.Core.Path.{refl}
-use mathlib.Core.Bool.{Bool, cond}
-use mathlib.Core.List.{List, [], ◌∷◌}
-use borrow.Author.Rules.{rules}
+use Prim.Native.Nat.{◌-◌}
 use Rattle.meaning.specs.Lists.{select}
 use Rattle.rowset.specs.Rows.{row_at, rows_from}
-use Rattle.rowset.proofs.Growing.{Gathering, gathers_from, gathers_on, gather_from, gather_room, ended, select_one, chosen}
+use Rattle.rowset.proofs.Growing.{Gathering}
 use Rattle.room.specs.Room.{set_at}
 use Rattle.untils.specs.Until.{leads}
 use Rattle.untils.proofs.put_leading.Given as goal

@@ -1,6 +1,5 @@
 -- `put_point_if` meets its contract: the test decides, and the part that is read is right's set.
 use mathlib.Core.Path.{refl, ap}
-use borrow.Author.Rules.{rules}
 use Rattle.meaning.specs.Lists.{select}
 use Rattle.rowset.proofs.Growing.{added_as}
 use Rattle.room.specs.Room.{set_at}

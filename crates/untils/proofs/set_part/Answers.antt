@@ -1,7 +1,6 @@
 -- `set_part` meets its contract: the two marks are words of the slice.
 use Prim.Native.Nat.{◌+◌, ◌-◌}
 use native.Mathlib.Omega.{arith}
-use borrow.Author.Rules.{rules}
 use Rattle.untils.proofs.set_part.Goals as goal
 
 pub overflow_cast-result : goal.overflow_cast-result

@@ -1,5 +1,5 @@
 -- `until` meets its contract: each point from i on before m puts in what it gives.
-use Prim.Native.Nat.{ℕ, ◌+◌, ◌-◌, ◌≤◌}
+use Prim.Native.Nat.{ℕ, ◌+◌, ◌-◌}
 use native.Mathlib.Omega.{arith}
 use mathlib.Core.Path.{refl}
 use mathlib.Core.Bool.{Bool}
@@ -7,15 +7,14 @@ use mathlib.Core.List.{List}
 use lib.ListN.{get_or}
 use borrow.Author.Rules.{rules}
 use Rattle.meaning.specs.Log.{point}
-use Rattle.meaning.specs.Evaluator.{until_rows}
 use Rattle.meaning.specs.declared.Point.{Point}
 use Rattle.meaning.specs.declared.Stamp.{Stamp}
 use Rattle.method.specs.Stored.{stamp_in}
-use Rattle.rowset.proofs.Growing.{Through, begun, turned, ended}
+use Rattle.rowset.proofs.Growing.{begun, turned, ended}
 use Rattle.room.specs.Room.{set_at}
 use Rattle.untils.specs.Until.{left_test}
 use Rattle.untils.proofs.Spans.{stand_part, set_none}
-use Rattle.untils.proofs.Passing.{over_points, at_point, point_one, point_there}
+use Rattle.untils.proofs.Passing.{at_point, point_one, point_there}
 use Rattle.untils.proofs.until.Goals as goal
 
 pub loop-j-init : goal.loop-j-init

@@ -1,11 +1,6 @@
 -- `first_wanted` meets its contract, by the times that are read of the node.
-use mathlib.Core.Path.{◌≡◌, refl, sym, ap, ◌∙◌}
-use borrow.Author.Rules.{rules}
+use mathlib.Core.Path.{refl, sym, ap, ◌∙◌}
 use Rattle.meaning.specs.Log.{point}
-use Rattle.meaning.specs.View.{view_of}
-use Rattle.meaning.specs.RuleFile.{node_at}
-use Rattle.meaning.specs.declared.Point.{Point}
-use Rattle.meaning.specs.declared.Times.{Times}
 use Rattle.method.specs.Step.{first_wanted}
 use Rattle.wanted.proofs.first_wanted.Goals as goal
 

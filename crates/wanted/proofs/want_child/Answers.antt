@@ -1,5 +1,4 @@
 -- `want_child` meets its contract: one word is put in.
-use borrow.Author.Rules.{rules}
 use Rattle.wanted.proofs.Handed.{wants_child}
 use Rattle.wanted.proofs.want_child.Goals as goal
 

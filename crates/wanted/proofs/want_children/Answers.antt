@@ -2,7 +2,6 @@
 use native.Mathlib.Omega.{arith}
 use mathlib.Core.List.Memᴰ
 use mathlib.Core.Path.{refl}
-use borrow.Author.Rules.{rules}
 use Rattle.wanted.proofs.Handed.{wants_none, wants_one, wants_two}
 use Rattle.wanted.proofs.want_children.Goals as goal
 

@@ -1,12 +1,10 @@
 -- `wanted` meets its contract. The loop keeps `Handed`: the children of the nodes passed so far have their words.
-use Prim.Native.Nat.{◌≤◌, ◌<◌, ◌-◌}
+use Prim.Native.Nat.{◌<◌}
 use native.Mathlib.Omega.{arith}
-use mathlib.Core.Path.{◌≡◌}
-use lib.ListN.{length}
 use borrow.Author.Rules.{rules}
 use Rattle.meaning.specs.RuleFile.{node_count}
 use Rattle.meaning.proofs.Accepted.{accepted, lower, nodes_most, last_is_node}
-use Rattle.wanted.proofs.Handed.{Handed, handed_none, handed_more, handed_all}
+use Rattle.wanted.proofs.Handed.{handed_none, handed_more, handed_all}
 use Rattle.wanted.proofs.wanted.Goals as goal
 
 pub bounds-rule-2 : goal.bounds-rule-2

@@ -1,11 +1,8 @@
-use Prim.Native.Nat.{◌≤◌, ◌<◌, ◌-◌}
-use native.Mathlib.Omega.{arith}
+use Prim.Native.Nat.{◌≤◌, ◌-◌}
 use mathlib.Core.Path.{◌≡◌}
 use lib.ListN.{length}
-use borrow.Author.Rules.{rules}
 use Rattle.meaning.specs.RuleFile.{node_count}
-use Rattle.meaning.proofs.Accepted.{accepted, lower, nodes_most, last_is_node}
-use Rattle.wanted.proofs.Handed.{Handed, handed_none, handed_more, handed_all}
+use Rattle.wanted.proofs.Handed.{Handed}
 use Rattle.wanted.proofs.wanted.Given as goal
 
 -- `wanted` meets its contract. The loop keeps `Handed`: the children of the nodes passed so far have their words.

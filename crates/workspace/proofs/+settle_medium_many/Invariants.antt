@@ -1,10 +1,5 @@
 -- `settle_medium_many` meets its contract: it never calls itself, and its room is enough.
-use Prim.Native.Nat.{ℕ, ◌<◌}
-use native.Mathlib.Omega.{arith}
-use mathlib.Core.Path.{refl}
-use Rattle.call.proofs.Calls.{nodes_few}
 use Rattle.workspace.proofs.+settle_medium_many.Given as goal
 
 abbrev pub decreases-settle_medium_many : goal.decreases-settle_medium_many
 decreases-settle_medium_many l = l.again
-

@@ -1,5 +1,4 @@
 -- `done` meets its contract: the call was settled.
-use borrow.Author.Rules.{rules}
 use Rattle.workspace.proofs.done.Goals as goal
 
 pub returns-in-Full : goal.returns-in-Full

@@ -3,7 +3,6 @@ use Prim.Native.Nat.{◌*◌, ◌≤◌}
 use lib.ListN.{length}
 use native.Mathlib.Omega.{arith}
 use mathlib.Core.Path.{◌∙◌}
-use borrow.Author.Rules.{rules}
 use Rattle.method.specs.Room.{rows_needed, marks_needed, marks_to_time}
 use Rattle.call.proofs.Calls.{again_ready, again_so, again_settled}
 use Rattle.workspace.proofs.Enough.{stamps_few, marks_by_times}

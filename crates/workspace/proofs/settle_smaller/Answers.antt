@@ -1,7 +1,6 @@
 -- `settle_smaller` meets its contract: each room is tried where it has what the call needs, and where none has, nothing is done.
 use native.Mathlib.Omega.{arith}
 use mathlib.Core.Path.{refl}
-use borrow.Author.Rules.{rules}
 use Rattle.workspace.proofs.settle_smaller.Goals as goal
 
 pub settle_small_few-requires : goal.settle_small_few-requires

@@ -1,5 +1,4 @@
 -- The mark after the last point's set.
-use borrow.Author.Rules.{rules}
 use Rattle.writer.proofs.end_row.Goals as goal
 
 pub returns : goal.returns

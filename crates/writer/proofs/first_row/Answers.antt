@@ -1,5 +1,4 @@
 -- The mark of the first point's set.
-use borrow.Author.Rules.{rules}
 use Rattle.writer.proofs.first_row.Goals as goal
 
 pub returns : goal.returns

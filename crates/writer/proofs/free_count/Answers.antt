@@ -1,7 +1,6 @@
 -- Each variable that is free counts one.
 use mathlib.Core.Path.{◌∙◌}
 use native.Mathlib.Omega.{arith}
-use borrow.Author.Rules.{rules}
 use Rattle.writer.proofs.Reports.{count_four}
 use Rattle.writer.proofs.free_count.Goals as goal
 

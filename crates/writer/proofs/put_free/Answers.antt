@@ -1,7 +1,6 @@
 -- The word is written where the variable is free, and else nothing is.
 use mathlib.Core.List.{[], ◌∷◌}
 use mathlib.Core.Path.{sym, ◌∙◌}
-use borrow.Author.Rules.{rules}
 use Rattle.writer.proofs.Putting.{put_passed, put_failed}
 use Rattle.writer.proofs.put_free.Goals as goal
 

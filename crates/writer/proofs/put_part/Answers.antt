@@ -1,7 +1,6 @@
 -- Each part is written by its own function.
 use native.Mathlib.Omega.{arith}
 use mathlib.Core.Path.{sym}
-use borrow.Author.Rules.{rules}
 use Rattle.writer.proofs.Putting.{put_long}
 use Rattle.writer.proofs.Reports.{rows_ordered, marked}
 use Rattle.writer.proofs.put_part.Goals as goal

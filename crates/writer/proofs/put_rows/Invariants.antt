@@ -1,13 +1,10 @@
 use Prim.Native.Nat.{ℕ, ◌-◌, ◌≤◌}
-use native.Mathlib.Omega.{arith}
-use mathlib.Core.Path.{ap}
 use mathlib.Core.List.{List}
 use Rattle.meaning.specs.Lists.{range, gather}
 use Rattle.meaning.specs.Keeper.{report_row}
 use Rattle.rowset.specs.Rows.{row_at, rows_from}
 use Rattle.kinds.specs.Kinds.{in_mask}
-use Rattle.writer.proofs.Putting.{Putting, put_long, putting_none, turn_room, turn_more, turn_all}
-use Rattle.writer.proofs.Reports.{gather_rows}
+use Rattle.writer.proofs.Putting.{Putting}
 use Rattle.writer.proofs.put_rows.Given as goal
 
 -- After each turn the words of one row more are written.

@@ -1,5 +1,4 @@
 -- Three words, one after the other.
-use borrow.Author.Rules.{rules}
 use Rattle.writer.proofs.Putting.{put_then}
 use Rattle.writer.proofs.put_three.Goals as goal
 

@@ -1,15 +1,12 @@
 -- After each turn the triple of one point more is written.
-use Prim.Native.Nat.{ℕ, ◌+◌, ◌-◌, ◌≤◌}
+use Prim.Native.Nat.{◌+◌, ◌-◌}
 use native.Mathlib.Omega.{arith}
 use mathlib.Core.Path.{◌≡◌, refl, sym, ◌∙◌, ap}
-use mathlib.Core.List.{List}
-use borrow.Author.Rules.{rules}
 use Rattle.meaning.specs.Lists.{range, gather}
 use Rattle.meaning.specs.Log.{point}
 use Rattle.method.proofs.Lists.{gather_map}
-use Rattle.writer.specs.declared.Points.{Points}
-use Rattle.writer.specs.Words.{triple_at, triples}
-use Rattle.writer.proofs.Putting.{Putting, put_long, putting_none, turn_room, turn_more, turn_all}
+use Rattle.writer.specs.Words.{triple_at}
+use Rattle.writer.proofs.Putting.{put_long, putting_none, turn_room, turn_more, turn_all}
 use Rattle.writer.proofs.Reports.{triple_same}
 use Rattle.writer.proofs.put_triples.Goals as goal
 use Rattle.writer.proofs.put_triples.Invariants.{give}

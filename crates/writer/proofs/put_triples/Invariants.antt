@@ -1,15 +1,11 @@
 use Prim.Native.Nat.{ℕ, ◌+◌, ◌-◌, ◌≤◌}
-use native.Mathlib.Omega.{arith}
-use mathlib.Core.Path.{◌≡◌, refl, sym, ◌∙◌, ap}
+use mathlib.Core.Path.{◌≡◌}
 use mathlib.Core.List.{List}
-use borrow.Author.Rules.{rules}
 use Rattle.meaning.specs.Lists.{range, gather}
 use Rattle.meaning.specs.Log.{point}
-use Rattle.method.proofs.Lists.{gather_map}
 use Rattle.writer.specs.declared.Points.{Points}
 use Rattle.writer.specs.Words.{triple_at, triples}
-use Rattle.writer.proofs.Putting.{Putting, put_long, putting_none, turn_room, turn_more, turn_all}
-use Rattle.writer.proofs.Reports.{triple_same}
+use Rattle.writer.proofs.Putting.{Putting}
 use Rattle.writer.proofs.put_triples.Given as goal
 
 -- After each turn the triple of one point more is written.

@@ -1,6 +1,5 @@
 -- The rows between the two marks, which don't fall.
 use native.Mathlib.Omega.{arith}
-use borrow.Author.Rules.{rules}
 use Rattle.writer.proofs.Reports.{rows_ordered}
 use Rattle.writer.proofs.row_count.Goals as goal
 
