@@ -1,6 +1,5 @@
 -- `put_file` meets its contract: the file's answer is that of its first 653 bytes.
 use native.Mathlib.Nat.{sub-zero}
-use borrow.Author.Rules.{rules}
 use Rattle.checkrule.proofs.Files.{first_enough}
 use Rattle.checkrule.proofs.put_file.Goals as goal
 

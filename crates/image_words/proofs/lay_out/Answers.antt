@@ -1,7 +1,6 @@
 -- `lay_out` meets its contract: each way out is of sizes that no image has.
 use native.Mathlib.Omega.{arith}
 use mathlib.Core.Path.{refl}
-use borrow.Author.Rules.{rules}
 use Rattle.image_words.proofs.Reading.{no_image}
 use Rattle.image_words.proofs.lay_out.Goals as goal
 
@@ -31,11 +30,11 @@ returns-then-n-at-gt-RULE_WORDS c = no_image _ (λ h. omega (arith, h.rule_fits,
 
 pub returns : goal.returns
 returns c = record {
-      version = c.if-image-ne-VERSION.false;
-      kept_are = refl;
-      retained_are = refl;
-      few_kept = omega arith;
-      few_times = omega arith;
-      within = omega arith;
-      rule_fits = omega arith;
-    }
+  version = c.if-image-ne-VERSION.false;
+  kept_are = refl;
+  retained_are = refl;
+  few_kept = omega arith;
+  few_times = omega arith;
+  within = omega arith;
+  rule_fits = omega arith;
+}

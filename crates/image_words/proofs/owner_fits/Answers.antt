@@ -1,5 +1,4 @@
 -- `owner_fits` meets its contract: a node out of bounds makes the whole test false.
-use borrow.Author.Rules.{rules}
 use borrow.Author.Tests.{lt-ltb, le-ltb}
 use Rattle.image_words.proofs.owner_fits.Goals as goal
 

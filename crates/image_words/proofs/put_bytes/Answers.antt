@@ -1,10 +1,7 @@
 -- `put_bytes` meets its contract. The loop's invariant: the bytes of the first k words are put.
-use Prim.Native.Nat.{◌-◌, ◌≤◌}
 use native.Mathlib.Omega.{arith}
-use mathlib.Core.Path.{◌≡◌}
-use lib.ListN.{length, get_or}
+use lib.ListN.{get_or}
 use borrow.Author.Rules.{rules}
-use Rattle.call.specs.Blocks.{ListPut}
 use Rattle.entries.proofs.Putting.{put_none}
 use Rattle.image_words.proofs.Reading.{bytes_to, bytes_more, bytes_all}
 use Rattle.image_words.proofs.put_bytes.Goals as goal

@@ -1,5 +1,4 @@
 -- `put_image` meets its contract: the parts of the image, one behind the other.
-use borrow.Author.Rules.{rules}
 use Rattle.image_words.proofs.Saving.{image_put}
 use Rattle.image_words.proofs.put_image.Goals as goal
 

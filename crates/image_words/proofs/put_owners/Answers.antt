@@ -1,9 +1,6 @@
 -- `put_owners` meets its contract. The loop's invariant: the words of the first k owners are put.
-use Prim.Native.Nat.{◌-◌, ◌≤◌}
 use native.Mathlib.Omega.{arith}
 use mathlib.Core.Path.{◌≡◌}
-use Rattle.call.specs.Blocks.{ListPut}
-use Rattle.image_words.specs.Parts.{owners_from}
 use Rattle.image_words.proofs.Saving.{owners_none, owners_more}
 use Rattle.image_words.proofs.put_owners.Goals as goal
 

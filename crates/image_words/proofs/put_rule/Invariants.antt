@@ -1,9 +1,6 @@
 use Prim.Native.Nat.{◌*◌, ◌-◌, ◌≤◌}
-use native.Mathlib.Omega.{arith}
-use mathlib.Core.Path.{◌≡◌}
 use Rattle.meaning.specs.RuleFile.{word_at}
 use Rattle.entries.specs.Appended.{WordsPut}
-use Rattle.entries.proofs.Putting.{put_none, put_more}
 use Rattle.image_words.proofs.put_rule.Given as goal
 
 -- `put_rule` meets its contract. The loop's invariant: the first k words are put.

@@ -2,7 +2,6 @@
 use native.Mathlib.Omega.{arith}
 use mathlib.Core.List.{[], ◌∷◌}
 use lib.ListN.{length-set}
-use borrow.Author.Rules.{rules}
 use Rattle.image.specs.Image.{image_version}
 use Rattle.image_words.proofs.Saving.{two_before}
 use Rattle.image_words.proofs.put_sizes.Goals as goal

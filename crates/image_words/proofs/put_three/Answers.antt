@@ -1,7 +1,6 @@
 -- `put_three` meets its contract: one word after the other.
 use native.Mathlib.Omega.{arith}
 use lib.ListN.{length-set}
-use borrow.Author.Rules.{rules}
 use Rattle.image_words.proofs.Saving.{three_put}
 use Rattle.image_words.proofs.put_three.Goals as goal
 

@@ -1,7 +1,6 @@
 -- `put_word` meets its contract, byte by byte.
 use native.Mathlib.Omega.{arith}
 use lib.ListN.{length-set}
-use borrow.Author.Rules.{rules}
 use Rattle.image_words.proofs.Reading.{four-put}
 use Rattle.image_words.proofs.put_word.Goals as goal
 

@@ -1,13 +1,12 @@
 -- `read_owners` meets its contract. The loop's invariant: the owners of the first k entries are read.
-use Prim.Native.Nat.{◌+◌, ◌-◌, ◌*◌, ◌≤◌, ◌<◌}
+use Prim.Native.Nat.{◌+◌, ◌*◌, ◌<◌}
 use native.Mathlib.Omega.{arith}
 use mathlib.Core.Path.{◌≡◌, sym, ◌∙◌}
 use mathlib.Core.Bool.{true}
-use lib.ListN.{length, get_or}
+use lib.ListN.{get_or}
 use borrow.Author.Rules.{rules}
-use borrow.Author.Tests.{not-true, not-false}
 use Rattle.meaning.specs.Outcome.{most_nodes}
-use Rattle.image_words.specs.Parts.{owner_fits, OwnersRead}
+use Rattle.image_words.specs.Parts.{owner_fits}
 use Rattle.image_words.proofs.Reading.{owner_small, owners_none, owners_more}
 use Rattle.image_words.proofs.read_owners.Goals as goal
 

@@ -1,13 +1,7 @@
-use Prim.Native.Nat.{◌+◌, ◌-◌, ◌*◌, ◌≤◌, ◌<◌}
-use native.Mathlib.Omega.{arith}
-use mathlib.Core.Path.{◌≡◌, sym, ◌∙◌}
-use mathlib.Core.Bool.{true}
-use lib.ListN.{length, get_or}
-use borrow.Author.Rules.{rules}
-use borrow.Author.Tests.{not-true, not-false}
-use Rattle.meaning.specs.Outcome.{most_nodes}
-use Rattle.image_words.specs.Parts.{owner_fits, OwnersRead}
-use Rattle.image_words.proofs.Reading.{owner_small, owners_none, owners_more}
+use Prim.Native.Nat.{◌-◌, ◌≤◌}
+use mathlib.Core.Path.{◌≡◌}
+use lib.ListN.{length}
+use Rattle.image_words.specs.Parts.{OwnersRead}
 use Rattle.image_words.proofs.read_owners.Given as goal
 
 -- `read_owners` meets its contract. The loop's invariant: the owners of the first k entries are read.

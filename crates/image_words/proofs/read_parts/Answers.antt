@@ -2,8 +2,6 @@
 use native.Mathlib.Omega.{arith}
 use mathlib.Core.Path.{◌≡◌, sym}
 use mathlib.Core.Bool.{true, false, false≢true}
-use borrow.Author.Rules.{rules}
-use borrow.Author.Tests.{not-true, not-false}
 use Rattle.image_words.proofs.Reading.{owner_out, image_told, entries_read}
 use Rattle.image_words.proofs.read_parts.Goals as goal
 

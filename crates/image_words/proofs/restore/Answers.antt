@@ -3,7 +3,6 @@ use native.Mathlib.Omega.{arith}
 use mathlib.Core.Path.{◌≡◌, sym, ◌∙◌}
 use mathlib.Core.Bool.{true}
 use borrow.Author.Rules.{rules}
-use borrow.Author.Tests.{not-true, not-false}
 use Rattle.lent_state.specs.Lent.{lengths_fit}
 use Rattle.lent_state.proofs.Memory.{fits_sized}
 use Rattle.image_words.specs.Parts.{SizesFit}

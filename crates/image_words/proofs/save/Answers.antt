@@ -3,8 +3,6 @@ use Prim.Native.Nat.{◌≤◌}
 use native.Mathlib.Omega.{arith}
 use mathlib.Core.Path.{◌≡◌, refl, sym, ◌∙◌}
 use mathlib.Core.Bool.{true}
-use borrow.Author.Rules.{rules}
-use borrow.Author.Tests.{not-true, not-false}
 use Rattle.meaning.specs.Outcome.{most_bytes, most_kept}
 use Rattle.method.specs.WellFormed.{most_times}
 use Rattle.figures.proofs.Slices.{front_parts, figures_out, figures_in}

@@ -1,6 +1,5 @@
 -- `store_parts` meets its contract, by the words that each copy has put.
 use native.Mathlib.Omega.{arith}
-use borrow.Author.Rules.{rules}
 use Rattle.image_words.proofs.Reading.{parts_stored}
 use Rattle.image_words.proofs.store_parts.Goals as goal
 

@@ -1,5 +1,4 @@
 -- `restore` meets its contract, by what reading in leaves in the arrays of zeros that it was lent.
-use borrow.Author.Rules.{rules}
 use Rattle.monitor.proofs.Starting.{read_into}
 use Rattle.monitor.proofs.restore.Goals as goal
 

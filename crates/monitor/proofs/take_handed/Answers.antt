@@ -1,5 +1,4 @@
 -- `take_handed` meets its contract, by what the taking leaves in the copies that it was lent.
-use borrow.Author.Rules.{rules}
 use Rattle.monitor.proofs.take_handed.Goals as goal
 
 pub take_handed-left-requires : goal.take_handed-left-requires

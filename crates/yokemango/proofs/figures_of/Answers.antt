@@ -1,6 +1,5 @@
 -- `figures_of` meets its contract, answer by answer.
 use mathlib.Core.Path.{sym, ap}
-use borrow.Author.Rules.{rules}
 use Rattle.figures.specs.Fronts.{open_of}
 use Rattle.yokemango.specs.Numbers.{figures_with}
 use Rattle.yokemango.proofs.figures_of.Goals as goal

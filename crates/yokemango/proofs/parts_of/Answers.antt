@@ -1,10 +1,7 @@
 -- `parts_of` meets its contract: an accepted rule's reach and free variables, or what `of_rule` tells.
 use mathlib.Core.Path.{sym, ap}
-use borrow.Author.Rules.{rules}
 use Rattle.rulefile.specs.Checked.{answer_of}
-use Rattle.monitor.proofs.Starting.{not_accepted}
 use Rattle.yokemango.specs.Parts.{parts_of}
-use Rattle.yokemango.proofs.Numbers.{rule_told}
 use Rattle.yokemango.proofs.parts_of.Goals as goal
 
 pub returns-in-Accepted : goal.returns-in-Accepted

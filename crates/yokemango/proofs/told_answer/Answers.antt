@@ -2,7 +2,6 @@
 use mathlib.Core.Path.{sym, ap, ◌∙◌}
 use Rattle.lent_state.specs.Lent.{answer_of}
 use Rattle.yokemango.specs.Numbers.{told_of}
-use borrow.Author.Rules.{rules}
 use Rattle.yokemango.proofs.told_answer.Goals as goal
 
 pub returns-in-Written : goal.returns-in-Written

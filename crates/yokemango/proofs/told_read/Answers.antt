@@ -1,6 +1,5 @@
 -- `told_read` meets its contract, answer by answer.
 use mathlib.Core.Path.{sym, ap}
-use borrow.Author.Rules.{rules}
 use Rattle.image_words.specs.Promises.{read_of}
 use Rattle.yokemango.specs.Numbers.{told_of}
 use Rattle.yokemango.proofs.told_read.Goals as goal

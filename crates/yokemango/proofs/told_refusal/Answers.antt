@@ -1,5 +1,4 @@
 -- `told_refusal` meets its contract by that of `of_event`.
-use borrow.Author.Rules.{rules}
 use Rattle.yokemango.proofs.Numbers.{event_told}
 use Rattle.yokemango.proofs.told_refusal.Goals as goal
 

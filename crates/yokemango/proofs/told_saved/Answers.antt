@@ -1,6 +1,5 @@
 -- `told_saved` meets its contract, answer by answer.
 use mathlib.Core.Path.{sym, ◌∙◌, ap}
-use borrow.Author.Rules.{rules}
 use Rattle.image_words.specs.Promises.{saved_of}
 use Rattle.yokemango.specs.Numbers.{told_of}
 use Rattle.yokemango.proofs.told_saved.Goals as goal

@@ -1,6 +1,5 @@
 -- `yokemango_check` meets its contract, from what `check` answers.
 use mathlib.Core.Path.{ap, ◌∙◌}
-use borrow.Author.Rules.{rules}
 use Rattle.yokemango.specs.Parts.{parts_of}
 use Rattle.yokemango.proofs.yokemango_check.Goals as goal
 

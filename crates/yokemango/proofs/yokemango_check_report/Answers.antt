@@ -1,7 +1,4 @@
 -- `yokemango_check_report` meets its contract by that of `report::in_form`.
-use mathlib.Core.Path.{sym, ◌∙◌, ap}
-use borrow.Author.Rules.{rules}
-use Rattle.yokemango.specs.Exported.{form_number}
 use Rattle.yokemango.proofs.yokemango_check_report.Goals as goal
 
 pub returns-then-in_form : goal.returns-then-in_form

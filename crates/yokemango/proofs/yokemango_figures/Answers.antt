@@ -1,7 +1,5 @@
 -- `yokemango_figures` meets its contract: by the test of the lengths, and by that of `open_points`.
-use mathlib.Core.Path.{sym, ap, ◌∙◌}
-use borrow.Author.Rules.{rules}
-use borrow.Author.Tests.{not-true, not-false}
+use mathlib.Core.Path.{sym, ◌∙◌}
 use Rattle.yokemango.proofs.Numbers.{figures_unfit, figures_fit_lem, long_enough}
 use Rattle.yokemango.proofs.yokemango_figures.Goals as goal
 

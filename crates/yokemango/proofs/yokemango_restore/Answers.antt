@@ -1,6 +1,5 @@
 -- `yokemango_restore` meets its contract by what reading in leaves in lent memory.
 use mathlib.Core.Path.{◌∙◌, ap}
-use borrow.Author.Rules.{rules}
 use Rattle.yokemango.specs.Numbers.{told_of}
 use Rattle.yokemango.proofs.yokemango_restore.Goals as goal
 

@@ -1,6 +1,5 @@
 -- `yokemango_row_count` meets its contract, case by case of the answer.
 use mathlib.Core.Path.{sym, ap, ◌∙◌}
-use borrow.Author.Rules.{rules}
 use Rattle.report.specs.Answer.{answer_of}
 use Rattle.report.specs.declared.RowCount.{RowCount}
 use Rattle.yokemango.specs.Exported.{count_or_none}

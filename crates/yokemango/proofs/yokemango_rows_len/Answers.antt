@@ -1,5 +1,4 @@
 -- `yokemango_rows_len` meets its contract by that of `report::rows`.
-use borrow.Author.Rules.{rules}
 use Rattle.yokemango.proofs.yokemango_rows_len.Goals as goal
 
 pub returns : goal.returns

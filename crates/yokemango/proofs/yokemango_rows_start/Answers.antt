@@ -1,5 +1,4 @@
 -- `yokemango_rows_start` meets its contract by that of `report::part_of`.
-use borrow.Author.Rules.{rules}
 use Rattle.yokemango.proofs.yokemango_rows_start.Goals as goal
 
 pub returns : goal.returns

@@ -1,6 +1,5 @@
 -- `yokemango_rows_word` meets its contract: the test says whether the word is within the rows.
 use native.Mathlib.Omega.{arith}
-use borrow.Author.Rules.{rules}
 use borrow.Author.Tests.{lt-ltb, le-ltb}
 use Rattle.yokemango.proofs.yokemango_rows_word.Goals as goal
 

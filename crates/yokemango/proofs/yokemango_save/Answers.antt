@@ -1,6 +1,5 @@
 -- `yokemango_save` meets its contract by what saving writes.
 use mathlib.Core.Path.{◌∙◌, ap}
-use borrow.Author.Rules.{rules}
 use Rattle.yokemango.specs.Numbers.{told_of}
 use Rattle.yokemango.proofs.yokemango_save.Goals as goal
 

@@ -1,6 +1,5 @@
 -- `yokemango_start` meets its contract by those of `start` and `parts_of`.
 use Rattle.yokemango.proofs.Numbers.{starts_told}
-use borrow.Author.Rules.{rules}
 use Rattle.yokemango.proofs.yokemango_start.Goals as goal
 
 pub returns : goal.returns

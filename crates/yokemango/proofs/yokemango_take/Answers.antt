@@ -1,6 +1,5 @@
 -- `yokemango_take` meets its contract by what the taking leaves in lent memory.
 use mathlib.Core.Path.{◌∙◌, ap}
-use borrow.Author.Rules.{rules}
 use Rattle.yokemango.specs.Numbers.{told_of}
 use Rattle.yokemango.proofs.yokemango_take.Goals as goal
 

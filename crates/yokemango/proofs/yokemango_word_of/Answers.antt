@@ -1,7 +1,6 @@
 -- `yokemango::yokemango_word_of` meets its contract: the number of an i32's bits is itself.
 use mathlib.Core.Path.{ap, ◌∙◌}
 use mir.Facts.{to_z-of_z}
-use borrow.Author.Rules.{rules}
 use Rattle.meaning.specs.Readings.{word_of}
 use Rattle.yokemango.proofs.yokemango_word_of.Goals as goal
 

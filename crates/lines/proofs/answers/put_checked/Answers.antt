@@ -1,6 +1,5 @@
 -- `put_checked` meets its contract, accepted or refused.
 use native.Mathlib.Omega.{arith}
-use borrow.Author.Rules.{rules}
 use Rattle.lines.proofs.Lines.{accepted_short, refused_short, checked_refused}
 use borrow.Enum.Refused.{opened}
 use Rattle.lines.proofs.answers.put_checked.Goals as goal

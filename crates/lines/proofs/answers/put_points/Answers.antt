@@ -1,14 +1,10 @@
 -- `put_points` meets its contract: after each turn the text of one entry more is put.
-use Prim.Native.Nat.{◌-◌}
 use native.Mathlib.Omega.{arith}
-use mathlib.Core.Path.{◌≡◌, refl}
-use lib.ListN.{length, length-append}
-use borrow.Author.Rules.{rules}
-use Rattle.meaning.specs.Lists.{range, gather}
+use mathlib.Core.Path.{refl}
+use lib.ListN.{length-append}
 use Rattle.report.proofs.Forms.{summed_of}
-use Rattle.writer.proofs.Putting.{Putting, put_long, put_then, putting_none, turn_room, turn_more, turn_all}
-use Rattle.lines.specs.Answers.{report_text}
-use Rattle.lines.proofs.Points.{give, text_whole, Listed, listed_none, listed_text, listed_room, listed_more}
+use Rattle.writer.proofs.Putting.{put_long, put_then, putting_none, turn_room, turn_more, turn_all}
+use Rattle.lines.proofs.Points.{give, text_whole, listed_none, listed_text, listed_room, listed_more}
 use Rattle.lines.proofs.answers.put_points.Goals as goal
 
 pub bounds-words-0 : goal.bounds-words-0

@@ -1,13 +1,10 @@
 use Prim.Native.Nat.{◌-◌}
-use native.Mathlib.Omega.{arith}
-use mathlib.Core.Path.{◌≡◌, refl}
-use lib.ListN.{length, length-append}
-use borrow.Author.Rules.{rules}
+use mathlib.Core.Path.{◌≡◌}
+use lib.ListN.{length}
 use Rattle.meaning.specs.Lists.{range, gather}
-use Rattle.report.proofs.Forms.{summed_of}
-use Rattle.writer.proofs.Putting.{Putting, put_long, put_then, putting_none, turn_room, turn_more, turn_all}
+use Rattle.writer.proofs.Putting.{Putting}
 use Rattle.lines.specs.Answers.{report_text}
-use Rattle.lines.proofs.Points.{give, text_whole, Listed, listed_none, listed_text, listed_room, listed_more}
+use Rattle.lines.proofs.Points.{give, Listed}
 use Rattle.lines.proofs.answers.put_points.Given as goal
 
 -- `put_points` meets its contract: after each turn the text of one entry more is put.

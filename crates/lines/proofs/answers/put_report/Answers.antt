@@ -1,8 +1,6 @@
 -- `put_report` meets its contract, whether the words are a report or not.
 use native.Mathlib.Omega.{arith}
 use mathlib.Core.Path.{sym, ◌∙◌}
-use borrow.Author.Rules.{rules}
-use borrow.Author.Tests.{not-true, not-false}
 use Rattle.writer.proofs.Putting.{put_none}
 use Rattle.lines.proofs.Points.{text_none}
 use Rattle.lines.proofs.Room.{report_short}

@@ -1,15 +1,10 @@
-use Prim.Native.Nat.{◌+◌, ◌-◌, ◌*◌, ◌≤◌}
-use native.Mathlib.Nat.{add-sub_cancel_left}
-use native.Mathlib.Omega.{arith}
-use mathlib.Core.Path.{◌≡◌, refl}
+use Prim.Native.Nat.{◌+◌, ◌*◌, ◌≤◌}
+use mathlib.Core.Path.{◌≡◌}
 use lib.ListN.{length}
-use borrow.Author.Rules.{rules}
 use Rattle.meaning.specs.Lists.{gather}
 use Rattle.report.specs.Form.{rows_from}
-use Rattle.report.proofs.Runs.{one_row}
-use Rattle.writer.proofs.Putting.{Putting, put_long, putting_none, putting_room, putting_more, putting_all}
+use Rattle.writer.proofs.Putting.{Putting}
 use Rattle.lines.specs.Text.{row_line}
-use Rattle.lines.proofs.Points.{rows_next, rows_end}
 use Rattle.lines.proofs.answers.put_rows.Given as goal
 
 -- `put_rows` meets its contract: after each turn the line of one row more is put.

@@ -1,15 +1,13 @@
 -- `put_words` meets its contract: after k turns the first k words are put.
-use Prim.Native.Nat.{ℕ, ◌-◌, ◌*◌, ◌≤◌}
+use Prim.Native.Nat.{◌-◌, ◌*◌}
 use native.Mathlib.Omega.{arith}
 use mathlib.Core.Path.{◌≡◌, refl, ap, ◌∙◌}
-use mathlib.Core.List.{List, [], ◌∷◌}
-use lib.ListN.{length, length-map}
-use borrow.Author.Rules.{rules}
+use mathlib.Core.List.{[], ◌∷◌}
+use lib.ListN.{length-map}
 use Rattle.meaning.specs.Lists.{range, gather}
 use Rattle.meaning.specs.RuleFile.{word_at}
 use Rattle.meaning.proofs.Lists.{range_length}
-use Rattle.writer.proofs.Putting.{Putting, put_long, putting_none, turn_more, turn_all}
-use Rattle.lines.specs.Input.{words_in}
+use Rattle.writer.proofs.Putting.{put_long, putting_none, turn_more, turn_all}
 use Rattle.lines.proofs.Putting.{put_one, gather_each}
 use Rattle.lines.proofs.input.put_words.Goals as goal
 use Rattle.lines.proofs.input.put_words.Invariants.{give}

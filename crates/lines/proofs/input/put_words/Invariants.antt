@@ -1,15 +1,11 @@
 use Prim.Native.Nat.{ℕ, ◌-◌, ◌*◌, ◌≤◌}
-use native.Mathlib.Omega.{arith}
-use mathlib.Core.Path.{◌≡◌, refl, ap, ◌∙◌}
+use mathlib.Core.Path.{◌≡◌}
 use mathlib.Core.List.{List, [], ◌∷◌}
-use lib.ListN.{length, length-map}
-use borrow.Author.Rules.{rules}
+use lib.ListN.{length}
 use Rattle.meaning.specs.Lists.{range, gather}
 use Rattle.meaning.specs.RuleFile.{word_at}
-use Rattle.meaning.proofs.Lists.{range_length}
-use Rattle.writer.proofs.Putting.{Putting, put_long, putting_none, turn_more, turn_all}
+use Rattle.writer.proofs.Putting.{Putting}
 use Rattle.lines.specs.Input.{words_in}
-use Rattle.lines.proofs.Putting.{put_one, gather_each}
 use Rattle.lines.proofs.input.put_words.Given as goal
 
 -- `put_words` meets its contract: after k turns the first k words are put.

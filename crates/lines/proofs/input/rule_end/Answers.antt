@@ -1,6 +1,5 @@
 -- `rule_end` meets its contract, test by test.
 use native.Mathlib.Omega.{arith}
-use borrow.Author.Rules.{rules}
 use borrow.Author.Tests.{lt-leb, le-leb}
 use Rattle.lines.specs.Input.{rule_end}
 use Rattle.lines.proofs.input.rule_end.Goals as goal

@@ -1,5 +1,4 @@
 -- `rule_in` meets its contract, whole or cut short.
-use borrow.Author.Rules.{rules}
 use borrow.Author.Tests.{lt-leb, le-leb}
 use Rattle.lines.specs.Input.{rule_in}
 use Rattle.lines.proofs.input.rule_in.Goals as goal

@@ -1,7 +1,6 @@
 -- `put_accepted` meets its contract: the figure, then the line end.
 use native.Mathlib.Omega.{arith}
 use lib.ListN.{length-append}
-use borrow.Author.Rules.{rules}
 use Rattle.writer.proofs.Putting.{put_then}
 use Rattle.lines.specs.Text.{accepted_line}
 use Rattle.lines.proofs.text.put_accepted.Goals as goal

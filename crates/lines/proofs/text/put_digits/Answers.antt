@@ -1,10 +1,8 @@
 -- `put_digits` meets its contract: after each turn one digit more is put, the last one first.
-use Prim.Native.Nat.{◌≤◌}
 use native.Mathlib.Omega.{arith}
-use mathlib.Core.Path.{◌≡◌, refl}
-use lib.ListN.{length, length-set}
-use borrow.Author.Rules.{rules}
-use Rattle.lines.proofs.Spelling.{digit_low, Spelling, spelling_none, spelling_more, spelling_all}
+use mathlib.Core.Path.{refl}
+use lib.ListN.{length-set}
+use Rattle.lines.proofs.Spelling.{digit_low, spelling_none, spelling_more, spelling_all}
 use Rattle.lines.proofs.text.put_digits.Goals as goal
 
 pub loop-i-init : goal.loop-i-init

@@ -1,9 +1,7 @@
 use Prim.Native.Nat.{◌≤◌}
-use native.Mathlib.Omega.{arith}
-use mathlib.Core.Path.{◌≡◌, refl}
-use lib.ListN.{length, length-set}
-use borrow.Author.Rules.{rules}
-use Rattle.lines.proofs.Spelling.{digit_low, Spelling, spelling_none, spelling_more, spelling_all}
+use mathlib.Core.Path.{◌≡◌}
+use lib.ListN.{length}
+use Rattle.lines.proofs.Spelling.{Spelling}
 use Rattle.lines.proofs.text.put_digits.Given as goal
 
 -- `put_digits` meets its contract: after each turn one digit more is put, the last one first.

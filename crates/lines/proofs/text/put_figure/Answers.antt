@@ -1,7 +1,6 @@
 -- `put_figure` meets its contract: the words, then the digits.
 use native.Mathlib.Omega.{arith}
 use lib.ListN.{length-append}
-use borrow.Author.Rules.{rules}
 use Rattle.writer.proofs.Putting.{put_then}
 use Rattle.lines.proofs.text.put_figure.Goals as goal
 

@@ -1,6 +1,5 @@
 -- `put_number` meets its contract: what is put are the digits of the definition.
 use native.Mathlib.Omega.{arith}
-use borrow.Author.Rules.{rules}
 use Rattle.lines.proofs.Digits.{decimal_digits}
 use Rattle.lines.proofs.Spelling.{decimal_long}
 use Rattle.lines.proofs.text.put_number.Goals as goal

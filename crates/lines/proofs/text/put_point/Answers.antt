@@ -1,7 +1,6 @@
 -- `put_point` meets its contract: the three figures, then the line end.
 use native.Mathlib.Omega.{arith}
 use lib.ListN.{length-append}
-use borrow.Author.Rules.{rules}
 use Rattle.writer.proofs.Putting.{put_then}
 use Rattle.lines.specs.Text.{point_line}
 use Rattle.lines.proofs.text.put_point.Goals as goal

@@ -1,7 +1,6 @@
 -- `put_refused` meets its contract: both figures, then the line end.
 use native.Mathlib.Omega.{arith}
 use lib.ListN.{length-append}
-use borrow.Author.Rules.{rules}
 use Rattle.writer.proofs.Putting.{put_then}
 use Rattle.lines.specs.Text.{refused_line}
 use Rattle.lines.proofs.text.put_refused.Goals as goal

@@ -1,13 +1,9 @@
 -- `put_row` meets its contract: the first value, then after each turn one value more, then the line end.
-use Prim.Native.Nat.{◌-◌, ◌≤◌}
 use native.Mathlib.Omega.{arith}
-use mathlib.Core.Path.{◌≡◌, refl}
-use mathlib.Core.List.{◌++◌}
-use lib.ListN.{length, drop, length-append}
-use borrow.Author.Rules.{rules}
-use Rattle.meaning.specs.Lists.{gather}
-use Rattle.writer.proofs.Putting.{Putting, put_long, put_then, putting_none, putting_room, putting_more, putting_last}
-use Rattle.lines.specs.Text.{figure, space, line_end}
+use mathlib.Core.Path.{refl}
+use lib.ListN.{length-append}
+use Rattle.writer.proofs.Putting.{put_long, put_then, putting_none, putting_room, putting_more, putting_last}
+use Rattle.lines.specs.Text.{figure, space}
 use Rattle.lines.proofs.Putting.{row_none, row-some, values_next, values_end}
 use Rattle.lines.proofs.text.put_row.Goals as goal
 

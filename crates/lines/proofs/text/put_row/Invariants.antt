@@ -1,13 +1,10 @@
 use Prim.Native.Nat.{◌-◌, ◌≤◌}
-use native.Mathlib.Omega.{arith}
-use mathlib.Core.Path.{◌≡◌, refl}
+use mathlib.Core.Path.{◌≡◌}
 use mathlib.Core.List.{◌++◌}
-use lib.ListN.{length, drop, length-append}
-use borrow.Author.Rules.{rules}
+use lib.ListN.{length, drop}
 use Rattle.meaning.specs.Lists.{gather}
-use Rattle.writer.proofs.Putting.{Putting, put_long, put_then, putting_none, putting_room, putting_more, putting_last}
+use Rattle.writer.proofs.Putting.{Putting}
 use Rattle.lines.specs.Text.{figure, space, line_end}
-use Rattle.lines.proofs.Putting.{row_none, row-some, values_next, values_end}
 use Rattle.lines.proofs.text.put_row.Given as goal
 
 -- `put_row` meets its contract: the first value, then after each turn one value more, then the line end.

@@ -1,11 +1,8 @@
 -- `put_text` meets its contract: after k turns the first k bytes are put.
-use Prim.Native.Nat.{◌+◌, ◌-◌, ◌≤◌}
 use native.Mathlib.Nat.{add-zero}
 use native.Mathlib.Omega.{arith}
-use mathlib.Core.Path.{◌≡◌, refl}
-use lib.ListN.{length, drop}
-use borrow.Author.Rules.{rules}
-use Rattle.writer.proofs.Putting.{Putting, put_long, putting_none}
+use mathlib.Core.Path.{refl}
+use Rattle.writer.proofs.Putting.{put_long, putting_none}
 use Rattle.lines.proofs.Putting.{byte_more, byte_all}
 use Rattle.lines.proofs.text.put_text.Goals as goal
 

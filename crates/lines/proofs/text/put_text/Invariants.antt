@@ -1,11 +1,7 @@
 use Prim.Native.Nat.{◌+◌, ◌-◌, ◌≤◌}
-use native.Mathlib.Nat.{add-zero}
-use native.Mathlib.Omega.{arith}
-use mathlib.Core.Path.{◌≡◌, refl}
+use mathlib.Core.Path.{◌≡◌}
 use lib.ListN.{length, drop}
-use borrow.Author.Rules.{rules}
-use Rattle.writer.proofs.Putting.{Putting, put_long, putting_none}
-use Rattle.lines.proofs.Putting.{byte_more, byte_all}
+use Rattle.writer.proofs.Putting.{Putting}
 use Rattle.lines.proofs.text.put_text.Given as goal
 
 -- `put_text` meets its contract: after k turns the first k bytes are put.

@@ -1,5 +1,4 @@
 -- `take_event` meets its contract: what the taking leaves, and its answer's text.
-use borrow.Author.Rules.{rules}
 use Rattle.listing.proofs.event.take_event.Goals as goal
 
 pub returns : goal.returns

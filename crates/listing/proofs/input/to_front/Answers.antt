@@ -1,6 +1,5 @@
 -- `to_front` meets its contract: the bytes go by way of others.
 use native.Mathlib.Omega.{arith}
-use borrow.Author.Rules.{rules}
 use Rattle.listing.proofs.Rests.{part_long, by_way}
 use Rattle.listing.proofs.input.to_front.Goals as goal
 

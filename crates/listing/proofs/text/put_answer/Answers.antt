@@ -1,6 +1,5 @@
 -- `put_answer` meets its contract, written or refused.
 use native.Mathlib.Omega.{arith}
-use borrow.Author.Rules.{rules}
 use Rattle.lines.proofs.Lines.{refused_short}
 use Rattle.lines.proofs.Room.{report_fits}
 use Rattle.listing.proofs.Texts.{refused_text}

@@ -1,6 +1,5 @@
 -- `put_cut` meets its contract, cut short or not.
 use native.Mathlib.Omega.{arith}
-use borrow.Author.Rules.{rules}
 use Rattle.writer.proofs.Putting.{put_none}
 use Rattle.lines.proofs.Lines.{refused_short}
 use Rattle.listing.proofs.text.put_cut.Goals as goal

@@ -1,6 +1,5 @@
 -- `put_end` meets its contract: the one text, then the other.
 use native.Mathlib.Omega.{arith}
-use borrow.Author.Rules.{rules}
 use Rattle.writer.proofs.Putting.{put_then}
 use Rattle.monitor.specs.State.{stored}
 use Rattle.listing.proofs.Texts.{cut_short, figures_short}

@@ -1,6 +1,5 @@
 -- `put_figures` meets its contract, well formed or not.
 use native.Mathlib.Omega.{arith}
-use borrow.Author.Rules.{rules}
 use Rattle.lines.proofs.Lines.{refused_short, last_short}
 use Rattle.listing.specs.Ends.{figures_text}
 use Rattle.listing.proofs.text.put_figures.Goals as goal
