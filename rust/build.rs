@@ -7,7 +7,7 @@ const FOLDER: &str = "YOKEMANGO_LIB";
 fn main() {
     println!("cargo:rerun-if-env-changed={FOLDER}");
     let Ok(folder) = std::env::var(FOLDER) else {
-        fail(&format!("{FOLDER} isn't set; it names the folder that has libyokemango.a, which `rt staticlib yokemango` writes to target/staticlib"));
+        fail(&format!("{FOLDER} isn't set; it names the folder that has libyokemango.a, which `tools/build yokemango` writes to target/staticlib"));
     };
     let library = Path::new(&folder).join("libyokemango.a");
     if !library.is_absolute() {

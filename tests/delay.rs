@@ -3,7 +3,7 @@
 // where with notices a point is reported later than the reach and 59 seconds after it, or not at all, or where a point has other
 // rows than without.
 //
-//   rt staticlib yokemango
+//   tools/build yokemango
 //   rustc -O --edition 2021 -L target/staticlib -o target/delay tests/delay.rs
 //   target/delay [POINTS]     20,000
 mod input;

@@ -1,7 +1,7 @@
 #!/usr/bin/env python3
 """Runs `tools/rules run` with the listing program, and compares what is printed with plain.py and with the documents.
 
-    rt check listing
+    tools/build listing
     desk.py [CASES [SEED]]   default: 200 cases, seed 1
 
 Each case is a generated rule with a log, run from a text with events, from a rule and a log of lines, and as an input of the
@@ -365,7 +365,7 @@ def try_faults(folder):
     text.same("a warning is no fault", printed(stdin="exists x leak(x) and close(x)\n@1 leak(3) close(4)\n"),
               (0, "rule exists x leak(x) and close(x), reach 0\ntime 1 point 0: x = 4\nreported 1, breached 1, open 0, kept 0\n",
                f"text:1:28: warning: {text.ANOTHER}\nexists x leak(x) and close(x)\n{' ' * 27}^\n"), "")
-    none = "No such file or directory; `rt check listing` builds target/bin/listing, and --listing names another"
+    none = "No such file or directory; `tools/build listing` builds target/bin/listing, and --listing names another"
     text.same("no listing program", printed("--listing", folder / "none", rule), (1, "", f"rules: {folder / 'none'}: {none}\n"), "")
     fake = folder / "fake"
     for script, said in (("echo rule ok reach 0", "rules: the listing program ended without its last line"), ("exit 3", f"rules: {fake} ended with 3"),
@@ -443,7 +443,7 @@ def main():
     count, seed = (int(a) for a in (sys.argv[1:] + ["200", "1"][len(sys.argv) - 1:]))
     rng, met = random.Random(seed), collections.Counter()
     if not (TOP / "target" / "bin" / "listing").exists():
-        sys.exit("desk.py: target/bin/listing isn't there; `rt check listing` builds it")
+        sys.exit("desk.py: target/bin/listing isn't there; `tools/build listing` builds it")
     with tempfile.TemporaryDirectory() as name:
         folder = pathlib.Path(name)
         for _ in range(count):

@@ -6,7 +6,7 @@
 // form as docs/STATE.md says (formed.rs), and what is read in gives its own words back and is never refused by 8. It fails on the
 // first difference, and where something was met too rarely.
 //
-//   rt staticlib yokemango
+//   tools/build yokemango
 //   rustc -O --edition 2021 -L target/staticlib -o target/images tests/images.rs
 //   target/images [LISTS [SEED]]     2,500 lists from seed 1
 //

@@ -2,7 +2,7 @@
 // of rule L after each of 3,000 events, and of a saving and a reading in after each of 3,000 events of three: those that callgrind counts
 // within `yokemango_take`, `yokemango_notice`, `yokemango_save` and `yokemango_restore`. It needs valgrind.
 //
-//   rt staticlib yokemango
+//   tools/build yokemango
 //   rustc -O --edition 2021 -L target/staticlib -o target/instructions tests/instructions.rs
 //   target/instructions                              all
 //   callgrind_annotate target/instructions.0         which functions they are in, for the first rule

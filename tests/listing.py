@@ -1,7 +1,7 @@
 #!/usr/bin/env python3
 """Runs the listing program on files with known output and on generated inputs beside plain.py, and compares byte for byte.
 
-    rt check listing
+    tools/build listing
     listing.py [--program PROGRAM] [--seed SEED] CASES [FOLDER ..]
 
 First inputs at the limits: rules of 32 nodes, 652 and 653 bytes, events of 32 and 33 rows, 400 events, reports of 4,326 words, and

@@ -1,6 +1,6 @@
 // What an event costs in the listing program beside the same takings in memory, on six rules, side by side.
 //
-//   rt staticlib yokemango && rt check listing
+//   tools/build yokemango listing
 //   rustc -O --edition 2021 -L target/staticlib -o target/listing_speed tests/listing_speed.rs
 //   target/listing_speed                  1,000,000 events of each rule, three times each
 //   target/listing_speed 20000 1          fewer, once: that both give the same points, rows and figures

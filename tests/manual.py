@@ -2,7 +2,7 @@
 """Runs the commands of docs/MANUAL.md and README.md, and compares what they print with what stands below them; compiles the
 C of the manual; and compares its tables with the header, the desk and the archive.
 
-    rt staticlib yokemango && rt check listing checkrule
+    tools/build
     manual.py [LOGS]   default: 100 logs of 200 events for the commands that go over many
 
 A command that begins with `rt` or is `tools/test` isn't run again: it must be one that tools/test runs, or the test itself.
@@ -166,7 +166,7 @@ def main():
     count = int((sys.argv[1:] or ["100"])[0])
     for needed in ("staticlib/libyokemango.a", "bin/listing", "bin/checkrule"):
         if not (TOP / "target" / needed).exists():
-            sys.exit(f"manual.py: target/{needed} isn't there; `rt staticlib yokemango` and `rt check listing checkrule` build it")
+            sys.exit(f"manual.py: target/{needed} isn't there; `tools/build` builds it")
     page, logs = (TOP / "docs" / "MANUAL.md").read_text(), TOP / "target" / "logs"
     with tempfile.TemporaryDirectory() as name:
         try_tables(page, pathlib.Path(name))

@@ -1,7 +1,7 @@
 // Compares "Read rows", compiled from the proved crates, with an evaluator of document 01 that is written here from its text:
 // good reports, damaged ones, and words of any kind. Prints what was tried and exits with 1 on any difference.
 //
-//     rt staticlib yokemango
+//     tools/build yokemango
 //     rustc -O -L target/staticlib -o target/reports tests/reports.rs
 //     target/reports          the comparison
 //     target/reports --time   the time to read one entry of the longest report, beside a plain pass over its words

@@ -2,7 +2,7 @@
 // answer, every word of every report and both figures after each call, and the image after the last; requests.py has the form of
 // the cases. It fails on the first difference.
 //
-//   rt staticlib yokemango
+//   tools/build yokemango
 //   rustc -O --edition 2021 -L target/staticlib -o target/requests tests/requests.rs
 //   target/requests FILE.jsonl ..
 mod formed;

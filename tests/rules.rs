@@ -3,7 +3,7 @@
 // lengthened, and random bytes are tried. Words are turned into readings and back. It fails on any difference, and where a
 // number, a kind or a damage to a "keep-shifted" was met too rarely.
 //
-//   rt staticlib yokemango
+//   tools/build yokemango
 //   rustc -O --edition 2021 -L target/staticlib -o target/rules tests/rules.rs
 //   target/rules            compare
 //   target/rules --time     time one check of a rule of 32 nodes

@@ -5,7 +5,7 @@
 // points; so are the kept and open figures, now and then. After one event in 1,000 and some notices an event and a notice of an
 // earlier time are refused by 11. After the last point the next event must be refused by 12, and a notice settles what is open.
 //
-//   rt staticlib yokemango
+//   tools/build yokemango
 //   rustc -O --edition 2021 -L target/staticlib -o target/soak tests/soak.rs
 //   target/soak [POINTS]
 mod input;

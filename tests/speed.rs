@@ -1,6 +1,6 @@
 // What one taking costs: time after 1,000 and after 1,000,000 points, side by side; and what a save and a restore cost beside it.
 //
-//   rt staticlib yokemango
+//   tools/build yokemango
 //   rustc -O --edition 2021 -L target/staticlib -o target/speed tests/speed.rs
 //   target/speed
 mod input;

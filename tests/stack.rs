@@ -2,7 +2,7 @@
 // sets alive at once, each settled by an event and by a notice, and a saving and a reading in. It fails above the figures of
 // README.md.
 //
-//   rt staticlib yokemango
+//   tools/build yokemango
 //   rustc -O --edition 2021 -L target/staticlib -o target/stack tests/stack.rs
 //   target/stack
 mod input;

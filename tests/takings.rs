@@ -4,7 +4,7 @@
 // log goes on by points and notices that needn't be acceptable, and every reported point is worked out again on the log as it
 // then is. It fails on the first difference, and where something was met too rarely.
 //
-//   rt staticlib yokemango
+//   tools/build yokemango
 //   rustc -O --edition 2021 -L target/staticlib -o target/takings tests/takings.rs
 //   target/takings [LISTS [SEED]]     5,000 lists from seed 1
 //

@@ -190,7 +190,7 @@ def listed(program, input_name):
         with open(input_name, "rb") as source:
             child = subprocess.Popen([program], stdin=source, stdout=subprocess.PIPE, text=True)
     except OSError as e:
-        raise Fault(f"rules: {program}: {e.strerror}; `rt check listing` builds target/bin/listing, and --listing names another")
+        raise Fault(f"rules: {program}: {e.strerror}; `tools/build listing` builds target/bin/listing, and --listing names another")
     try:
         for line in child.stdout:
             yield line.rstrip("\n")
