@@ -9,8 +9,8 @@ looked through too (#102). The checker itself computes each case, from the rule'
 reported points with their rows, the open and kept figures, the latest known time and the image of what is stored; a case that differs is
 refused. Rules of up to seven nodes, one in five damaged in a byte, and one in seven of those with a keep-shifted in that node; values of 0 to
 2, or at the ends of what a word holds; lists of up to six events and notices, some of them to be refused; report buffers of 3 to 40 words.
-Each image must be in form and be that of what is read in from it, and damaged in one way it must be out of form. Of crates/method and
-crates/image only the definitions are taken, without the proofs.
+Each image must be in form and be that of what is read in from it, and damaged in one way it must be out of form. Of crates/meaning,
+crates/method and crates/image only the definitions are taken, without the proofs.
 """
 import collections
 import pathlib
@@ -24,46 +24,42 @@ import tempfile
 import plain
 
 TOP = pathlib.Path(__file__).resolve().parent.parent
-OPENED = """size time rowsAt latest logOf wordAt sizesFit headAt bodyAt nodeOf nodeAt formulaAt shapeFits rangeFits timesChild weighNode checking
-lastPairs consulted parentOf pointEntries ageEntries entriesOf entries kept openPoints isEvent rowFits pointOf reportWords newlySettled
-reported report admitted weighed crowdedAt answerOn step storedOf imageOf ruleWords""".split()
-OF_FORM = """wordAt sizesFit headAt bodyAt nodeOf nodeAt formulaAt shapeFits rangeFits timesChild weighNode checking parentOf held heldPairs untilCount
-wantedFrom countsStored countBefore openStored ownEntries nodeFits wellFormed imageOf ruleWords ruleBytes readIn isImage""".split()
-HEAD = """use Prim.Native.Nat.{ℕ}
-use mathlib.Core.Path.{_≡_, refl}
-use mathlib.Core.Bool.{cond}
-use mathlib.Core.List.{List, [], _∷_, _++_}
-use lib.ListN.{length, replicate}
-use Rattle·meaning.specs.Lists.{gather}
-use Rattle·meaning.specs.Outcome.{Outcome, refused, given}
-use Rattle·meaning.specs.Log.{Taken, size, time, rowsAt, latest, logOf}
-use Rattle·meaning.specs.RuleFile.{Accepted, wordAt, sizesFit, headAt, bodyAt, nodeOf, nodeAt, formulaAt, shapeFits, rangeFits, timesChild, weighNode, checking, pattern}
-use Rattle·meaning.specs.Kept.{lastPairs, consulted, parentOf, pointEntries, ageEntries, entriesOf, entries, kept, openPoints}
-use Rattle·meaning.specs.Event.{isEvent, rowFits, pointOf}
-use Rattle·meaning.specs.Report.{Reported, reportWords, rowWords}
-use Rattle·meaning.specs.LookUp.{lookUp}
-use Rattle·meaning.specs.declared.Sought.{Sought}
-use Rattle·meaning.specs.declared.Sought.the-variants.{There, Absent}
-use Rattle·meaning.specs.Keeper.{Fed, event, notice, Taking, newlySettled, reported, report, admitted, weighed, crowdedAt, grown, answerOn, answer, step}
-use Rattle·method.specs.Stored.{storedOf, held, heldPairs}
-use Rattle·method.specs.Counts.{untilCount}
-use Rattle·method.specs.Step.{wantedFrom, countsStored, countBefore, openStored}
-use Rattle·method.specs.WellFormed.{ownEntries, nodeFits, wellFormed}
-use Rattle·compared·specs.specs.Image.{imageOf, ruleWords, ruleBytes, readIn, isImage}
+OPENED = """size time rows_at latest log_of word_at sizes_fit head_at body_at node_of node_at formula_at shape_fits range_fits times_child weigh_node checking
+last_pairs consulted parent_of point_entries age_entries entries_of entries kept open_points is_event row_fits point_of report_words newly_settled
+reported report admitted weighed crowded_at answer_on step stored_of image_of rule_words""".split()
+OF_FORM = """word_at sizes_fit head_at body_at node_of node_at formula_at shape_fits range_fits times_child weigh_node checking parent_of held held_pairs until_count
+wanted_from counts_stored count_before open_stored own_entries node_fits well_formed image_of rule_words rule_bytes read_in is_image""".split()
+HEAD = """use Rattle.std.specs.Prelude.{ℕ, ◌≡◌, refl, cond, List, [], ◌∷◌, ◌++◌, length, replicate}
+use Rattle.meaning.specs.Lists.{gather}
+use Rattle.meaning.specs.Outcome.{Outcome, refused, given}
+use Rattle.meaning.specs.Log.{Taken, size, time, rows_at, latest, log_of}
+use Rattle.meaning.specs.RuleFile.{Accepted, word_at, sizes_fit, head_at, body_at, node_of, node_at, formula_at, shape_fits, range_fits, times_child, weigh_node, checking, pattern}
+use Rattle.meaning.specs.Kept.{last_pairs, consulted, parent_of, point_entries, age_entries, entries_of, entries, kept, open_points}
+use Rattle.meaning.specs.Event.{is_event, row_fits, point_of}
+use Rattle.meaning.specs.Report.{Reported, report_words, row_words}
+use Rattle.meaning.specs.LookUp.{look_up}
+use Rattle.meaning.specs.declared.Sought.{Sought}
+use Rattle.meaning.specs.declared.Sought.TheVariants.{There, Absent}
+use Rattle.meaning.specs.Keeper.{Fed, event, notice, Taking, newly_settled, reported, report, admitted, weighed, crowded_at, grown, answer_on, answer, step}
+use Rattle.method.specs.Stored.{stored_of, held, held_pairs}
+use Rattle.method.specs.Counts.{until_count}
+use Rattle.method.specs.Step.{wanted_from, counts_stored, count_before, open_stored}
+use Rattle.method.specs.WellFormed.{own_entries, node_fits, well_formed}
+use Rattle.compared.specs.Image.{image_of, rule_words, rule_bytes, read_in, is_image}
 
-abbrev lineOf : Reported → List ℕ
-lineOf e = 1 ∷ e .at .0 ∷ e .time .0 ∷ length (e .rows) ∷ rowWords e
+abbrev line_of : Reported → List ℕ
+line_of e = 1 ∷ e.at.0 ∷ e.time.0 ∷ length e.rows ∷ row_words e
 
 abbrev said : Outcome ℕ → List Reported → List ℕ
 said (refused n p) es = 2 ∷ n ∷ p ∷ []
-said (given n) es = gather lineOf es
+said (given n) es = gather line_of es
 
 abbrev taking : ℕ → Fed → Taking
 taking room f = record { fed = f; buffer = replicate room 0 }
 
 abbrev listing : ℕ → List ℕ → List Taken → List Fed → List ℕ
-listing room b es [] = 3 ∷ openPoints b (logOf es) ∷ kept b (logOf es) ∷ latest (logOf es) .0 ∷ imageOf (storedOf b (logOf es))
-listing room b es (f ∷ fs) = said (answer b es (taking room f)) (reported (logOf es) (logOf (grown b es f)) (pattern b)) ++ listing room b (step b es (taking room f)) fs
+listing room b es [] = 3 ∷ open_points b (log_of es) ∷ kept b (log_of es) ∷ (latest (log_of es)).0 ∷ image_of (stored_of b (log_of es))
+listing room b es (f ∷ fs) = said (answer b es (taking room f)) (reported (log_of es) (log_of (grown b es f)) (pattern b)) ++ listing room b (step b es (taking room f)) fs
 
 abbrev looked : Sought → List ℕ
 looked (There p) = 1 ∷ p ∷ []
@@ -71,11 +67,11 @@ looked (Absent p) = 0 ∷ p ∷ []
 
 -- whether words are in form, and the image of what is read in from them
 abbrev again : List ℕ → List ℕ
-again ws = cond (isImage ws) (1 ∷ imageOf (readIn ws)) (0 ∷ [])
+again ws = cond (is_image ws) (1 ∷ image_of (read_in ws)) (0 ∷ [])
 
 abbrev whole : ℕ → Outcome Accepted → List ℕ → List Fed → List ℕ
 whole room (refused n p) b fs = 2 ∷ n ∷ p ∷ []
-whole room (given a) b fs = 4 ∷ a .reach ∷ a .free ∷ listing room b [] fs
+whole room (given a) b fs = 4 ∷ a.reach ∷ a.free ∷ listing room b [] fs
 """
 
 
@@ -293,8 +289,8 @@ def image_definitions():
     """Those of crates/image, with the one of crates/rowset that they use in its place: that crate's other ones need its code."""
     definitions = (TOP / "crates" / "image" / "specs" / "Image.antt").read_text()
     rows = (TOP / "crates" / "rowset" / "specs" / "Rows.antt").read_text()
-    row_at = re.search(r"^abbrev pub rowAt : .*\nrowAt .*\n", rows, re.MULTILINE).group()
-    used = re.search(r"^use Rattle·rowset.specs.Rows.\{rowAt\}\n", definitions, re.MULTILINE)
+    row_at = re.search(r"^abbrev pub row_at : .*\nrow_at .*\n", rows, re.MULTILINE).group()
+    used = re.search(r"^use Rattle\.rowset\.specs\.Rows\.\{row_at\}\n", definitions, re.MULTILINE)
     return definitions[:used.start()] + "\n" + row_at + definitions[used.end():]
 
 
@@ -305,34 +301,34 @@ def main():
     for k in range(cases):
         file, takings, room = case(rng, False) if k < count else case(shifting, True)
         want, rule, image = expected(file, takings, room, met)
-        text += f"\ncase-{k} : whole {room} (checking {numbers(file)}) {numbers(file)} ({' ∷ '.join([fed(t) for t in takings] + ['[]'])}) ≡ {numbers(want)}\n"
-        text += f"unfolding {' '.join(OPENED)}\ncase-{k} = refl\n"
+        text += f"\ncase_{k} : whole {room} (checking {numbers(file)}) {numbers(file)} ({' ∷ '.join([fed(t) for t in takings] + ['[]'])}) ≡ {numbers(want)}\n"
+        text += f"unfolding {' '.join(OPENED)}\ncase_{k} = refl\n"
         if image:
             other, how = damaged(damage, rule, image)
             met["images", "with entries" if image[3] else "without"] += 1
             met["images out of form:", how] += 1
             for name, words, should in (("form", image, [1] + image), ("damaged", other, [0])):
-                text += f"\n{name}-{k} : again {numbers(words)} ≡ {numbers(should)}\nunfolding {' '.join(OF_FORM)}\n{name}-{k} = refl\n"
+                text += f"\n{name}_{k} : again {numbers(words)} ≡ {numbers(should)}\nunfolding {' '.join(OF_FORM)}\n{name}_{k} = refl\n"
     for k in range(4 * count):
         lowest, row, rows = look_case(rng)
         there, place = plain.look(row, rows, lowest)
         in_order = rows == sorted(rows, key=lambda row: plain.place(row, lowest))
         met["looked for", ("there" if there else "not there") + ("" if in_order else ", not in order")] += 1
         met["looked for", "not there, but behind a larger one"] += not there and row in rows
-        text += f"\nlook-{k} : looked (lookUp {lowest} {numbers(row)} ({' ∷ '.join([numbers(r) for r in rows] + ['[]'])})) ≡ {numbers((int(there), place))}\nlook-{k} = refl\n"
+        text += f"\nlook_{k} : looked (look_up {lowest} {numbers(row)} ({' ∷ '.join([numbers(r) for r in rows] + ['[]'])})) ≡ {numbers((int(there), place))}\nlook_{k} = refl\n"
     with tempfile.TemporaryDirectory() as folder:
         top = pathlib.Path(folder)
-        shutil.copytree(TOP / "crates" / "meaning", top / "crates" / "meaning", ignore=shutil.ignore_patterns("must-fail"))
-        shutil.copytree(TOP / "crates" / "method", top / "crates" / "method", ignore=shutil.ignore_patterns("must-fail", "proofs"))
+        shutil.copytree(TOP / "crates" / "meaning", top / "crates" / "meaning", ignore=shutil.ignore_patterns("must-fail", "proofs", "out"))
+        shutil.copytree(TOP / "crates" / "method", top / "crates" / "method", ignore=shutil.ignore_patterns("must-fail", "proofs", "out"))
         for part in ("src", "specs"):
             (top / "crates" / "compared" / part).mkdir(parents=True)
         (top / "crates.txt").write_text("meaning:\nmethod: meaning\ncompared: method meaning\n")
-        (top / "crates" / "compared" / "src" / "lib.rt").write_text("// Cases that the definitions compute.\n")
+        (top / "crates" / "compared" / "src" / "lib.rt").write_text("// Cases that the definitions compute.\n#![tactic(auto)]\n")
         (top / "crates" / "compared" / "specs" / "Lib.antt").write_text("pub mod Image\npub mod Cases\n")
         (top / "crates" / "compared" / "specs" / "Image.antt").write_text(image_definitions())
         (top / "crates" / "compared" / "specs" / "Cases.antt").write_text(text)
-        run = subprocess.run(["rt", "dev", "compared"], cwd=top, stdout=subprocess.PIPE, stderr=subprocess.STDOUT, text=True)
-    wrong = sorted(set(re.findall(r"error: `((?:case|form|damaged|look)-\d+)`", run.stdout)), key=lambda c: (c.split("-")[0], int(c.split("-")[1])))
+        run = subprocess.run(["rt", "check"], cwd=top / "crates" / "compared", stdout=subprocess.PIPE, stderr=subprocess.STDOUT, text=True)
+    wrong = sorted(set(re.findall(r"error: `((?:case|form|damaged|look)_\d+)`", run.stdout)), key=lambda c: (c.split("_")[0], int(c.split("_")[1])))
     for key in sorted(met, key=str):
         print(f"{key[0]} {key[1]}: {met[key]}", end="; ")
     print(f"\n{cases} rules with logs and images, and {4 * count} lists looked through, computed by the definitions, {len(wrong)} differ", *wrong)

@@ -8,7 +8,6 @@ ghost use Rattle.lines.specs.Answers.{checked_text};
 
 use lines::{put_checked, read_full};
 use rulefile::check;
-use std::io;
 use std::io::Print;
 
 // Puts the answer for a whole file, of which the first 653 bytes were read, n of them if it has no more. A rule has at most 652, so that these are enough.
@@ -20,10 +19,13 @@ fn put_file(out: &mut [u8], file: &[u8], n: usize) -> usize
     put_checked(out, check(&file[0..n]))
 }
 
-fn main(rt: HostRuntime) -> io::Result<()> {
+fn main(rt: HostRuntime) {
     let mut file = [0u8; meaning::RULE_BYTES + 1];
-    let n = read_full(&mut rt.stdin(), &mut file)?;
+    let n = read_full(&mut rt.stdin(), &mut file);
     let mut line = [0u8; 64];
     let end = put_file(&mut line, &file, n);
-    rt.stdout().write_all(&line[0..end])
+    match rt.stdout().write_all(&line[0..end]) {
+        Ok(_) => (),
+        Err(_) => (),
+    }
 }

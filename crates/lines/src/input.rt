@@ -1,11 +1,10 @@
 // What is read off the bytes of an input: its rule, and the event that comes next.
-ghost use Rattle.std.specs.Prelude.{◌≡◌, ◌*◌, ◌≤◌, length, IfOk};
+ghost use Rattle.std.specs.Prelude.{◌≡◌, ◌*◌, ◌≤◌, length};
 ghost use Rattle.writer.specs.Puts.{Put};
 ghost use Rattle.lines.specs.Input.{words_in, rule_end, rule_in, event_end, Reads};
 
 use meaning::{MOST_ROWS, RULE_BYTES};
 use rulenodes::word_at;
-use std::io;
 use std::io::Read;
 
 // Rows at most that an event has.
@@ -19,19 +18,29 @@ pub enum Next {
     Ended,
 }
 
-// Reads until the bytes are full or the input ends, and answers how many were read.
-pub fn read_full<R: Read>(input: &mut R, bytes: &mut [u8]) -> io::Result<usize>
-    ensures { IfOk result (λ n. n ≤ length bytes.new) }
+// Reads once, and answers how many bytes that gave: none at the end of input, or where the read fails.
+pub fn read_some<R: Read>(input: &mut R, bytes: &mut [u8]) -> usize
+    ensures { result ≤ length bytes.new }
+{
+    match input.read(bytes) {
+        Ok(n) => n,
+        Err(_) => 0,
+    }
+}
+
+// Reads until the bytes are full or a read gives none, and answers how many were read.
+pub fn read_full<R: Read>(input: &mut R, bytes: &mut [u8]) -> usize
+    ensures { result ≤ length bytes.new }
 {
     let mut done = 0;
     while done < bytes.len() {
-        let n = input.read(&mut bytes[done..])?;
+        let n = read_some(input, &mut bytes[done..]);
         if n == 0 {
             break;
         }
         done += n;
     }
-    Ok(done)
+    done
 }
 
 // Puts the first n words of some bytes to the front of others.

@@ -6,5 +6,5 @@ mod input;
 mod text;
 
 pub use answers::{put_checked, put_report};
-pub use input::{Next, event_end, next_event, read_full, rule_end, rule_in};
+pub use input::{Next, event_end, next_event, read_full, read_some, rule_end, rule_in};
 pub use text::{put_last, put_refused, put_text};

@@ -1,21 +1,20 @@
 // Reading standard input: the rule, no further than it goes; and of the events what is there.
-ghost use Rattle.std.specs.Prelude.{◌≡◌, true, ◌&&◌, not, ◌+◌, ◌-◌, ◌≤◌, ◌<◌, length, take, drop, ltb, IfOk};
+ghost use Rattle.std.specs.Prelude.{◌≡◌, true, ◌&&◌, not, ◌+◌, ◌-◌, ◌≤◌, ◌<◌, length, take, drop, ltb};
 ghost use Rattle.writer.specs.Puts.{Put};
 ghost use Rattle.lines.specs.Input.{event_end};
 
-use lines::{event_end, put_text, read_full, rule_end};
-use std::io;
+use lines::{event_end, put_text, read_full, read_some, rule_end};
 use std::io::Read;
 
 // Reads the length word and the rule, and answers how many bytes there were.
-pub fn read_rule<R: Read>(input: &mut R, bytes: &mut [u8]) -> io::Result<usize>
+pub fn read_rule<R: Read>(input: &mut R, bytes: &mut [u8]) -> usize
     requires { 656 ≤ length bytes.old }
-    ensures { IfOk result (λ n. n ≤ 656) }
+    ensures { result ≤ 656 }
 {
-    let got = read_full(input, &mut bytes[0..4])?;
+    let got = read_full(input, &mut bytes[0..4]);
     let end = rule_end(&bytes[0..got]);
-    let more = read_full(input, &mut bytes[got..end])?;
-    Ok(got + more)
+    let more = read_full(input, &mut bytes[got..end]);
+    got + more
 }
 
 // Whether the event that the bytes begin with isn't whole, and more of it may come.
@@ -41,17 +40,12 @@ fn to_front(bytes: &mut [u8], from: usize, to: usize) -> usize
 }
 
 // Moves the bytes that are left to the front, reads once behind them, and answers how many there are then: as many as before at the end of input.
-pub fn read_more<R: Read>(
-    input: &mut R,
-    bytes: &mut [u8],
-    from: usize,
-    to: usize,
-) -> io::Result<usize>
+pub fn read_more<R: Read>(input: &mut R, bytes: &mut [u8], from: usize, to: usize) -> usize
     requires { (from ≤ to) × (to ≤ from + 648) × (to ≤ length bytes.old) }
     ensures bytes_after { take (to - from) bytes.new ≡ take (to - from) (drop from bytes.old) }
-    ensures to_bound { IfOk result (λ n. (to ≤ from + n) × (n ≤ length bytes.old)) }
+    ensures to_bound { (to ≤ from + result) × (result ≤ length bytes.old) }
 {
     let n = to_front(bytes, from, to);
-    let got = input.read(&mut bytes[n..])?;
-    Ok(n + got)
+    let got = read_some(input, &mut bytes[n..]);
+    n + got
 }

@@ -5,7 +5,7 @@ mod event;
 mod input;
 mod text;
 
-ghost use Rattle.std.specs.Prelude.{◌+◌, ◌≤◌, length, IfOk};
+ghost use Rattle.std.specs.Prelude.{◌+◌, ◌≤◌, length};
 
 use event::{Figures, take_event};
 use input::{is_short, read_more, read_rule};
@@ -13,7 +13,6 @@ use lines::{Next, next_event, put_checked, rule_in};
 use meaning::{LogEnd, MOST_ROWS, RULE_BYTES, Stamp};
 use monitor::State;
 use rulefile::Checked;
-use std::io;
 use std::io::{Print, Read};
 use text::put_end;
 
@@ -23,20 +22,28 @@ const ROWS: usize = MOST_ROWS as usize;
 // Bytes at most that an answer's text has.
 const LARGEST: usize = 53504;
 
+// Writes the bytes; where that fails, the rest of them is not written.
+fn write<W: Print>(output: &W, bytes: &[u8]) {
+    match output.write_all(bytes) {
+        Ok(_) => (),
+        Err(_) => (),
+    }
+}
+
 // Writes the text up to `at` where the largest answer has no room behind it, and answers where the next one goes.
-fn make_room<W: Print>(output: &W, text: &[u8], at: usize) -> io::Result<usize>
+fn make_room<W: Print>(output: &W, text: &[u8], at: usize) -> usize
     requires { (at ≤ length text.now) × (53504 ≤ length text.now) }
-    ensures { IfOk result (λ n. n + 53504 ≤ length text.now) }
+    ensures { result + 53504 ≤ length text.now }
 {
     if text.len() - at >= LARGEST {
-        return Ok(at);
+        return at;
     }
-    output.write_all(&text[0..at])?;
-    Ok(0)
+    write(output, &text[0..at]);
+    0
 }
 
 // Takes the events on standard input and prints the answers, then the last line. Each turn takes an event, or reads where none is whole, once the text so far is written; the count of turns only bounds the loop. The state is changed where it stands.
-fn take_all<R: Read, W: Print>(input: &mut R, output: &W, first: State) -> io::Result<()> {
+fn take_all<R: Read, W: Print>(input: &mut R, output: &W, first: State) {
     let mut bytes = [0u8; 65536];
     let mut event = [0u32; 2 + 5 * ROWS];
     let mut report = [0u32; 4326];
@@ -62,8 +69,8 @@ fn take_all<R: Read, W: Print>(input: &mut R, output: &W, first: State) -> io::R
     while turns > 0 {
         turns -= 1;
         if is_short(&bytes[from..to], ended) {
-            output.write_all(&text[0..at])?;
-            let n = read_more(input, &mut bytes, from, to)?;
+            write(output, &text[0..at]);
+            let n = read_more(input, &mut bytes, from, to);
             ended = n == to - from;
             from = 0;
             to = n;
@@ -86,8 +93,8 @@ fn take_all<R: Read, W: Print>(input: &mut R, output: &W, first: State) -> io::R
                 count: figures.count,
             };
             let end = put_end(&mut text, at, next, state);
-            output.write_all(&text[0..end])?;
-            return Ok(());
+            write(output, &text[0..end]);
+            return;
         };
         let answered = take_event(
             &rule,
@@ -104,25 +111,24 @@ fn take_all<R: Read, W: Print>(input: &mut R, output: &W, first: State) -> io::R
         );
         let after = answered.figures;
         figures = after;
-        at = make_room(output, &text, answered.end)?;
+        at = make_room(output, &text, answered.end);
         from += 4 * n;
     }
-    Ok(())
 }
 
-fn main(rt: HostRuntime) -> io::Result<()> {
+fn main(rt: HostRuntime) {
     let mut input = rt.stdin();
     let output = rt.stdout();
     let mut bytes = [0u8; 4 + RULE_BYTES];
-    let n = read_rule(&mut input, &mut bytes)?;
+    let n = read_rule(&mut input, &mut bytes);
     let started = monitor::start(rule_in(&bytes[0..n]));
     let checked = started.checked;
     let state = started.state;
     let mut line = [0u8; 64];
     let end = put_checked(&mut line, checked);
-    output.write_all(&line[0..end])?;
+    write(&output, &line[0..end]);
     let Checked::Accepted(_, _) = checked else {
-        return Ok(());
+        return;
     };
-    take_all(&mut input, &output, state)
+    take_all(&mut input, &output, state);
 }

@@ -1,8 +1,8 @@
 // The types and limits that definitions and code share. They hold plain numbers; what the numbers mean is in specs/.
 
-// Rows at most that a node has at a point, or an event.
 #![tactic(auto)]
 
+// Rows at most that a node has at a point, or an event.
 pub const MOST_ROWS: u32 = 32;
 
 // Open points at most.

@@ -15,4 +15,4 @@ loop-turns-preserved g c =
     let text = put_long c.take_event-answered.ensures.event_answered.put in
     let there = event_there _ _ (sym c.next_event-next.ensures.next ∙ c.in-Event.is) in
     let long = part_long c.loop-turns.bytes c.loop-turns.from c.loop-turns.to i.8 (omega (arith, i.0, i.9)) in
-    (i.0, omega (arith, i.1), omega (arith, i.2), omega (arith, text, i.3), omega (arith, i.4), omega (arith, i.5), omega (arith, i.6), omega (arith, i.7), omega (arith, there.1, long, i.8), i.9, omega (arith, c.in_ok-at.ensures, text, i.3))
+    (i.0, omega (arith, i.1), omega (arith, i.2), omega (arith, text, i.3), omega (arith, i.4), omega (arith, i.5), omega (arith, i.6), omega (arith, i.7), omega (arith, there.1, long, i.8), i.9, omega (arith, c.make_room-at.ensures, text, i.3))
