@@ -1,7 +1,7 @@
 #!/usr/bin/env python3
 """Runs the program that checks a rule file beside plain.py, and compares byte for byte.
 
-    rt check checkrule
+    tools/build checkrule
     checkrule.py [--program PROGRAM] [--seed SEED] CASES
 
 CASES accepted rules of 1 to 32 nodes are generated, and each is run whole, damaged in one or two bytes, in a window or in a field of
