@@ -21,10 +21,6 @@ use Rattle.writer.proofs.Reports.{words_parts}
 abbrev pub Answers : List ℕ → List ℕ → Wrote → List ℕ → Type 0
 Answers report buffer r after = (r ≡ wrote report buffer) × (after ≡ written_to report buffer)
 
--- the words that a writer is handed on with stand in its buffer
-pub handed_puts : {buf : MutBor (List ℕ)} {at : ℕ} {us : List ℕ} {w : Writer} → w ≡ handed (record { buf = buf; at = at }) us → Put buf.now at us w.buf.now w.at
-handed_puts e = record { place = ap (λ (w : Writer). w.at) e; stored = ap (λ (w : Writer). w.buf.now) e }
-
 -- three parts, one after the other, by a writer that is made on a buffer and asked for the words that it has left
 module _ (rows marks times : List ℕ) (p : Points) (stand : Marked marks p) (w : Writer) {buf : MutBor (List ℕ)} (made : (w.buf ≡ buf) × (w.at ≡ 0)) {needed : ℕ} (asked : needed ≡ length (words rows marks times p)) (enough : needed ≤ length w.buf.now - w.at) where
   abbrev report : List ℕ

@@ -1,9 +1,18 @@
 -- `write` meets its contract: what is left of the buffer is asked once, and the writer that is handed on writes one part after the other.
-use mathlib.Core.Path.{◌∙◌}
+use Prim.Native.Nat.{ℕ}
+use mathlib.Core.Path.{◌≡◌, ap, ◌∙◌}
+use mathlib.Core.List.{List}
+use denote.Ref.{MutBor}
 use borrow.Author.Rules.{rules}
+use Rattle.writer.specs.declared.Writer.{Writer}
+use Rattle.writer.specs.Puts.{Put, handed}
 use Rattle.writer.proofs.Reports.{marked}
-use Rattle.writer.proofs.Writing.{handed_puts, first_fits, second_fits, third_fits, all_written}
+use Rattle.writer.proofs.Writing.{first_fits, second_fits, third_fits, all_written}
 use Rattle.writer.proofs.write.Goals as goal
+
+-- the words that a writer is handed on with stand in its buffer
+handed_puts : {buf : MutBor (List ℕ)} {at : ℕ} {us : List ℕ} {w : Writer} → w ≡ handed (record { buf = buf; at = at }) us → Put buf.now at us w.buf.now w.at
+handed_puts e = record { place = ap (λ (w : Writer). w.at) e; stored = ap (λ (w : Writer). w.buf.now) e }
 
 pub put_from-sized-requires : goal.put_from-sized-requires
 put_from-sized-requires c =
