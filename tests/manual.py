@@ -5,7 +5,7 @@ C of the manual; and compares its tables with the header, the desk and the archi
     tools/build
     manual.py [LOGS]   default: 100 logs of 200 events for the commands that go over many
 
-A command that begins with `rt` or is `tools/test` isn't run again: it must be one that tools/test runs, or the test itself.
+A command that begins with `tools/build` or is `tools/test` isn't run again: it must be one that tools/test runs, or the test itself.
 Exits with 1 on any difference.
 """
 import os
@@ -24,7 +24,7 @@ TOP = text.TOP
 EVENTS = 200
 LARGER = 1.1  # how much larger than the manual says the archive may be, and how much smaller
 ENV = {**os.environ, "CARGO_TARGET_DIR": str(TOP / "target" / "cargo"), "CARGO_NET_OFFLINE": "true"}
-PROGRAMS = ("rt ", "tools/", "cc ", "cd ", "echo ")
+PROGRAMS = ("tools/", "cc ", "cd ", "echo ")
 
 
 def run(command):
@@ -40,9 +40,9 @@ def by_gate(command):
         part, _, rest = line.partition(" && ")
         if part == "tools/test":
             continue
-        if part.startswith("rt "):
-            verb, *names = part.split()[1:]
-            ran = any(set(names) <= set(said.split()[2:]) for said in gate.splitlines() if said.startswith(f"rt {verb} "))
+        if part.startswith("tools/build "):
+            names = part.split()[1:]
+            ran = any(set(names) <= set(said.split()[1:]) for said in gate.splitlines() if said.startswith("tools/build "))
             text.same("tools/test runs it", ran, True, part)
             left += [rest] * bool(rest)
         else:
