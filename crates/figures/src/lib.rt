@@ -81,7 +81,7 @@ pub fn figures(
     let k = times.len();
     let time = Stamp(event[0]);
     put_times(times, time, stamps);
-    let base = Point(progress::less(log.points, k as u32));
+    let base = Point(log.points.saturating_sub(k as u32));
     let end = LogEnd {
         points: log.points + progress::points_added(event),
         latest: time,
@@ -99,7 +99,7 @@ pub fn retain(after: &[u32], points: u32, stamps: &[u32], times: &mut [u32]) -> 
     let k = stamps.len();
     let base = points - k as u32;
     let first = formed::first_retained(points, after);
-    let from = progress::less(first.0, base) as usize;
+    let from = first.0.saturating_sub(base) as usize;
     entries::copy_words(&stamps[from..k], k - from, times, 0);
     (k - from) as u32
 }
@@ -307,8 +307,8 @@ fn rows_in(table: &[u32], x: u8) -> u32
     ensures { result ≡ rows_in table.now x }
 {
     let at = (x as usize) * NODE_WORDS;
-    let kept = progress::less(table[at + 6], table[at + 5]);
-    let sets = progress::less(table[at + 3], table[at + 2]);
+    let kept = table[at + 6].saturating_sub(table[at + 5]);
+    let sets = table[at + 3].saturating_sub(table[at + 2]);
     kept + MOST_ROWS * sets
 }
 

@@ -335,7 +335,7 @@ fn least(points: u32, counts: &[u32]) -> u32
     let mut i = counts.len();
     while 0 < i {
         i -= 1;
-        m = progress::lower(counts[i], m);
+        m = counts[i].min(m);
     }
     m
 }
@@ -344,7 +344,7 @@ fn least(points: u32, counts: &[u32]) -> u32
 pub fn first_retained(points: u32, counts: &[u32]) -> Point
     ensures { result ≡ first_retained points counts.now }
 {
-    Point(progress::less(least(points, counts), 1))
+    Point(least(points, counts).saturating_sub(1))
 }
 
 // No time is below the one before it.
@@ -389,7 +389,7 @@ fn times_asked(log: LogEnd, times: &[u32], counts: &[u32]) -> bool
     ensures { result ≡ (eqb (length times.now) (log.points - (first_retained log.points counts.now).0) && not_falling (times.now ++ log.latest.0 ∷ [])) }
 {
     let first = first_retained(log.points, counts);
-    if times.len() as u32 == progress::less(log.points, first.0) {
+    if times.len() as u32 == log.points.saturating_sub(first.0) {
         return latest_last(times, log.latest);
     }
     false
@@ -400,7 +400,7 @@ fn count_points(rule: &[u8], log: LogEnd, times: &[u32], counts: &mut [u32])
     requires { (length rule.now ≡ 12 + 20 * node_count rule.now) × (node_count rule.now ≤ 32) × (32 ≤ length counts.old) × (length times.now ≤ most_times) }
     ensures { CountsStand rule.now log times.now counts.new }
 {
-    let base = Point(progress::less(log.points, times.len() as u32));
+    let base = Point(log.points.saturating_sub(times.len() as u32));
     let from = [base.0; MOST_NODES];
     progress::counts(rule, times, base, log, &from, counts);
 }
@@ -419,7 +419,7 @@ fn times_fit(rule: &[u8], log: LogEnd, times: &[u32], counts: &mut [u32]) -> boo
     }
     count_points(rule, log, times, counts);
     let n = rule[2] as usize;
-    if MOST_OPEN < progress::less(log.points, counts[n - 1]) {
+    if MOST_OPEN < log.points.saturating_sub(counts[n - 1]) {
         return false;
     }
     times_asked(log, times, &counts[0..n])

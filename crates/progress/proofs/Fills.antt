@@ -1,17 +1,14 @@
 -- Filling a buffer with the counts of a rule's nodes, lowest first: nothing filled, one node more, all.
-use Prim.Native.Nat.{ℕ, ◌+◌, ◌-◌, ◌≤◌, ◌<◌}
-use native.Mathlib.Numerals.{add-one}
+use Prim.Native.Nat.{ℕ, ◌≤◌}
 use native.Mathlib.Omega.{arith}
-use mathlib.Core.Path.{◌≡◌, refl, ◌∙◌}
+use mathlib.Core.Path.{◌≡◌}
 use mathlib.Core.List.{List}
-use lib.ListN.{length, get_or, take, drop, set, length-set}
-use lib.Seq.{take-suc-set, drop-set-lt}
-use Rattle.meaning.specs.View.{view_of}
-use Rattle.meaning.specs.RuleFile.{node_count, node_at}
+use lib.ListN.{length, get_or, take, drop}
+use Rattle.meaning.specs.RuleFile.{node_count}
 use Rattle.meaning.specs.declared.Point.{Point}
 use Rattle.meaning.specs.declared.Stamp.{Stamp}
 use Rattle.meaning.specs.declared.LogEnd.{LogEnd}
-use Rattle.method.specs.Counts.{advance, counts_to}
+use Rattle.method.specs.Counts.{counts_to}
 use Rattle.progress.specs.Filled.{Filled}
 use Rattle.progress.proofs.Withins.{counts_within}
 
@@ -23,21 +20,6 @@ pub record Filling (rule : List ℕ) (τ : Point → Stamp) (g : LogEnd) (from b
   pub past : drop (node_count rule) after ≡ drop (node_count rule) before
 
 module _ (rule : List ℕ) (τ : Point → Stamp) (g : LogEnd) (from before : List ℕ) where
-  pub filling_none : Filling rule τ g from before 0 before
-  filling_none = record { reached = omega arith; same = refl; exact = refl; past = refl }
-
-  pub filling_more : {x v : ℕ} {after : List ℕ} → Filling rule τ g from before x after → x < node_count rule → node_count rule ≤ length before → v ≡ advance τ g (λ y. get_or (take (x - 0) after) y 0) (get_or from x 0) (view_of (node_at rule x)) → Filling rule τ g from before (x + 1) (set after x v)
-  filling_more {x} {v} {after} f h room e =
-      let l : x < length after = omega (arith, f.same) in
-      let z : x - 0 ≡ x = omega arith in
-      let w : v ≡ advance τ g (λ y. get_or (counts_to rule τ g (λ y. get_or from y 0) x) y 0) (get_or from x 0) (view_of (node_at rule x)) = e ∙ rw (z, f.exact) in
-      record {
-        reached = omega arith;
-        same = length-set after x v ∙ f.same;
-        exact = rw (add-one x, take-suc-set after x v l, f.exact, w);
-        past = drop-set-lt (node_count rule) after x v h ∙ f.past;
-      }
-
   pub filling_all : {x : ℕ} {after : List ℕ} → Filling rule τ g from before x after → node_count rule ≤ x → Filled rule τ g from before after
   filling_all {x} {after} f h =
       let z : x ≡ node_count rule = omega (arith, f.reached) in

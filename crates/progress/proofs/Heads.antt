@@ -13,11 +13,7 @@ use Rattle.meaning.specs.declared.Times.{Times}
 use Rattle.meaning.specs.declared.Times.TheVariants.{Here, Future}
 use Rattle.rulenodes.proofs.Windows.{window_read}
 use Rattle.method.specs.Stored.{least_of}
-use Rattle.method.specs.Counts.{until_count, advance_by, advance}
-
--- until's count from equal parts
-pub until_as : (τ : Point → Stamp) (l : LogEnd) (m : ℕ) {d d' from from' r : ℕ} → r ≡ until_count τ l d m from → d ≡ d' → from ≡ from' → r ≡ until_count τ l d' m from'
-until_as τ l m e p q = rw (p, q) at e
+use Rattle.method.specs.Counts.{advance_by, advance}
 
 module _ (b : List ℕ) (x : ℕ) {t : Times} (e : t ≡ (view_of (node_at b x)).times) where
   -- until's window ends where its body says

@@ -12,32 +12,18 @@ ghost use Rattle.progress.specs.Filled.{Filled};
 
 use meaning::{Children, LogEnd, Point, Stamp, Times};
 
-// A difference that stops at 0, as it does in the definitions.
-pub fn less(a: u32, b: u32) -> u32
-    ensures { result ≡ a - b }
-{
-    if b < a { a - b } else { 0 }
-}
-
-// The lower of two numbers.
-pub fn lower(a: u32, b: u32) -> u32
-    ensures { result ≡ min a b }
-{
-    if a < b { a } else { b }
-}
-
 // A word of a slice, 0 past its end.
 fn word_in(words: &[u32], k: usize) -> u32
     ensures { result ≡ get_or words.now k 0 }
 {
-    if k < words.len() { words[k] } else { 0 }
+    words.get(k).copied().unwrap_or(0)
 }
 
 // The time stamp of point i, read off retained times of which the first is point base's.
 pub fn time_in(times: &[u32], base: Point, i: Point) -> Stamp
     ensures { result ≡ stamp_in base times.now i }
 {
-    let k = less(i.0, base.0);
+    let k = i.0.saturating_sub(base.0);
     Stamp(word_in(times, k as usize))
 }
 
@@ -45,22 +31,19 @@ pub fn time_in(times: &[u32], base: Point, i: Point) -> Stamp
 fn ends_by(t: Stamp, d: u32, bound: Stamp) -> bool
     ensures { result ≡ leb (t.0 + d) bound.0 }
 {
-    (t.0 as u64) + (d as u64) <= (bound.0 as u64)
+    u64::from(t.0) + u64::from(d) <= u64::from(bound.0)
 }
 
 // The first point, from `from` on and before m, whose window has not ended by the bound; where each has, the one after them.
 fn first_open(times: &[u32], base: Point, d: u32, bound: Stamp, from: Point, m: Point) -> Point
     ensures { result ≡ scan (stamp_in base times.now) d bound from (m.0 - from.0) }
 {
-    let end = m.0;
-    let mut i = from.0;
-    while i < end {
+    for i in from.0..m.0 {
         if !ends_by(time_in(times, base, Point(i)), d, bound) {
             return Point(i);
         }
-        i += 1;
     }
-    Point(i)
+    Point(from.0.max(m.0))
 }
 
 // The time by which a window has to end: that of the first point that the children have not settled, or where they have settled all the latest known time.
@@ -95,8 +78,8 @@ fn least_of(counts: &[u32], n: u32, children: Children) -> u32
 {
     match children {
         Children::None => n,
-        Children::One(a) => lower(count_at(counts, a), n),
-        Children::Two(a, b) => lower(count_at(counts, a), lower(count_at(counts, b), n)),
+        Children::One(a) => n.min(count_at(counts, a)),
+        Children::Two(a, b) => n.min(count_at(counts, a)).min(count_at(counts, b)),
     }
 }
 
@@ -104,7 +87,7 @@ fn least_of(counts: &[u32], n: u32, children: Children) -> u32
 fn one_more(n: u32, m: u32) -> u32
     ensures { result ≡ min n (m + 1) }
 {
-    if m < n { m + 1 } else { n }
+    n.min(m.saturating_add(1))
 }
 
 // How many points node x has settled that is an until, where its children have settled m points.
@@ -146,10 +129,9 @@ fn count_of(
     let m = least_of(below, log.points, rulenodes::children_at(rule, x));
     let look = rulenodes::times_at(rule, x);
     match look {
-        Times::Here => m,
+        Times::Here | Times::Past => m,
         Times::Before => one_more(log.points, m),
-        Times::After => less(m, 1),
-        Times::Past => m,
+        Times::After => m.saturating_sub(1),
         Times::Future => until_of(rule, times, base, log, m, from, x),
     }
 }
@@ -160,11 +142,9 @@ pub fn counts(rule: &[u8], times: &[u32], base: Point, log: LogEnd, from: &[u32]
     ensures { Filled rule.now (stamp_in base times.now) log from.now out.old out.new }
 {
     let nodes = rule[2];
-    let mut x: u8 = 0;
-    while x < nodes {
+    for x in 0..nodes {
         let k = x as usize;
-        out[k] = count_of(rule, times, base, log, &out[0..k], from, x);
-        x += 1;
+        out[k] = count_of(rule, times, base, log, &out[..k], from, x);
     }
 }
 
@@ -172,5 +152,5 @@ pub fn counts(rule: &[u8], times: &[u32], base: Point, log: LogEnd, from: &[u32]
 pub fn points_added(words: &[u32]) -> u32
     ensures { result ≡ points_added words.now }
 {
-    if 1 < words.len() { 1 } else { 0 }
+    u32::from(1 < words.len())
 }

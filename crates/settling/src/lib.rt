@@ -226,7 +226,7 @@ fn until_at(
     requires set_room { SetRoom out.old 0 }
     ensures { Added lowest out.old 0 out.new result (until_rows (stamp_in base times.now) (min a.count b.count) w (left_test left a (child_set rows.now at.now a)) (child_set rows.now at.now b) i) }
 {
-    let m = progress::lower(a.count, b.count);
+    let m = a.count.min(b.count);
     untils::until(lowest, left, a, b, rows, at, times, base, w, i, m, out, 0)
 }
 

@@ -1,11 +1,11 @@
--- Words handed down to children: one child, a node's children, and the children of the first x nodes.
+-- Words handed down to the children of the first x nodes.
 use Prim.Native.Nat.{ℕ, ◌+◌, ◌-◌, ◌≤◌, ◌<◌, min}
 use native.Mathlib.Nat.{eq-or-lt_of_le}
 use native.Mathlib.Omega.{arith}
 use mathlib.Core.Path.{◌≡◌, sym, ap, ◌∙◌}
-use mathlib.Core.Bool.{Bool, true, false, cond, ◌||◌}
+use mathlib.Core.Bool.{Bool, true, false, cond}
 use mathlib.Core.Logic.{◌⊎◌, inl, inr}
-use mathlib.Core.List.{List, [], ◌∷◌, Memᴰ}
+use mathlib.Core.List.{List, Memᴰ}
 use lib.ListN.{length, get_or, set}
 use lib.Seq.{get_or-set_same, get_or-set_other}
 use lib.Dec.{eqb}
@@ -14,49 +14,17 @@ use Rattle.meaning.specs.Outcome.{given}
 use Rattle.meaning.specs.RuleFile.{Accepted, checking, node_count, node_at, children_of, is_one_of, last_node}
 use Rattle.meaning.specs.Kept.{parent_of}
 use Rattle.meaning.specs.declared.Point.{Point}
-use Rattle.meaning.specs.declared.Children.{Children}
-use Rattle.meaning.specs.declared.Children.TheVariants.{None, One, Two}
-use Rattle.meaning.specs.View.{view_of, children_in}
+use Rattle.meaning.specs.View.{view_of}
 use Rattle.meaning.proofs.Points.{Tested, passed, failed, tested}
 use Rattle.method.specs.Step.{first_wanted, wanted_from}
 use Rattle.method.proofs.Parents.{parent_is, has_parent, is_one_of_lem}
 use Rattle.wanted.specs.Wants.{Wants}
-
--- one child
-module _ (counts : List ℕ) (first : Point) (c : ℕ) (out : List ℕ) where
-  pub wants_child : (v : ℕ) → c < length out → v ≡ min (get_or counts c 0) first.0 → Wants counts first (c ∷ []) out (set out c v)
-  wants_child v l q = record { words = λ y. go y (tested (eqb y c)) }
-    where
-      go : (y : ℕ) → Tested (eqb y c) → get_or (set out c v) y 0 ≡ cond (eqb y c || false) (min (get_or counts y 0) first.0) (get_or out y 0)
-      go y (passed e) = let s : y ≡ c = eqb-true y c e in rw e (rw s (get_or-set_same out c v 0 l ∙ q))
-      go y (failed e) = rw e (get_or-set_other out c y v 0 (eqb-false y c e))
-
--- no child, one or two, as the code has them
-module _ (counts : List ℕ) (first : Point) (out : List ℕ) (l : Children) where
-  pub wants_none : l ≡ None → Wants counts first (children_in l) out out
-  wants_none e = record { words = λ y. rw e }
-
-  pub wants_one : {a : ℕ} {out' : List ℕ} → l ≡ One a → Wants counts first (a ∷ []) out out' → Wants counts first (children_in l) out out'
-  wants_one e w = rw e w
-
-  pub wants_two : {a b : ℕ} {mid out' : List ℕ} → l ≡ Two a b → Wants counts first (a ∷ []) out mid → Wants counts first (b ∷ []) mid out' → Wants counts first (children_in l) out out'
-  wants_two {a} {b} {mid} {out'} e w v = record { words = λ y. rw e (go y (eqb y a) (eqb y b) (w.words y) (v.words y)) }
-    where
-      go : (y : ℕ) (s t : Bool) → get_or mid y 0 ≡ cond (s || false) (min (get_or counts y 0) first.0) (get_or out y 0) → get_or out' y 0 ≡ cond (t || false) (min (get_or counts y 0) first.0) (get_or mid y 0)
-          → get_or out' y 0 ≡ cond (s || (t || false)) (min (get_or counts y 0) first.0) (get_or out y 0)
-      go y true true p q = q
-      go y true false p q = q ∙ p
-      go y false true p q = q
-      go y false false p q = q ∙ p
 
 -- the children of the first x nodes have their words
 pub record Handed (b counts out : List ℕ) (x : ℕ) : Type 0 where
   pub words : (y : ℕ) → y < node_count b - 1 → parent_of b y < x → get_or out y 0 ≡ min (get_or counts y 0) (first_wanted (view_of (node_at b (parent_of b y))).times (get_or counts (parent_of b y) 0)).0
 
 module _ (b : List ℕ) (a : Accepted) (ok : checking b ≡ given a) (counts : List ℕ) where
-  pub handed_none : (out : List ℕ) → Handed b counts out 0
-  handed_none out = record { words = λ y o l. absurd (omega arith) }
-
   pub handed_more : {x : ℕ} {first : Point} {cs out out' : List ℕ} → Handed b counts out x → x < node_count b → first ≡ first_wanted (view_of (node_at b x)).times (get_or counts x 0) → cs ≡ children_of (node_at b x)
       → Wants counts first cs out out' → Handed b counts out' (x + 1)
   handed_more {x} {first} {cs} {out} {out'} h o f e w = record { words = λ y l u. go y l u (tested (is_one_of (children_of (node_at b x)) y)) }

@@ -19,11 +19,9 @@ fn first_wanted(rule: &[u8], x: u8, p: u32) -> Point
 {
     let look = rulenodes::times_at(rule, x);
     match look {
-        Times::Here => Point(p),
-        Times::Before => Point(progress::less(p, 1)),
+        Times::Before => Point(p.saturating_sub(1)),
         Times::After => Point(p + 1),
-        Times::Past => Point(p),
-        Times::Future => Point(p),
+        Times::Here | Times::Past | Times::Future => Point(p),
     }
 }
 
@@ -33,7 +31,7 @@ fn want_child(counts: &[u32], first: Point, c: u8, out: &mut [u32])
     ensures { Wants counts.now first (c ∷ []) out.old out.new }
 {
     let count = counts[c as usize];
-    out[c as usize] = progress::lower(count, first.0);
+    out[c as usize] = count.min(first.0);
 }
 
 // The same for a node's children.
@@ -58,12 +56,10 @@ pub fn wanted(rule: &[u8], counts: &[u32], out: &mut [u32])
     ensures { (x : ℕ) → x < node_count rule.now → get_or out.new x 0 ≡ (wanted_from rule.now (λ y. get_or counts.now y 0) x).0 }
 {
     let n = rule[2];
-    let mut x: u8 = 0;
-    while x < n {
+    for x in 0..n {
         let first = first_wanted(rule, x, counts[x as usize]);
         let children = rulenodes::children_at(rule, x);
         want_children(counts, first, children, out);
-        x += 1;
     }
     let last = (n - 1) as usize;
     out[last] = counts[last];

@@ -34,10 +34,10 @@ wanted-requires c = let e : c.node_total-n.result - 0 ≡ node_count c.args.rule
       rule_in_bounds = (
         many_first _ _ e (omega (arith, nodes_most _ c.requires.counting.accepted.0 c.requires.counting.accepted.1, c.requires.event_nonzero.2, c.after-1.given)),
         omega (arith, nodes_most _ c.requires.counting.accepted.0 c.requires.counting.accepted.1, c.requires.event_nonzero.3),
-        few_after c.requires.counting w _ (length c.args.times.now + 1 - 0) (omega arith) c.put_times.ensures c.less.ensures (ended c.args.log.points (get_or w 0 0) c.points_added.ensures) c.counts.ensures _ e,
+        few_after c.requires.counting w _ (length c.args.times.now + 1 - 0) (omega arith) c.put_times.ensures c.saturating_sub.ensures (ended c.args.log.points (get_or w 0 0) c.points_added.ensures) c.counts.ensures _ e,
       );
     }
 
 pub returns : goal.returns
 returns c = let w = c.args.event.now in
-    figured c.requires.counting w _ (length c.args.times.now + 1 - 0) (omega arith) c.put_times.ensures c.less.ensures (ended c.args.log.points (get_or w 0 0) c.points_added.ensures) c.counts.ensures (c.node_total-n.result - 0) (omega (arith, c.node_total-n.ensures)) c.wanted.ensures
+    figured c.requires.counting w _ (length c.args.times.now + 1 - 0) (omega arith) c.put_times.ensures c.saturating_sub.ensures (ended c.args.log.points (get_or w 0 0) c.points_added.ensures) c.counts.ensures (c.node_total-n.result - 0) (omega (arith, c.node_total-n.ensures)) c.wanted.ensures

@@ -5,4 +5,4 @@ use Rattle.meaning.specs.Log.{point}
 use Rattle.formed.proofs.first_retained.Goals as goal
 
 pub returns : goal.returns
-returns c = ap point (c.less.ensures ∙ ap (λ k. k - 1) c.least.ensures)
+returns c = ap point (c.saturating_sub.ensures ∙ ap (λ k. k - 1) c.least.ensures)

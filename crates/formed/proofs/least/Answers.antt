@@ -10,7 +10,7 @@ pub loop-i-init : goal.loop-i-init
 loop-i-init c = let a = c.args in least_none a.points a.counts.now
 
 pub loop-i-preserved : goal.loop-i-preserved
-loop-i-preserved c = let a = c.args in least_more a.points a.counts.now c.loop-i.invariant c.loop-i-test.true c.lower-m.ensures
+loop-i-preserved c = let a = c.args in least_more a.points a.counts.now c.loop-i.invariant c.loop-i-test.true c.min-m.ensures
 
 pub returns : goal.returns
 returns c = let a = c.args in

@@ -6,8 +6,8 @@ use Rattle.meaning.specs.declared.Point.{Point}
 use Rattle.method.specs.Stored.{first_retained}
 use Rattle.formed.proofs.times_asked.Goals as goal
 
-pub returns-then-times-less : goal.returns-then-times-less
-returns-then-times-less c = rw (eq-eqb _ _ (c.if-times-less.true ∙ (let it : let a = c.args in c.less.result ≡ a.log.points - (first_retained a.log.points a.counts.now).0 = let a = c.args in c.less.ensures ∙ ap (λ (k : Point). a.log.points - k.0) c.first_retained-first.ensures in it))) c.latest_last.ensures
+pub returns-then-times-saturating_sub : goal.returns-then-times-saturating_sub
+returns-then-times-saturating_sub c = rw (eq-eqb _ _ (c.if-times-saturating_sub.true ∙ (let it : let a = c.args in c.saturating_sub.result ≡ a.log.points - (first_retained a.log.points a.counts.now).0 = let a = c.args in c.saturating_sub.ensures ∙ ap (λ (k : Point). a.log.points - k.0) c.first_retained-first.ensures in it))) c.latest_last.ensures
 
 pub returns : goal.returns
-returns c = rw (ne_eqb _ _ (λ e. c.if-times-less.false (e ∙ sym ((let it : let a = c.args in c.less.result ≡ a.log.points - (first_retained a.log.points a.counts.now).0 = let a = c.args in c.less.ensures ∙ ap (λ (k : Point). a.log.points - k.0) c.first_retained-first.ensures in it)))))
+returns c = rw (ne_eqb _ _ (λ e. c.if-times-saturating_sub.false (e ∙ sym ((let it : let a = c.args in c.saturating_sub.result ≡ a.log.points - (first_retained a.log.points a.counts.now).0 = let a = c.args in c.saturating_sub.ensures ∙ ap (λ (k : Point). a.log.points - k.0) c.first_retained-first.ensures in it)))))

@@ -15,11 +15,11 @@ returns-then-log-gt-MOST_POINTS c = let a = c.args in record { answer = points_m
 pub returns-then-times-gt-MOST_TIMES : goal.returns-then-times-gt-MOST_TIMES
 returns-then-times-gt-MOST_TIMES c = let a = c.args in record { answer = times_many a.rule.now a.log a.times.now c.if-log-gt-MOST_POINTS.false c.if-times-gt-MOST_TIMES.true; counted = λ e. absurd (false≢true e) }
 
-pub returns-then-less-gt-MOST_OPEN : goal.returns-then-less-gt-MOST_OPEN
-returns-then-less-gt-MOST_OPEN c = let a = c.args in
-    record { answer = open_many a.rule.now a.log a.times.now c.if-log-gt-MOST_POINTS.false c.if-times-gt-MOST_TIMES.false (omega (arith, (let it : let a = c.args in c.less.result ≡ a.log.points - get_or (counts_in a.rule.now a.log a.times.now) (last_node a.rule.now) 0 = c.less.ensures ∙ part_open c.count_points.ensures c.requires.1 in it), c.if-less-gt-MOST_OPEN.true)); counted = λ e. absurd (false≢true e) }
+pub returns-then-saturating_sub-gt-MOST_OPEN : goal.returns-then-saturating_sub-gt-MOST_OPEN
+returns-then-saturating_sub-gt-MOST_OPEN c = let a = c.args in
+    record { answer = open_many a.rule.now a.log a.times.now c.if-log-gt-MOST_POINTS.false c.if-times-gt-MOST_TIMES.false (omega (arith, (let it : let a = c.args in c.saturating_sub.result ≡ a.log.points - get_or (counts_in a.rule.now a.log a.times.now) (last_node a.rule.now) 0 = c.saturating_sub.ensures ∙ part_open c.count_points.ensures c.requires.1 in it), c.if-saturating_sub-gt-MOST_OPEN.true)); counted = λ e. absurd (false≢true e) }
 
 pub returns : goal.returns
 returns c = let a = c.args in
     let counted = c.count_points.ensures in
-    record { answer = c.times_asked.ensures ∙ times_tested a.rule.now a.log a.times.now c.if-log-gt-MOST_POINTS.false c.if-times-gt-MOST_TIMES.false (omega (arith, (let it : let a = c.args in c.less.result ≡ a.log.points - get_or (counts_in a.rule.now a.log a.times.now) (last_node a.rule.now) 0 = c.less.ensures ∙ part_open c.count_points.ensures c.requires.1 in it), c.if-less-gt-MOST_OPEN.false)) counted; counted = λ t. (c.if-log-gt-MOST_POINTS.false, counted) }
+    record { answer = c.times_asked.ensures ∙ times_tested a.rule.now a.log a.times.now c.if-log-gt-MOST_POINTS.false c.if-times-gt-MOST_TIMES.false (omega (arith, (let it : let a = c.args in c.saturating_sub.result ≡ a.log.points - get_or (counts_in a.rule.now a.log a.times.now) (last_node a.rule.now) 0 = c.saturating_sub.ensures ∙ part_open c.count_points.ensures c.requires.1 in it), c.if-saturating_sub-gt-MOST_OPEN.false)) counted; counted = λ t. (c.if-log-gt-MOST_POINTS.false, counted) }

@@ -1,4 +1,3 @@
-use Prim.Native.Nat.{◌-◌}
 use mathlib.Core.Path.{◌≡◌}
 use Rattle.meaning.specs.RuleFile.{node_count}
 use Rattle.method.specs.Stored.{stamp_in}
@@ -8,6 +7,3 @@ use Rattle.progress.proofs.counts.Given as goal
 -- After each turn the counts of one node more are in place.
 abbrev pub invariant-loop-x : goal.invariant-loop-x
 invariant-loop-x l = (l.nodes ≡ node_count l.rule) × Filling l.rule (stamp_in l.base l.times) l.log l.from l.initial.out l.x l.out
-
-abbrev pub decreases-loop-x : goal.decreases-loop-x
-decreases-loop-x l = l.nodes - l.x

@@ -3,17 +3,12 @@ use Prim.Native.Nat.{◌<◌}
 use native.Mathlib.Omega.{arith}
 use borrow.Author.Rules.{rules}
 use Rattle.meaning.specs.RuleFile.{node_count}
-use Rattle.meaning.proofs.Accepted.{accepted, lower, nodes_most, last_is_node}
-use Rattle.wanted.proofs.Handed.{handed_none, handed_more, handed_all}
+use Rattle.meaning.proofs.Accepted.{accepted, lower, last_is_node}
+use Rattle.wanted.proofs.Handed.{handed_more, handed_all}
 use Rattle.wanted.proofs.wanted.Goals as goal
 
 pub bounds-rule-2 : goal.bounds-rule-2
 bounds-rule-2 c = let r = c.requires.rule_value in omega (arith, (accepted _ r.0 r.1).long)
-
-pub loop-x-init : goal.loop-x-init
-loop-x-init c = let args = c.args in
-    let rule = c.requires.rule_value in
-    (search rules, search rules, search rules, handed_none args.rule.now rule.0 rule.1 args.counts.now args.out.now)
 
 pub first_wanted-first-requires : goal.first_wanted-first-requires
 first_wanted-first-requires c = let r = c.requires.rule_value in
@@ -31,11 +26,6 @@ want_children-requires c d m = let r = c.requires.rule_value in
     let rule = c.args.rule.now in
     let under : d < loop.x = lower rule (node_count rule) (accepted rule r.0 r.1).each loop.x (omega arith) loop.x (omega arith) d (rw c.children_at-children.ensures at m) in
     (omega arith, omega arith)
-
-pub overflow_add-x : goal.overflow_add-x
-overflow_add-x c = let r = c.requires.rule_value in
-    let loop = c.loop-x in
-    omega (arith, loop.invariant.0, nodes_most _ r.0 r.1)
 
 pub loop-x-preserved : goal.loop-x-preserved
 loop-x-preserved c = let r = c.requires.rule_value in
