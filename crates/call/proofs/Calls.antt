@@ -34,8 +34,8 @@ use Rattle.writer.specs.Words.{reported_from, words, Reportable}
 use Rattle.writer.proofs.Reports.{reportable}
 use Rattle.limits.specs.declared.Refusal.{Refusal}
 use Rattle.limits.specs.declared.Refusal.TheVariants.{Crowded}
-use Rattle.limits.specs.declared.Weighed.{Weighed}
-use Rattle.limits.specs.declared.Weighed.TheVariants.{Refused, Written}
+use Rattle.limits.specs.declared.Written.{Written}
+use Rattle.std.specs.Prelude.{Result, Ok, Err}
 use Rattle.limits.specs.Weighs.{weighed_of, after_crowds, Weighs}
 use Rattle.limits.proofs.Weighing.{words_few, not_written}
 use Rattle.node_step.specs.declared.Place.{Place}
@@ -51,7 +51,7 @@ either_way f g (inl x) = f x
 either_way f g (inr y) = g y
 
 -- a call that is settled has not come out full
-pub not_full : {A : Type 0} {r : Weighed} → Done r ≡ Full → A
+pub not_full : {A : Type 0} {r : Result Written Refusal} → Done r ≡ Full → A
 not_full d = let q : ◌≡◌ {A = ℕ} 0 1 = cc in absurd (omega arith)
 
 -- ---- the crowded nodes
@@ -167,7 +167,7 @@ module _ {b : List ℕ} {log : LogEnd} {stamps os ns vs : List ℕ} {count : ℕ
     pub again_so : (P : Stored → Type 0) → P s → P (call_in b log stamps os' ns' vs' count)
     again_so P u = rw (d, e, g) u
 
-    pub again_settled : {buffer buffer₁ buffer₂ os₂ ns₂ vs₂ : List ℕ} {r : Weighed} → buffer₁ ≡ buffer → SettledCall (call_in b log stamps os' ns' vs' count) w buffer₁ buffer₂ os' ns' vs' os₂ ns₂ vs₂ r
+    pub again_settled : {buffer buffer₁ buffer₂ os₂ ns₂ vs₂ : List ℕ} {r : Result Written Refusal} → buffer₁ ≡ buffer → SettledCall (call_in b log stamps os' ns' vs' count) w buffer₁ buffer₂ os' ns' vs' os₂ ns₂ vs₂ r
         → SettledCall s w buffer buffer₂ os ns vs os₂ ns₂ vs₂ r
     again_settled k u = rw (k, d, e, g) at u
 
@@ -193,13 +193,13 @@ module _ {b : List ℕ} {log : LogEnd} {stamps os ns vs : List ℕ} {count : ℕ
 
   module _ {rows at on ov bl : List ℕ} {room : ℕ} {r : Place} (t : Walked s w rows at on ov bl room r) where
     -- a node is crowded
-    pub crowded_settles : {buffer : List ℕ} → r.low < 32 → SettledCall s w buffer buffer os ns vs os ns vs (Refused (Crowded r.low))
+    pub crowded_settles : {buffer : List ℕ} → r.low < 32 → SettledCall s w buffer buffer os ns vs os ns vs (Err (Crowded r.low))
     unfolding weighed_now weighed
     crowded_settles u =
         record {
           outcome = sym (crowd_first (crowded_now s w) 0 (node_count b) r.low _ (omega arith) (omega (arith, (t.told u).0)) (λ y v o. t.calm y (omega (arith, (t.told u).0)) o) (t.told u).1);
           written = refl;
-          stored = λ words kept d. not_written d;
+          stored = λ v d. not_written d;
           stays = λ e d. (refl, refl, refl);
         }
 
@@ -276,33 +276,33 @@ module _ {b : List ℕ} {log : LogEnd} {stamps os ns vs : List ℕ} {count : ℕ
           }
 
       -- the last node's report weighed
-      abbrev WeighsLast : List ℕ → List ℕ → Weighed → Type 0
+      abbrev WeighsLast : List ℕ → List ℕ → Result Written Refusal → Type 0
       WeighsLast = Weighs (log.points + points_added w - after_in f x) r.kept (words rows at stamps (last_points b f log.points stamps))
 
       module _ (enough : (most_kept ≤ room) ⊎ (r.kept ≤ room)) {buffer buffer' : List ℕ} where
-        outcome_so : {q : Weighed} → WeighsLast buffer buffer' q → weighed_of q ≡ weighed_now s w (length buffer)
+        outcome_so : {q : Result Written Refusal} → WeighsLast buffer buffer' q → weighed_of q ≡ weighed_now s w (length buffer)
         unfolding weighed_now weighed
         outcome_so g =
             g.outcome ∙ after_same r.kept (length (stored_now s w).entries) (length buffer) (ap (λ k. log.points + points_added w - k) figures.after) (over_same room r.kept (length (stored_now s w).entries) (t.counted none) enough) (ap length report_same)
             ∙ sym (crowds_none (crowded_now s w) 0 (node_count b) _ (λ y u o. t.calm y (omega arith) (omega (arith, nodes_few))))
 
-        written_so : {q : Weighed} → WeighsLast buffer buffer' q → buffer' ≡ buffer_after (weighed_of q) (report_now s w) buffer
+        written_so : {q : Result Written Refusal} → WeighsLast buffer buffer' q → buffer' ≡ buffer_after (weighed_of q) (report_now s w) buffer
         written_so g = rw report_same at g.written
 
-        pub refused_settles : {e : Refusal} → WeighsLast buffer buffer' (Refused e) → SettledCall s w buffer buffer' os ns vs os ns vs (Refused e)
-        refused_settles g = record { outcome = outcome_so g; written = written_so g; stored = λ words kept d. not_written d; stays = λ e d. (refl, refl, refl) }
+        pub refused_settles : {e : Refusal} → WeighsLast buffer buffer' (Err e) → SettledCall s w buffer buffer' os ns vs os ns vs (Err e)
+        refused_settles g = record { outcome = outcome_so g; written = written_so g; stored = λ v d. not_written d; stays = λ e d. (refl, refl, refl) }
 
-        pub written_fits : {n k : ℕ} → WeighsLast buffer buffer' (Written n k) → (r.kept ≤ room) × (r.kept ≤ most_kept)
-        written_fits {n} {k} g =
-            let u : r.kept ≤ most_kept = (g.kept n k refl).1 in
-            (either_way (λ v. omega arith) (λ v. v) enough, u)
+        pub written_fits : {v : Written} → WeighsLast buffer buffer' (Ok v) → (r.kept ≤ room) × (r.kept ≤ most_kept)
+        written_fits {v} g =
+            let u : r.kept ≤ most_kept = (g.kept v refl).1 in
+            (either_way (λ m. omega arith) (λ m. m) enough, u)
 
-        pub written_settles : {n k : ℕ} {os' ns' vs' : List ℕ} → WeighsLast buffer buffer' (Written n k) → EntriesStored os ns vs os' ns' vs' (gather (block_in on ov bl) (range 0 (node_count b))) → SettledCall s w buffer buffer' os ns vs os' ns' vs' (Written n k)
+        pub written_settles : {v : Written} {os' ns' vs' : List ℕ} → WeighsLast buffer buffer' (Ok v) → EntriesStored os ns vs os' ns' vs' (gather (block_in on ov bl) (range 0 (node_count b))) → SettledCall s w buffer buffer' os ns vs os' ns' vs' (Ok v)
         written_settles g stored =
             let u : r.kept ≤ room = (written_fits g).0 in
             record {
               outcome = outcome_so g;
               written = written_so g;
-              stored = λ words kept d. let q = g.kept words kept d in (q.0 ∙ kept_all u, omega (arith, q.0, q.1), rw (blocks_are u) at stored);
+              stored = λ v d. let q = g.kept v d in (q.0 ∙ kept_all u, omega (arith, q.0, q.1), rw (blocks_are u) at stored);
               stays = λ e d. not_written (sym d);
             }

@@ -1,5 +1,5 @@
 -- A call from a well-formed state and an admitted event or notice on: what 13 to 16 answer, and what is left of the buffer and the state's words.
-use Rattle.std.specs.Prelude.{ℕ, ◌+◌, ◌-◌, ◌*◌, ◌≤◌, ◌≡◌, List, length, take}
+use Rattle.std.specs.Prelude.{ℕ, ◌+◌, ◌-◌, ◌*◌, ◌≤◌, ◌≡◌, List, length, take, Result, Ok, Err}
 use Rattle.meaning.specs.Outcome.{Outcome, most_kept}
 use Rattle.meaning.specs.RuleFile.{node_count, last_node}
 use Rattle.meaning.specs.Keeper.{weighed, buffer_after}
@@ -8,8 +8,7 @@ use Rattle.method.specs.Stored.{Stored}
 use Rattle.method.specs.Step.{points_added, count_after, stored_now, crowded_now, report_now}
 use Rattle.limits.specs.Weighs.{weighed_of}
 use Rattle.limits.specs.declared.Refusal.{Refusal}
-use Rattle.limits.specs.declared.Weighed.{Weighed}
-use Rattle.limits.specs.declared.Weighed.TheVariants.{Refused, Written}
+use Rattle.limits.specs.declared.Written.{Written}
 use Rattle.node_step.specs.Figures.{called, CallReady}
 use Rattle.node_step.specs.Walks.{set_words}
 use Rattle.call.specs.Stores.{EntriesStored}
@@ -38,11 +37,11 @@ weighed_now s w room =
     weighed (crowded_now s w) (node_count s.rule) (s.points + points_added w - count_after s w (last_node s.rule)) (length (stored_now s w).entries) (length (report_now s w)) room
 
 -- the call settled: the answer, the buffer, and the entries that are then stored; on a refusal every word as it was
-pub record SettledCall (s : Stored) (w buffer buffer' os ns vs os' ns' vs' : List ℕ) (r : Weighed) : Type 0 where
+pub record SettledCall (s : Stored) (w buffer buffer' os ns vs os' ns' vs' : List ℕ) (r : Result Written Refusal) : Type 0 where
   pub outcome : weighed_of r ≡ weighed_now s w (length buffer)
   pub written : buffer' ≡ buffer_after (weighed_of r) (report_now s w) buffer
-  pub stored : (words kept : ℕ) → r ≡ Written words kept → (kept ≡ length (stored_now s w).entries) × (kept ≤ most_kept) × EntriesStored os ns vs os' ns' vs' (stored_now s w).entries
-  pub stays : (e : Refusal) → r ≡ Refused e → (os' ≡ os) × (ns' ≡ ns) × (vs' ≡ vs)
+  pub stored : (v : Written) → r ≡ Ok v → (v.kept ≡ length (stored_now s w).entries) × (v.kept ≤ most_kept) × EntriesStored os ns vs os' ns' vs' (stored_now s w).entries
+  pub stays : (e : Refusal) → r ≡ Err e → (os' ≡ os) × (ns' ≡ ns) × (vs' ≡ vs)
 
 -- the call tried: settled; or more entries would be kept than there is room for, and every word is as it was
 abbrev pub Tried : Stored → List ℕ → List ℕ → List ℕ → List ℕ → List ℕ → List ℕ → List ℕ → List ℕ → List ℕ → Settled → Type 0

@@ -16,7 +16,7 @@ ghost use Rattle.call.specs.Blocks.{EntriesPut, BlockStorable, last_points, Last
 ghost use Rattle.call.specs.Settles.{call_in, ReadyIn, RoomToKeep, Tried};
 ghost use Rattle.call.specs.declared.Settled.TheVariants.{Full};
 
-use limits::{Refusal, Weighed};
+use limits::{Refusal, Written};
 use meaning::{LogEnd, Point};
 use node_step::{NO_NODE, NODE_WORDS, SET_WORDS};
 use writer::Points;
@@ -24,7 +24,7 @@ use writer::Points;
 // A call that was tried: settled, or more entries would be kept than there was room for.
 #[derive(Clone, Copy)]
 pub enum Settled {
-    Done(Weighed),
+    Done(Result<Written, Refusal>),
     Full,
 }
 
@@ -103,7 +103,7 @@ fn weigh_last(
     at: &[u32],
     kept: usize,
     report: &mut [u32],
-) -> Weighed
+) -> Result<Written, Refusal>
     requires { LastReady rule.now figures.now points event.now stamps.now rows.now at.now }
     ensures { Weighs (points + points_added event.now - after_in figures.now (last_node rule.now)) kept (words rows.now at.now stamps.now (last_points rule.now figures.now points stamps.now)) report.old report.new result }
 {
@@ -163,7 +163,7 @@ pub fn settle(
     );
     let low = place.low;
     if low < NO_NODE {
-        return Settled::Done(Weighed::Refused(Refusal::Crowded(low)));
+        return Settled::Done(Err(Refusal::Crowded(low)));
     }
     let kept = place.kept;
     let room = out_numbers.len();
@@ -176,8 +176,8 @@ pub fn settle(
         rule, figures, stamps, log.points, event, rows, at, kept, report,
     );
     match weighed {
-        Weighed::Refused(refusal) => Settled::Done(Weighed::Refused(refusal)),
-        Weighed::Written(words, stored) => {
+        Err(refusal) => Settled::Done(Err(refusal)),
+        Ok(written) => {
             store(
                 out_numbers,
                 out_values,
@@ -187,7 +187,7 @@ pub fn settle(
                 numbers,
                 values,
             );
-            Settled::Done(Weighed::Written(words, stored))
+            Settled::Done(Ok(written))
         }
     }
 }

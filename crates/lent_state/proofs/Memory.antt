@@ -28,7 +28,7 @@ use Rattle.lent_state.specs.Lent.{Lent, lent, lengths_fit, fitting, SizedWords, 
 use Rattle.lent_state.specs.declared.Answer.{Answer}
 use Rattle.lent_state.specs.declared.Answer.TheVariants.{Written, Refused}
 use Rattle.lent_state.specs.declared.Taken.{Taken}
-use Rattle.lent_state.specs.declared.Taken.TheVariants as taken
+use Rattle.std.specs.Prelude.{Result, Ok, Err}
 
 -- the lengths of a state's arrays
 pub record Sized (rule times owners numbers values : List ℕ) : Type 0 where
@@ -107,7 +107,7 @@ module _ (m : Lent) (f : Fed) (buffer : List ℕ) where
     unfolding answer_in take_answer
     taken_bad bad = record { answered = rw (fit, bad); moved = rw (fit, bad); written = rw (fit, bad) }
 
-    module _ {w buffer' times' os' ns' vs' : List ℕ} {s : Stored} {r : Taken} (is : s ≡ stored m) (words_of_lem : words_of f ≡ w)
+    module _ {w buffer' times' os' ns' vs' : List ℕ} {s : Stored} {r : Result Taken Refusal} (is : s ≡ stored m) (words_of_lem : words_of f ≡ w)
         (t : TakesIn s w buffer buffer' m.times m.owners m.numbers m.values times' os' ns' vs' (take_answer s f (length buffer)) r) where
       takes : TakesIn (stored m) (words_of f) buffer buffer' m.times m.owners m.numbers m.values times' os' ns' vs' (take_answer (stored m) f (length buffer)) r
       takes =
@@ -122,7 +122,7 @@ module _ (m : Lent) (f : Fed) (buffer : List ℕ) where
       left_as m' a e k = record { answered = sym e ∙ answer_is; moved = k ∙ ap (λ o. lent_after o m f) answer_is; written = takes.written ∙ ap (λ o. buffer_after o (report_now (stored m) (words_of f)) buffer) answer_is }
 
       -- a refusal
-      pub taken_refused : (q : Refusal) → r ≡ taken.Refused q → TakesLent m f buffer (Refused q) (lent m.rule m.bytes m.log times' m.retained os' ns' vs' m.count) buffer'
+      pub taken_refused : (q : Refusal) → r ≡ Err q → TakesLent m f buffer (Refused q) (lent m.rule m.bytes m.log times' m.retained os' ns' vs' m.count) buffer'
       taken_refused q e =
           let (et, eo, en, ev) = takes.stays q e in
           let same : lent m.rule m.bytes m.log times' m.retained os' ns' vs' m.count ≡ m = rw (et, eo, en, ev) in
@@ -133,23 +133,23 @@ module _ (m : Lent) (f : Fed) (buffer : List ℕ) where
       end_now_lem = refl
 
       -- it is taken
-      module _ (words retained kept : ℕ) (e : r ≡ taken.Done words retained kept) where
-        pub taken_done : {added : ℕ} → added ≡ points_added w → TakesLent m f buffer (Written words) (lent m.rule m.bytes (record { points = m.log.points + added; latest = stamp (get_or w 0 0) }) times' retained os' ns' vs' kept) buffer'
+      module _ (g : Taken) (e : r ≡ Ok g) where
+        pub taken_done : {added : ℕ} → added ≡ points_added w → TakesLent m f buffer (Written g.written.words) (lent m.rule m.bytes (record { points = m.log.points + added; latest = stamp (get_or w 0 0) }) times' g.retained os' ns' vs' g.written.kept) buffer'
         taken_done {added} ea =
-            let k = takes.done words retained kept e in
+            let k = takes.done g e in
             let end : ◌≡◌ {A = LogEnd} (record { points = m.log.points + added; latest = stamp (get_or w 0 0) }) (end_of (stored_now (stored m) (words_of f)))
             = ap (λ n. record { points = m.log.points + n; latest = stamp (get_or w 0 0) }) ea ∙ ap (λ v. record { points = m.log.points + points_added v; latest = stamp (get_or v 0 0) }) (sym words_of_lem) ∙ sym end_now_lem in
-            let same : lent m.rule m.bytes (record { points = m.log.points + added; latest = stamp (get_or w 0 0) }) times' retained os' ns' vs' kept ≡ lent_with (stored_now (stored m) (words_of f)) m
+            let same : lent m.rule m.bytes (record { points = m.log.points + added; latest = stamp (get_or w 0 0) }) times' g.retained os' ns' vs' g.written.kept ≡ lent_with (stored_now (stored m) (words_of f)) m
             = rw (end, k.times_stored, k.retained_are, k.entries-stored.owners, k.entries-stored.numbers, k.entries-stored.values, k.kept_are) in
-            left_as _ (Written words) (ap taken_of e) (same ∙ rw e)
+            left_as _ (Written g.written.words) (ap taken_of e) (same ∙ rw e)
 
         -- and there was room for its point
         pub taken_room : m.log.points + points_added w ≤ most_points
-        taken_room = subst (λ v. m.log.points + points_added v ≤ most_points) words_of_lem (given_room (stored m) f (length buffer) words (sym takes.outcome ∙ ap taken_of e))
+        taken_room = subst (λ v. m.log.points + points_added v ≤ most_points) words_of_lem (given_room (stored m) f (length buffer) g.written.words (sym takes.outcome ∙ ap taken_of e))
 
         -- and it had a time
         pub taken_some : 0 < length w
-        taken_some = subst (λ v. 0 < length v) words_of_lem (given_some (stored m) f (length buffer) words (sym takes.outcome ∙ ap taken_of e))
+        taken_some = subst (λ v. 0 < length v) words_of_lem (given_some (stored m) f (length buffer) g.written.words (sym takes.outcome ∙ ap taken_of e))
 
 -- what is stored in the parts is what is stored at their front
 pub stored_parts : (m : Lent) (n : ℕ) → n ≡ m.bytes → m.bytes ≤ length m.rule → m.retained ≤ length m.times → stored_in (take n m.rule) m.log (take m.retained m.times) m.owners m.numbers m.values m.count ≡ stored m

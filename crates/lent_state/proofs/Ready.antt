@@ -26,17 +26,15 @@ use Rattle.entries.specs.Entries.{entry_at, entries_from, EntriesWithin}
 use Rattle.entries.specs.Appended.{at_front}
 use Rattle.entries.proofs.Listed.{listed_same}
 use Rattle.formed.specs.StateFigures.{stored_in, StateFigures, EntryPlaces}
-use Rattle.limits.specs.Weighs.{weighed_of}
 use Rattle.limits.specs.declared.Refusal.{Refusal}
-use Rattle.limits.specs.declared.Weighed.{Weighed}
-use Rattle.limits.specs.declared.Weighed.TheVariants as weighed
+use Rattle.limits.specs.declared.Written.{Written}
+use Rattle.std.specs.Prelude.{Result}
 use Rattle.node_step.specs.Figures.{begin_in, pairs_in, end_in, NodeFigures, CallReady}
 use Rattle.figures.specs.Counts.{bare, Counting}
 use Rattle.figures.specs.Tables.{rows_in, CallTable}
 use Rattle.figures.proofs.Slices.{run_many}
 use Rattle.call.specs.Settles.{call_in, ReadyIn, weighed_now, SettledCall}
 use Rattle.lent_state.specs.declared.Taken.{Taken}
-use Rattle.lent_state.specs.declared.Taken.TheVariants as taken
 use Rattle.lent_state.specs.Answers.{Finishes, TakesIn}
 use Rattle.lent_state.specs.Lent.{SizedWords}
 use Rattle.figures.proofs.Needs.{need_agrees}
@@ -202,7 +200,7 @@ module _ (b : List ℕ) (log : LogEnd) (times os ns vs : List ℕ) (count : ℕ)
               ap (λ j. take j stamps₀) q ∙ sym (take-take (length times) (length times + 1) stamps₀ (omega arith)) ∙ ap (take (length times)) t.stamps_are_now ∙ take-append_seam times (get_or w 0 0 ∷ []) ∙ sym (append-nil times)
 
       -- what is weighed, once the times are retained, is what the method says of the call
-      pub taken_now : {buffer buffer' times' os' ns' vs' : List ℕ} {r : Weighed} {q : Taken} {added : ℕ} (first : ℕ) → added ≡ points_added w → first ≡ length times + points_added w
+      pub taken_now : {buffer buffer' times' os' ns' vs' : List ℕ} {r : Result Written Refusal} {q : Result Taken Refusal} {added : ℕ} (first : ℕ) → added ≡ points_added w → first ≡ length times + points_added w
           → SettledCall (call_in b log stamps os ns vs count) w buffer buffer' os ns vs os' ns' vs' r → Finishes (log.points + added) (take n after) (take first stamps₀) times₀ times' r q
           → TakesIn s w buffer buffer' times₀ os ns vs times' os' ns' vs' (weighed_now s w (length buffer)) q
       unfolding stored_now
@@ -214,9 +212,9 @@ module _ (b : List ℕ) (log : LogEnd) (times os ns vs : List ℕ) (count : ℕ)
           record {
             outcome = h.outcome ∙ a.outcome;
             written = a.written ∙ ap (λ o. buffer_after o (report_now s w) buffer) (sym h.outcome);
-            done = λ words retained kept d.
-                let (ew, ets, er) = h.done words retained kept d in
-                let (ek, few, es) = a.stored words kept ew in
+            done = λ u d.
+                let (ew, ets, er) = h.done u d in
+                let (ek, few, es) = a.stored u.written ew in
                 let ec : take n after ≡ counts_after s w = ap (λ q. take q after) e ∙ t.counts_now ∙ bare_counts in
                 let el : log.points + points_added w - length (times ++ times_added w) ≡ log.points - length times = omega (arith, length-append times (times_added w), added_times w) in
                 let dropped : drop ((first_retained (log.points + points_added w) (take n after)).0 - (log.points + points_added w - length (times ++ times_added w))) (times ++ times_added w) ≡ (stored_now s w).times = rw (ec, el) in
@@ -228,14 +226,3 @@ module _ (b : List ℕ) (log : LogEnd) (times os ns vs : List ℕ) (count : ℕ)
                 };
             stays = λ r d. let (er, et) = h.stays r d in let (eo, en, ev) = a.stays r er in (et, eo, en, ev);
           }
-
--- ---- what follows once the call is weighed
-
-module _ {points : ℕ} {after stamps times : List ℕ} {v : Weighed} where
-  pub finish_refused : (e : Refusal) → v ≡ weighed.Refused e → Finishes points after stamps times times v (taken.Refused e)
-  finish_refused e q = record { outcome = sym (ap weighed_of q); done = λ words retained kept d. let z : ◌≡◌ {A = ℕ} 0 1 = cc in absurd (omega arith); stays = λ r d. (cc, refl) }
-
-  pub finish_done : {times' : List ℕ} (words kept retained : ℕ) → v ≡ weighed.Written words kept → times' ≡ at_front (drop ((first_retained points after).0 - (points - length stamps)) stamps) times
-      → retained ≡ length stamps - ((first_retained points after).0 - (points - length stamps)) → Finishes points after stamps times times' v (taken.Done words retained kept)
-  finish_done words kept retained q et er =
-      record { outcome = sym (ap weighed_of q); done = λ a r k d. (cc, et, cc); stays = λ e d. let z : ◌≡◌ {A = ℕ} 0 1 = cc in absurd (omega arith) }

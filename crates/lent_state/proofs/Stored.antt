@@ -33,7 +33,7 @@ use Rattle.limits.specs.declared.Refusal.TheVariants.{NotWellFormed, NotAnEvent,
 use Rattle.call.specs.Settles.{weighed_now}
 use Rattle.lent_state.specs.Answers.{take_answer, TakesIn}
 use Rattle.lent_state.specs.declared.Taken.{Taken}
-use Rattle.lent_state.specs.declared.Taken.TheVariants.{Refused}
+use Rattle.std.specs.Prelude.{Result, Err}
 
 -- ---- the times in a part of their words
 
@@ -77,16 +77,16 @@ untouched KeptOver report buffer = refl
 untouched (BufferShort words) report buffer = refl
 
 module _ {s : Stored} {w buffer times os ns vs : List ℕ} where
-  refuses : {answer : Outcome ℕ} (r : Refusal) → refusal_of r ≡ answer → TakesIn s w buffer buffer times os ns vs times os ns vs answer (Refused r)
+  refuses : {answer : Outcome ℕ} (r : Refusal) → refusal_of r ≡ answer → TakesIn s w buffer buffer times os ns vs times os ns vs answer (Err r)
   refuses r e =
       record {
         outcome = e;
         written = untouched r (report_now s w) buffer;
-        done = λ words retained kept q. let z : ◌≡◌ {A = ℕ} 0 1 = cc in absurd (omega arith);
+        done = λ t q. cc;
         stays = λ e q. (refl, refl, refl, refl);
       }
 
-  pub not_formed : (f : Fed) → well_formed s ≡ false → TakesIn s w buffer buffer times os ns vs times os ns vs (take_answer s f (length buffer)) (Refused NotWellFormed)
+  pub not_formed : (f : Fed) → well_formed s ≡ false → TakesIn s w buffer buffer times os ns vs times os ns vs (take_answer s f (length buffer)) (Err NotWellFormed)
   unfolding take_answer
   not_formed f e = refuses NotWellFormed (rw e)
 
@@ -155,9 +155,9 @@ module _ (s : Stored) (w : List ℕ) (room : ℕ) where
 
 module _ {s : Stored} {w buffer times os ns vs : List ℕ} (k : Handed) (whole : HandedWhole k w) (a : Admitted) (ok : well_formed s ≡ true)
     (h : (rest : Outcome ℕ) → admits s.rule (fed_of k w) s.latest s.points rest ≡ outcome_of a rest) where
-  pub refused_first : {r : Refusal} → ((rest : Outcome ℕ) → refusal_of r ≡ outcome_of a rest) → TakesIn s w buffer buffer times os ns vs times os ns vs (take_answer s (fed_of k w) (length buffer)) (Refused r)
+  pub refused_first : {r : Refusal} → ((rest : Outcome ℕ) → refusal_of r ≡ outcome_of a rest) → TakesIn s w buffer buffer times os ns vs times os ns vs (take_answer s (fed_of k w) (length buffer)) (Err r)
   refused_first {r} e = refuses r (e (weighed_now s w (length buffer)) ∙ sym (answers s w (length buffer) k whole a ok h))
 
-  pub taken_on : {buffer' times' os' ns' vs' : List ℕ} {r : Taken} → a ≡ Fine → TakesIn s w buffer buffer' times os ns vs times' os' ns' vs' (weighed_now s w (length buffer)) r
+  pub taken_on : {buffer' times' os' ns' vs' : List ℕ} {r : Result Taken Refusal} → a ≡ Fine → TakesIn s w buffer buffer' times os ns vs times' os' ns' vs' (weighed_now s w (length buffer)) r
       → TakesIn s w buffer buffer' times os ns vs times' os' ns' vs' (take_answer s (fed_of k w) (length buffer)) r
   taken_on fine t = record { outcome = t.outcome ∙ sym (answers s w (length buffer) k whole a ok h ∙ ap (λ q. outcome_of q (weighed_now s w (length buffer))) fine); written = t.written; done = t.done; stays = t.stays }

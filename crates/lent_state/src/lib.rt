@@ -17,7 +17,7 @@ ghost use Rattle.lent_state.specs.Answers.{take_answer, Finishes, TakesIn};
 ghost use Rattle.lent_state.specs.Lent.{lent, lengths_fit, SizedWords, TakesLent};
 
 use events::{Admitted, Handed};
-use limits::{Refusal, Weighed};
+use limits::{Refusal, Written};
 use meaning::{LogEnd, MOST_KEPT, MOST_NODES, RULE_BYTES, Stamp, TIME_WORDS};
 use node_step::NODE_WORDS;
 
@@ -40,25 +40,27 @@ pub struct Returned {
     pub answer: Answer,
 }
 
-// What a step of a taking gives: a refusal, or the words written, the times retained and the entries kept.
+// What a step of a taking leaves that isn't refused: what was written and kept, and how many times are retained.
 #[derive(Clone, Copy)]
-enum Taken {
-    Refused(Refusal),
-    Done(u32, u32, u32),
+struct Taken {
+    written: Written,
+    retained: u32,
 }
 
 // What follows once 13 to 16 are weighed: where nothing is refused, the times that are retained are stored.
-fn finish(weighed: Weighed, after: &[u32], points: u32, stamps: &[u32], times: &mut [u32]) -> Taken
+fn finish(
+    weighed: Result<Written, Refusal>,
+    after: &[u32],
+    points: u32,
+    stamps: &[u32],
+    times: &mut [u32],
+) -> Result<Taken, Refusal>
     requires { (length stamps.now ≤ points) × (length stamps.now ≤ length times.old) × (length stamps.now < 4294967296) }
     ensures { Finishes points after.now stamps.now times.old times.new weighed result }
 {
-    match weighed {
-        Weighed::Refused(refusal) => Taken::Refused(refusal),
-        Weighed::Written(words, kept) => {
-            let retained = figures::retain(after, points, stamps, times);
-            Taken::Done(words, retained, kept)
-        }
-    }
+    let written = weighed?;
+    let retained = figures::retain(after, points, stamps, times);
+    Ok(Taken { written, retained })
 }
 
 // The words of what passes the first checks, an event's or a notice's one, taken in a state that is well formed. For each node of the rule there are the mask of its free variables, how many points it has settled, from which point on its rows are kept, and where its entries and its pairs begin.
@@ -78,7 +80,7 @@ fn take_admitted(
     lows: &[u32],
     begins: &[u32],
     pairs: &[u32],
-) -> Taken
+) -> Result<Taken, Refusal>
     requires sized_words { SizedWords times.old owners.old numbers.old values.old retained count }
     requires formed { Formed (stored_in rule.now log (take retained times.old) owners.old numbers.old values.old count) }
     requires state_figures { StateFigures (stored_in rule.now log (take retained times.old) owners.old numbers.old values.old count) masks.now counts.now lows.now × EntryPlaces (stored_in rule.now log (take retained times.old) owners.old numbers.old values.old count) owners.old numbers.old values.old count begins.now pairs.now }
@@ -156,7 +158,7 @@ fn take_stored(
     count: usize,
     words: &[u32],
     report: &mut [u32],
-) -> Taken
+) -> Result<Taken, Refusal>
     requires { SizedWords times.old owners.old numbers.old values.old retained count × HandedWhole handed words.now }
     ensures { TakesIn (stored_in rule.now log (take retained times.old) owners.old numbers.old values.old count) words.now report.old report.new times.old owners.old numbers.old values.old times.new owners.new numbers.new values.new (take_answer (stored_in rule.now log (take retained times.old) owners.old numbers.old values.old count) (fed_of handed words.now) (length report.old)) result }
 {
@@ -179,11 +181,11 @@ fn take_stored(
         &mut begins,
         &mut pairs,
     ) {
-        return Taken::Refused(Refusal::NotWellFormed);
+        return Err(Refusal::NotWellFormed);
     }
     let admitted = events::admit_handed(handed, rule, words, log);
     let Admitted::Fine = admitted else {
-        return Taken::Refused(refusal_of(admitted));
+        return Err(refusal_of(admitted));
     };
     take_admitted(
         rule, log, times, retained, owners, numbers, values, count, words, report, &masks, &counts,
@@ -267,15 +269,15 @@ pub fn take_handed(
         report,
     );
     match taken {
-        Taken::Refused(refusal) => as_it_was(log, retained, count, refusal),
-        Taken::Done(written, kept_times, kept) => Returned {
+        Err(refusal) => as_it_was(log, retained, count, refusal),
+        Ok(done) => Returned {
             log: LogEnd {
                 points: log.points + progress::points_added(words),
                 latest: Stamp(words[0]),
             },
-            retained: kept_times,
-            count: kept,
-            answer: Answer::Written(written),
+            retained: done.retained,
+            count: done.written.kept,
+            answer: Answer::Written(done.written.words),
         },
     }
 }

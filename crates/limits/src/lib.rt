@@ -6,10 +6,10 @@ ghost use Rattle.writer.specs.Words.{words, Reportable};
 ghost use Rattle.limits.specs.Weighs.{Weighs};
 
 use meaning::{MOST_KEPT, MOST_OPEN};
-use writer::{Points, Wrote};
+use writer::Points;
 
 // A refusal of a taking, with its place where it has one.
-#[derive(Clone, Copy)]
+#[derive(Clone, Copy, Debug, PartialEq, Eq)]
 pub enum Refusal {
     NotWellFormed,
     NotAnEvent,
@@ -22,11 +22,11 @@ pub enum Refusal {
     BufferShort(u32),
 }
 
-// What weighing 13 to 16 gives: a refusal, or the words written and the entries kept.
-#[derive(Clone, Copy)]
-pub enum Weighed {
-    Refused(Refusal),
-    Written(u32, u32),
+// What a taking leaves that isn't refused: the words of its report, and how many entries are kept.
+#[derive(Clone, Copy, Debug, PartialEq, Eq)]
+pub struct Written {
+    pub words: u32,
+    pub kept: u32,
 }
 
 // Refusals 14 to 16, and the report where none applies: on points that the last node has newly settled. `unsettled` points are left for it, and `kept` entries would be kept.
@@ -38,20 +38,22 @@ pub fn weigh(
     p: Points,
     unsettled: u32,
     kept: usize,
-) -> Weighed
+) -> Result<Written, Refusal>
     requires reportable { Reportable rows.now marks.now p }
     requires p_len_bound { length (words rows.now marks.now times.now p) < 2 ^ 32 }
     ensures { Weighs unsettled kept (words rows.now marks.now times.now p) report.old report.new result }
 {
     if MOST_OPEN < unsettled {
-        return Weighed::Refused(Refusal::Backlog);
+        return Err(Refusal::Backlog);
     }
     if MOST_KEPT < kept {
-        return Weighed::Refused(Refusal::KeptOver);
+        return Err(Refusal::KeptOver);
     }
-    let wrote = writer::write(report, rows, marks, times, p);
-    match wrote {
-        Wrote::Short(needed) => Weighed::Refused(Refusal::BufferShort(needed as u32)),
-        Wrote::Words(words) => Weighed::Written(words as u32, kept as u32),
+    match writer::write(report, rows, marks, times, p) {
+        Ok(words) => Ok(Written {
+            words: words as u32,
+            kept: kept as u32,
+        }),
+        Err(short) => Err(Refusal::BufferShort(short.needed as u32)),
     }
 }

@@ -9,7 +9,7 @@ ghost use Rattle.call.specs.declared.Settled.TheVariants.{Done, Full};
 ghost use Rattle.workspace.specs.Rooms.{CallFits, NeedsAre, small_rows, double_rows, medium_rows, usual_rows, large_rows, largest_rows, few_marks, some_marks, marks};
 
 use call::Settled;
-use limits::{Refusal, Weighed};
+use limits::{Refusal, Written};
 use meaning::{LogEnd, MOST_KEPT, MOST_NODES};
 use node_step::SET_WORDS;
 
@@ -420,13 +420,13 @@ fn settle_usual_many(
 }
 
 // What a call gives that was tried with room for all entries that may be kept.
-fn done(settled: Settled) -> Weighed
+fn done(settled: Settled) -> Result<Written, Refusal>
     requires { settled ≡ Full → ⊥ }
     ensures { settled ≡ Done result }
 {
     match settled {
         Settled::Done(weighed) => weighed,
-        Settled::Full => Weighed::Refused(Refusal::KeptOver),
+        Settled::Full => Err(Refusal::KeptOver),
     }
 }
 
@@ -443,7 +443,7 @@ fn settle_large(
     values: &mut [u32],
     count: usize,
     report: &mut [u32],
-) -> Weighed
+) -> Result<Written, Refusal>
     requires again_value { again ≡ 0 }
     requires ready_in { ReadyIn rule.now log stamps.now owners.old numbers.old values.old count event.now figures.now }
     requires call_fits { CallFits (call_in rule.now log stamps.now owners.old numbers.old values.old count) event.now large_rows marks }
@@ -502,7 +502,7 @@ fn settle_largest(
     values: &mut [u32],
     count: usize,
     report: &mut [u32],
-) -> Weighed
+) -> Result<Written, Refusal>
     requires again_value { again ≡ 0 }
     requires ready_in { ReadyIn rule.now log stamps.now owners.old numbers.old values.old count event.now figures.now }
     requires call_fits { CallFits (call_in rule.now log stamps.now owners.old numbers.old values.old count) event.now largest_rows marks }
@@ -629,7 +629,7 @@ fn settle_all(
     count: usize,
     report: &mut [u32],
     needs: Needs,
-) -> Weighed
+) -> Result<Written, Refusal>
     requires again_value { again ≡ 0 }
     requires ready_in { ReadyIn rule.now log stamps.now owners.old numbers.old values.old count event.now figures.now }
     requires needs_are { NeedsAre (call_in rule.now log stamps.now owners.old numbers.old values.old count) event.now needs }
@@ -658,7 +658,7 @@ pub fn settle_in_room(
     count: usize,
     report: &mut [u32],
     needed: u32,
-) -> Weighed
+) -> Result<Written, Refusal>
     requires ready_in { ReadyIn rule.now log stamps.now owners.old numbers.old values.old count event.now figures.now }
     requires event_bound { rows_needed (call_in rule.now log stamps.now owners.old numbers.old values.old count) event.now ≤ needed }
     ensures { SettledCall (call_in rule.now log stamps.now owners.old numbers.old values.old count) event.now report.old report.new owners.old numbers.old values.old owners.new numbers.new values.new result }

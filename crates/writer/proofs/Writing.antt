@@ -3,6 +3,7 @@ use Prim.Native.Nat.{ℕ, ◌+◌, ◌-◌, ◌≤◌}
 use native.Mathlib.Omega.{arith}
 use mathlib.Core.Path.{◌≡◌, sym, ap}
 use mathlib.Core.List.{List, ◌++◌}
+use Rattle.std.specs.Prelude.{Result, Ok}
 use lib.ListN.{length, length-append}
 use denote.Ref.{MutBor}
 use borrow.Author.Tests.{le-ltb}
@@ -10,15 +11,14 @@ use Rattle.writer.specs.declared.Part.{Part}
 use Rattle.writer.specs.declared.Part.TheVariants.{Sizes, Triples, Rows}
 use Rattle.writer.specs.declared.Points.{Points}
 use Rattle.writer.specs.declared.Writer.{Writer}
-use Rattle.writer.specs.declared.Wrote.{Wrote}
-use Rattle.writer.specs.declared.Wrote.TheVariants.{Words}
-use Rattle.writer.specs.Puts.{Put, handed, wrote, written_to}
+use Rattle.writer.specs.declared.Short.{Short}
+use Rattle.writer.specs.Puts.{Put, wrote, written_to}
 use Rattle.writer.specs.Words.{part_words, words, Marked}
 use Rattle.writer.proofs.Putting.{put_long, put_then, put_front}
 use Rattle.writer.proofs.Reports.{words_parts}
 
 -- what `write` says of its answer and of the buffer then
-abbrev pub Answers : List ℕ → List ℕ → Wrote → List ℕ → Type 0
+abbrev pub Answers : List ℕ → List ℕ → Result ℕ Short → List ℕ → Type 0
 Answers report buffer r after = (r ≡ wrote report buffer) × (after ≡ written_to report buffer)
 
 -- three parts, one after the other, by a writer that is made on a buffer and asked for the words that it has left
@@ -52,9 +52,9 @@ module _ (rows marks times : List ℕ) (p : Points) (stand : Marked marks p) (w 
       pub third_fits : n₂ + length (part Rows) ≤ length b₂
       third_fits = omega (arith, asked, enough, lengths, made.1, first.place, put_long first, second.place, put_long second)
 
-      pub all_written : {b₃ : List ℕ} {n₃ : ℕ} → Put b₂ n₂ (part Rows) b₃ n₃ → Answers report buf.now (Words n₃) b₃
+      pub all_written : {b₃ : List ℕ} {n₃ : ℕ} → Put b₂ n₂ (part Rows) b₃ n₃ → Answers report buf.now (Ok n₃) b₃
       all_written {b₃} {n₃} third =
           let put : Put w.buf.now w.at (part Sizes ++ (part Triples ++ part Rows)) b₃ n₃ = put_then first (put_then second third) in
           let front = put_front (rw (on, made.1, sym parts) at put) long in
           let fits = le-ltb (length buf.now) (length report) long in
-          (rw fits (ap Words front.0), rw fits front.1)
+          (rw fits (ap Ok front.0), rw fits front.1)

@@ -1,10 +1,9 @@
 -- What writing words into a buffer leaves, and what writing a report answers.
-use Rattle.std.specs.Prelude.{ℕ, ◌+◌, ◌≡◌, cond, List, ◌++◌, ltb, length, drop}
+use Rattle.std.specs.Prelude.{ℕ, ◌+◌, ◌≡◌, cond, List, ◌++◌, ltb, length, drop, Result, Ok, Err}
 use lib.Seq.{sets}
 use denote.Ref.{at_last}
 use Rattle.writer.specs.declared.Writer.{Writer}
-use Rattle.writer.specs.declared.Wrote.{Wrote}
-use Rattle.writer.specs.declared.Wrote.TheVariants.{Words, Short}
+use Rattle.writer.specs.declared.Short.{Short}
 
 -- the words stand in the buffer from `at` on, all others are as before, and `end` is the place after them
 pub record Put (before : List ℕ) (at : ℕ) (words after : List ℕ) (end : ℕ) : Type 0 where
@@ -16,8 +15,8 @@ abbrev pub handed : Writer → List ℕ → Writer
 handed w words = record { buf = at_last w.buf (sets w.buf.now w.at words); at = w.at + length words }
 
 -- "report buffer too short, place the words needed .. Otherwise .. the words written"
-abbrev pub wrote : List ℕ → List ℕ → Wrote
-wrote report buffer = cond (ltb (length buffer) (length report)) (Short (length report)) (Words (length report))
+abbrev pub wrote : List ℕ → List ℕ → Result ℕ Short
+wrote report buffer = cond (ltb (length buffer) (length report)) (Err (record { needed = length report })) (Ok (length report))
 
 -- and the buffer then: "words past those stay"
 abbrev pub written_to : List ℕ → List ℕ → List ℕ

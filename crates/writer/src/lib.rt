@@ -33,11 +33,10 @@ pub enum Part {
     Rows,
 }
 
-// What writing a report gives: how many words were written, or how many it needs.
-#[derive(Clone, Copy)]
-pub enum Wrote {
-    Words(usize),
-    Short(usize),
+// A report for which the buffer is too short, by how many words it needs.
+#[derive(Clone, Copy, Debug, PartialEq, Eq)]
+pub struct Short {
+    pub needed: usize,
 }
 
 // How many variables are free.
@@ -258,8 +257,14 @@ fn put_from<'a>(
     put(Writer { buf, at }, part, rows, marks, times, p)
 }
 
-// Writes the report to the front of a buffer by one writer, which is asked first for the words that it has left.
-pub fn write(buf: &mut [u32], rows: &[u32], marks: &[u32], times: &[u32], p: Points) -> Wrote
+// Writes the report to the front of a buffer by one writer, which is asked first for the words that it has left; how many words were written.
+pub fn write(
+    buf: &mut [u32],
+    rows: &[u32],
+    marks: &[u32],
+    times: &[u32],
+    p: Points,
+) -> Result<usize, Short>
     requires { Reportable rows.now marks.now p }
     ensures { (result ≡ wrote (words rows.now marks.now times.now p) buf.old) × (buf.new ≡ written_to (words rows.now marks.now times.now p) buf.old) }
 {
@@ -267,7 +272,7 @@ pub fn write(buf: &mut [u32], rows: &[u32], marks: &[u32], times: &[u32], p: Poi
     let w = new(buf);
     let left = w.buf.len() - w.at;
     if left < needed {
-        return Wrote::Short(needed);
+        return Err(Short { needed });
     }
     let Writer { buf, at } = w;
     let sized = put_from(buf, at, Part::Sizes, rows, marks, times, p);
@@ -275,5 +280,5 @@ pub fn write(buf: &mut [u32], rows: &[u32], marks: &[u32], times: &[u32], p: Poi
     let told = put_from(buf, at, Part::Triples, rows, marks, times, p);
     let Writer { buf, at } = told;
     let done = put_from(buf, at, Part::Rows, rows, marks, times, p);
-    Wrote::Words(done.at)
+    Ok(done.at)
 }

@@ -24,10 +24,10 @@ pub bounds-rule-2 : goal.bounds-rule-2
 bounds-rule-2 c = rule_long c.requires.ready_in
 
 pub store-requires : goal.store-requires
-store-requires c = let t = walked_is c.requires.ready_in (part_first c.args.owners.now c.args.count) (part_first c.args.numbers.now c.args.count) (part_first c.args.values.now (c.args.count * 4)) c.walk-place.ensures in let u = written_fits c.requires.ready_in t (omega (arith, t.low, c.if-low-lt-NO_NODE.false)) (elim c.if-room-kept.branch [ then-room-kept+else-room-lt-MOST_KEPT w ↦ inl (omega (arith, w.if-room-lt-MOST_KEPT.false, c.out_numbers-1.given)) | else-room-kept w ↦ inr (omega (arith, w.if-room-kept.false, c.out_numbers-1.given)) ]) (rw c.in-Written.is at c.weigh_last-weighed.ensures) in storable c.requires.ready_in t (omega (arith, t.low, c.if-low-lt-NO_NODE.false)) u.0 u.1 (omega (arith, c.requires.room_to_keep, c.out_numbers-1.given, c.out_values-1.given)) (omega (arith, c.requires.room_to_keep, c.blocks-1.given))
+store-requires c = let t = walked_is c.requires.ready_in (part_first c.args.owners.now c.args.count) (part_first c.args.numbers.now c.args.count) (part_first c.args.values.now (c.args.count * 4)) c.walk-place.ensures in let u = written_fits c.requires.ready_in t (omega (arith, t.low, c.if-low-lt-NO_NODE.false)) (elim c.if-room-kept.branch [ then-room-kept+else-room-lt-MOST_KEPT w ↦ inl (omega (arith, w.if-room-lt-MOST_KEPT.false, c.out_numbers-1.given)) | else-room-kept w ↦ inr (omega (arith, w.if-room-kept.false, c.out_numbers-1.given)) ]) (rw c.in-Ok.is at c.weigh_last-weighed.ensures) in storable c.requires.ready_in t (omega (arith, t.low, c.if-low-lt-NO_NODE.false)) u.0 u.1 (omega (arith, c.requires.room_to_keep, c.out_numbers-1.given, c.out_values-1.given)) (omega (arith, c.requires.room_to_keep, c.blocks-1.given))
 
-pub returns-in-Refused : goal.returns-in-Refused
-returns-in-Refused c = let t = walked_is c.requires.ready_in (part_first c.args.owners.now c.args.count) (part_first c.args.numbers.now c.args.count) (part_first c.args.values.now (c.args.count * 4)) c.walk-place.ensures in record { tried = refused_settles c.requires.ready_in t (omega (arith, t.low, c.if-low-lt-NO_NODE.false)) (elim c.if-room-kept.branch [ then-room-kept+else-room-lt-MOST_KEPT w ↦ inl (omega (arith, w.if-room-lt-MOST_KEPT.false, c.out_numbers-1.given)) | else-room-kept w ↦ inr (omega (arith, w.if-room-kept.false, c.out_numbers-1.given)) ]) (rw c.in-Refused.is at c.weigh_last-weighed.ensures); full = not_full }
+pub returns-in-Err : goal.returns-in-Err
+returns-in-Err c = let t = walked_is c.requires.ready_in (part_first c.args.owners.now c.args.count) (part_first c.args.numbers.now c.args.count) (part_first c.args.values.now (c.args.count * 4)) c.walk-place.ensures in record { tried = refused_settles c.requires.ready_in t (omega (arith, t.low, c.if-low-lt-NO_NODE.false)) (elim c.if-room-kept.branch [ then-room-kept+else-room-lt-MOST_KEPT w ↦ inl (omega (arith, w.if-room-lt-MOST_KEPT.false, c.out_numbers-1.given)) | else-room-kept w ↦ inr (omega (arith, w.if-room-kept.false, c.out_numbers-1.given)) ]) (rw c.in-Err.is at c.weigh_last-weighed.ensures); full = not_full }
 
-pub returns-in-Written : goal.returns-in-Written
-returns-in-Written c = let t = walked_is c.requires.ready_in (part_first c.args.owners.now c.args.count) (part_first c.args.numbers.now c.args.count) (part_first c.args.values.now (c.args.count * 4)) c.walk-place.ensures in record { tried = written_settles c.requires.ready_in t (omega (arith, t.low, c.if-low-lt-NO_NODE.false)) (elim c.if-room-kept.branch [ then-room-kept+else-room-lt-MOST_KEPT w ↦ inl (omega (arith, w.if-room-lt-MOST_KEPT.false, c.out_numbers-1.given)) | else-room-kept w ↦ inr (omega (arith, w.if-room-kept.false, c.out_numbers-1.given)) ]) (rw c.in-Written.is at c.weigh_last-weighed.ensures) c.store.ensures; full = not_full }
+pub returns-in-Ok : goal.returns-in-Ok
+returns-in-Ok c = let t = walked_is c.requires.ready_in (part_first c.args.owners.now c.args.count) (part_first c.args.numbers.now c.args.count) (part_first c.args.values.now (c.args.count * 4)) c.walk-place.ensures in record { tried = written_settles c.requires.ready_in t (omega (arith, t.low, c.if-low-lt-NO_NODE.false)) (elim c.if-room-kept.branch [ then-room-kept+else-room-lt-MOST_KEPT w ↦ inl (omega (arith, w.if-room-lt-MOST_KEPT.false, c.out_numbers-1.given)) | else-room-kept w ↦ inr (omega (arith, w.if-room-kept.false, c.out_numbers-1.given)) ]) (rw c.in-Ok.is at c.weigh_last-weighed.ensures) c.store.ensures; full = not_full }

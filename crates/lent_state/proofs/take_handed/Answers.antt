@@ -31,14 +31,14 @@ take_stored-taken-requires c = let (bytes, retained, count) = (let it : let a = 
 
 pub overflow_add-result : goal.overflow_add-result
 overflow_add-result c = let a = c.args in
-    omega (arith, c.points_added.ensures, taken_room (lent a.rule.now a.bytes a.log a.times.now a.retained a.owners.now a.numbers.now a.values.now a.count) _ _ ((let it : let a = c.args in lengths_fit a.rule.now a.times.now a.owners.now a.numbers.now a.values.now ≡ true = sym c.lengths_fit.ensures ∙ c.if-not-lengths_fit.false in it)) ((let it : let a = c.args in stored_in (take (a.bytes - 0) a.rule.now) a.log (take a.retained a.times.now) a.owners.now a.numbers.now a.values.now a.count ≡ stored (lent a.rule.now a.bytes a.log a.times.now a.retained a.owners.now a.numbers.now a.values.now a.count) = let a = c.args in let z = fits_sized _ _ _ _ _ ((let it : let a = c.args in lengths_fit a.rule.now a.times.now a.owners.now a.numbers.now a.values.now ≡ true = sym c.lengths_fit.ensures ∙ c.if-not-lengths_fit.false in it)) in stored_parts (lent a.rule.now a.bytes a.log a.times.now a.retained a.owners.now a.numbers.now a.values.now a.count) (a.bytes - 0) (omega arith) (omega (arith, (let it : let a = c.args in (a.bytes ≤ most_bytes) × (a.retained ≤ most_times) × (a.count ≤ most_kept) = figures_in _ _ _ (sym c.figures_fit.ensures ∙ c.if-not-figures_fit.false) in it), z)) (omega (arith, (let it : let a = c.args in (a.bytes ≤ most_bytes) × (a.retained ≤ most_times) × (a.count ≤ most_kept) = figures_in _ _ _ (sym c.figures_fit.ensures ∙ c.if-not-figures_fit.false) in it), z)) in it)) (words_are a.handed a.words.now c.requires) c.take_stored-taken.ensures _ _ _ c.in-Done.is)
+    omega (arith, c.points_added.ensures, taken_room (lent a.rule.now a.bytes a.log a.times.now a.retained a.owners.now a.numbers.now a.values.now a.count) _ _ ((let it : let a = c.args in lengths_fit a.rule.now a.times.now a.owners.now a.numbers.now a.values.now ≡ true = sym c.lengths_fit.ensures ∙ c.if-not-lengths_fit.false in it)) ((let it : let a = c.args in stored_in (take (a.bytes - 0) a.rule.now) a.log (take a.retained a.times.now) a.owners.now a.numbers.now a.values.now a.count ≡ stored (lent a.rule.now a.bytes a.log a.times.now a.retained a.owners.now a.numbers.now a.values.now a.count) = let a = c.args in let z = fits_sized _ _ _ _ _ ((let it : let a = c.args in lengths_fit a.rule.now a.times.now a.owners.now a.numbers.now a.values.now ≡ true = sym c.lengths_fit.ensures ∙ c.if-not-lengths_fit.false in it)) in stored_parts (lent a.rule.now a.bytes a.log a.times.now a.retained a.owners.now a.numbers.now a.values.now a.count) (a.bytes - 0) (omega arith) (omega (arith, (let it : let a = c.args in (a.bytes ≤ most_bytes) × (a.retained ≤ most_times) × (a.count ≤ most_kept) = figures_in _ _ _ (sym c.figures_fit.ensures ∙ c.if-not-figures_fit.false) in it), z)) (omega (arith, (let it : let a = c.args in (a.bytes ≤ most_bytes) × (a.retained ≤ most_times) × (a.count ≤ most_kept) = figures_in _ _ _ (sym c.figures_fit.ensures ∙ c.if-not-figures_fit.false) in it), z)) in it)) (words_are a.handed a.words.now c.requires) c.take_stored-taken.ensures _ c.in-Ok.is)
 
 pub bounds-words-0 : goal.bounds-words-0
 bounds-words-0 c = let a = c.args in
-    taken_some (lent a.rule.now a.bytes a.log a.times.now a.retained a.owners.now a.numbers.now a.values.now a.count) _ _ ((let it : let a = c.args in lengths_fit a.rule.now a.times.now a.owners.now a.numbers.now a.values.now ≡ true = sym c.lengths_fit.ensures ∙ c.if-not-lengths_fit.false in it)) ((let it : let a = c.args in stored_in (take (a.bytes - 0) a.rule.now) a.log (take a.retained a.times.now) a.owners.now a.numbers.now a.values.now a.count ≡ stored (lent a.rule.now a.bytes a.log a.times.now a.retained a.owners.now a.numbers.now a.values.now a.count) = let a = c.args in let z = fits_sized _ _ _ _ _ ((let it : let a = c.args in lengths_fit a.rule.now a.times.now a.owners.now a.numbers.now a.values.now ≡ true = sym c.lengths_fit.ensures ∙ c.if-not-lengths_fit.false in it)) in stored_parts (lent a.rule.now a.bytes a.log a.times.now a.retained a.owners.now a.numbers.now a.values.now a.count) (a.bytes - 0) (omega arith) (omega (arith, (let it : let a = c.args in (a.bytes ≤ most_bytes) × (a.retained ≤ most_times) × (a.count ≤ most_kept) = figures_in _ _ _ (sym c.figures_fit.ensures ∙ c.if-not-figures_fit.false) in it), z)) (omega (arith, (let it : let a = c.args in (a.bytes ≤ most_bytes) × (a.retained ≤ most_times) × (a.count ≤ most_kept) = figures_in _ _ _ (sym c.figures_fit.ensures ∙ c.if-not-figures_fit.false) in it), z)) in it)) (words_are a.handed a.words.now c.requires) c.take_stored-taken.ensures _ _ _ c.in-Done.is
+    taken_some (lent a.rule.now a.bytes a.log a.times.now a.retained a.owners.now a.numbers.now a.values.now a.count) _ _ ((let it : let a = c.args in lengths_fit a.rule.now a.times.now a.owners.now a.numbers.now a.values.now ≡ true = sym c.lengths_fit.ensures ∙ c.if-not-lengths_fit.false in it)) ((let it : let a = c.args in stored_in (take (a.bytes - 0) a.rule.now) a.log (take a.retained a.times.now) a.owners.now a.numbers.now a.values.now a.count ≡ stored (lent a.rule.now a.bytes a.log a.times.now a.retained a.owners.now a.numbers.now a.values.now a.count) = let a = c.args in let z = fits_sized _ _ _ _ _ ((let it : let a = c.args in lengths_fit a.rule.now a.times.now a.owners.now a.numbers.now a.values.now ≡ true = sym c.lengths_fit.ensures ∙ c.if-not-lengths_fit.false in it)) in stored_parts (lent a.rule.now a.bytes a.log a.times.now a.retained a.owners.now a.numbers.now a.values.now a.count) (a.bytes - 0) (omega arith) (omega (arith, (let it : let a = c.args in (a.bytes ≤ most_bytes) × (a.retained ≤ most_times) × (a.count ≤ most_kept) = figures_in _ _ _ (sym c.figures_fit.ensures ∙ c.if-not-figures_fit.false) in it), z)) (omega (arith, (let it : let a = c.args in (a.bytes ≤ most_bytes) × (a.retained ≤ most_times) × (a.count ≤ most_kept) = figures_in _ _ _ (sym c.figures_fit.ensures ∙ c.if-not-figures_fit.false) in it), z)) in it)) (words_are a.handed a.words.now c.requires) c.take_stored-taken.ensures _ c.in-Ok.is
 
-pub returns-in-Refused : goal.returns-in-Refused
-returns-in-Refused c = rw c.as_it_was-in-Refused.ensures (taken_refused _ _ _ ((let it : let a = c.args in lengths_fit a.rule.now a.times.now a.owners.now a.numbers.now a.values.now ≡ true = sym c.lengths_fit.ensures ∙ c.if-not-lengths_fit.false in it)) ((let it : let a = c.args in stored_in (take (a.bytes - 0) a.rule.now) a.log (take a.retained a.times.now) a.owners.now a.numbers.now a.values.now a.count ≡ stored (lent a.rule.now a.bytes a.log a.times.now a.retained a.owners.now a.numbers.now a.values.now a.count) = let a = c.args in let z = fits_sized _ _ _ _ _ ((let it : let a = c.args in lengths_fit a.rule.now a.times.now a.owners.now a.numbers.now a.values.now ≡ true = sym c.lengths_fit.ensures ∙ c.if-not-lengths_fit.false in it)) in stored_parts (lent a.rule.now a.bytes a.log a.times.now a.retained a.owners.now a.numbers.now a.values.now a.count) (a.bytes - 0) (omega arith) (omega (arith, (let it : let a = c.args in (a.bytes ≤ most_bytes) × (a.retained ≤ most_times) × (a.count ≤ most_kept) = figures_in _ _ _ (sym c.figures_fit.ensures ∙ c.if-not-figures_fit.false) in it), z)) (omega (arith, (let it : let a = c.args in (a.bytes ≤ most_bytes) × (a.retained ≤ most_times) × (a.count ≤ most_kept) = figures_in _ _ _ (sym c.figures_fit.ensures ∙ c.if-not-figures_fit.false) in it), z)) in it)) (words_are c.args.handed c.args.words.now c.requires) c.take_stored-taken.ensures _ c.in-Refused.is)
+pub returns-in-Err : goal.returns-in-Err
+returns-in-Err c = rw c.as_it_was-in-Err.ensures (taken_refused _ _ _ ((let it : let a = c.args in lengths_fit a.rule.now a.times.now a.owners.now a.numbers.now a.values.now ≡ true = sym c.lengths_fit.ensures ∙ c.if-not-lengths_fit.false in it)) ((let it : let a = c.args in stored_in (take (a.bytes - 0) a.rule.now) a.log (take a.retained a.times.now) a.owners.now a.numbers.now a.values.now a.count ≡ stored (lent a.rule.now a.bytes a.log a.times.now a.retained a.owners.now a.numbers.now a.values.now a.count) = let a = c.args in let z = fits_sized _ _ _ _ _ ((let it : let a = c.args in lengths_fit a.rule.now a.times.now a.owners.now a.numbers.now a.values.now ≡ true = sym c.lengths_fit.ensures ∙ c.if-not-lengths_fit.false in it)) in stored_parts (lent a.rule.now a.bytes a.log a.times.now a.retained a.owners.now a.numbers.now a.values.now a.count) (a.bytes - 0) (omega arith) (omega (arith, (let it : let a = c.args in (a.bytes ≤ most_bytes) × (a.retained ≤ most_times) × (a.count ≤ most_kept) = figures_in _ _ _ (sym c.figures_fit.ensures ∙ c.if-not-figures_fit.false) in it), z)) (omega (arith, (let it : let a = c.args in (a.bytes ≤ most_bytes) × (a.retained ≤ most_times) × (a.count ≤ most_kept) = figures_in _ _ _ (sym c.figures_fit.ensures ∙ c.if-not-figures_fit.false) in it), z)) in it)) (words_are c.args.handed c.args.words.now c.requires) c.take_stored-taken.ensures _ c.in-Err.is)
 
-pub returns-in-Done : goal.returns-in-Done
-returns-in-Done c = taken_done _ _ _ ((let it : let a = c.args in lengths_fit a.rule.now a.times.now a.owners.now a.numbers.now a.values.now ≡ true = sym c.lengths_fit.ensures ∙ c.if-not-lengths_fit.false in it)) ((let it : let a = c.args in stored_in (take (a.bytes - 0) a.rule.now) a.log (take a.retained a.times.now) a.owners.now a.numbers.now a.values.now a.count ≡ stored (lent a.rule.now a.bytes a.log a.times.now a.retained a.owners.now a.numbers.now a.values.now a.count) = let a = c.args in let z = fits_sized _ _ _ _ _ ((let it : let a = c.args in lengths_fit a.rule.now a.times.now a.owners.now a.numbers.now a.values.now ≡ true = sym c.lengths_fit.ensures ∙ c.if-not-lengths_fit.false in it)) in stored_parts (lent a.rule.now a.bytes a.log a.times.now a.retained a.owners.now a.numbers.now a.values.now a.count) (a.bytes - 0) (omega arith) (omega (arith, (let it : let a = c.args in (a.bytes ≤ most_bytes) × (a.retained ≤ most_times) × (a.count ≤ most_kept) = figures_in _ _ _ (sym c.figures_fit.ensures ∙ c.if-not-figures_fit.false) in it), z)) (omega (arith, (let it : let a = c.args in (a.bytes ≤ most_bytes) × (a.retained ≤ most_times) × (a.count ≤ most_kept) = figures_in _ _ _ (sym c.figures_fit.ensures ∙ c.if-not-figures_fit.false) in it), z)) in it)) (words_are c.args.handed c.args.words.now c.requires) c.take_stored-taken.ensures _ _ _ c.in-Done.is c.points_added.ensures
+pub returns-in-Ok : goal.returns-in-Ok
+returns-in-Ok c = taken_done _ _ _ ((let it : let a = c.args in lengths_fit a.rule.now a.times.now a.owners.now a.numbers.now a.values.now ≡ true = sym c.lengths_fit.ensures ∙ c.if-not-lengths_fit.false in it)) ((let it : let a = c.args in stored_in (take (a.bytes - 0) a.rule.now) a.log (take a.retained a.times.now) a.owners.now a.numbers.now a.values.now a.count ≡ stored (lent a.rule.now a.bytes a.log a.times.now a.retained a.owners.now a.numbers.now a.values.now a.count) = let a = c.args in let z = fits_sized _ _ _ _ _ ((let it : let a = c.args in lengths_fit a.rule.now a.times.now a.owners.now a.numbers.now a.values.now ≡ true = sym c.lengths_fit.ensures ∙ c.if-not-lengths_fit.false in it)) in stored_parts (lent a.rule.now a.bytes a.log a.times.now a.retained a.owners.now a.numbers.now a.values.now a.count) (a.bytes - 0) (omega arith) (omega (arith, (let it : let a = c.args in (a.bytes ≤ most_bytes) × (a.retained ≤ most_times) × (a.count ≤ most_kept) = figures_in _ _ _ (sym c.figures_fit.ensures ∙ c.if-not-figures_fit.false) in it), z)) (omega (arith, (let it : let a = c.args in (a.bytes ≤ most_bytes) × (a.retained ≤ most_times) × (a.count ≤ most_kept) = figures_in _ _ _ (sym c.figures_fit.ensures ∙ c.if-not-figures_fit.false) in it), z)) in it)) (words_are c.args.handed c.args.words.now c.requires) c.take_stored-taken.ensures _ c.in-Ok.is c.points_added.ensures
