@@ -1,22 +1,12 @@
--- How long the lines are at most, and the line of a refused rule.
+-- How long the lines are at most.
 use Prim.Native.Nat.{ℕ, ◌+◌, ◌*◌, ◌≤◌}
 use native.Mathlib.Omega.{arith}
-use mathlib.Core.Path.{◌≡◌}
 use mathlib.Core.List.{List, [], ◌∷◌}
 use lib.ListN.{length, length-append}
 use Rattle.meaning.specs.Lists.{gather}
-use types.Run.{OneOf, miss}
-use denote.Enum.Declared.{tag_of}
-use Rattle.refusals.specs.Numbered.{numbered}
-use Rattle.refusals.specs.declared.Numbered.{Numbered}
-use Rattle.rulefile.specs.Checked.{answer_of}
-use Rattle.rulefile.specs.declared.Checked.{Checked}
-use Rattle.rulefile.specs.declared.Checked.TheVariants.{Accepted, Cut, OtherVersion, SizeOut, Misshapen, WindowOut, FreeBroken, NotOneParent}
-use Rattle.rulefile.specs.contracts.Checked.{the_type}
 use Rattle.meaning.specs.declared.Point.{Point}
 use Rattle.meaning.specs.declared.Stamp.{Stamp}
 use Rattle.lines.specs.Text.{figure, space, accepted_line, refused_line, point_line, last_line, row_line}
-use Rattle.lines.specs.Answers.{checked_text}
 use Rattle.lines.proofs.Digits.{decimal_short}
 
 pub accepted_short : (reach : ℕ) → length (accepted_line reach) ≤ 25
@@ -44,17 +34,3 @@ pub row_short : (row : List ℕ) → length (row_line row) ≤ 11 * length row +
 unfolding row_line
 row_short [] = omega arith
 row_short (v ∷ vs) = simp length-append (omega (arith, decimal_short v, values_short vs))
-
--- the answers of checking that are refusals, by their numbers in `Checked`
-abbrev refusals : List ℕ
-refusals = 1 ∷ 2 ∷ 3 ∷ 4 ∷ 5 ∷ 6 ∷ 7 ∷ []
-
-pub checked_refused : (k : Checked) (t : Numbered) → OneOf refusals (tag_of the_type k) → t ≡ numbered (answer_of k) → checked_text (answer_of k) ≡ refused_line t.0 t.1
-checked_refused (Accepted r f) t o e = absurd (miss refusals 0 tt o)
-checked_refused Cut t o e = rw e
-checked_refused OtherVersion t o e = rw e
-checked_refused SizeOut t o e = rw e
-checked_refused (Misshapen x) t o e = rw e
-checked_refused (WindowOut x) t o e = rw e
-checked_refused (FreeBroken x) t o e = rw e
-checked_refused (NotOneParent x) t o e = rw e

@@ -11,17 +11,17 @@ ghost use Rattle.lines.specs.Answers.{checked_text, report_text};
 use crate::text::{put_accepted, put_point, put_refused, put_row};
 use meaning::{Point, Stamp};
 use refusals::of_rule;
-use rulefile::Checked;
+use rulefile::{AcceptedRule, RuleRefusal};
 
 // Puts the answer of checking a rule: a line, which has at most 64 bytes.
-pub fn put_checked(out: &mut [u8], checked: Checked) -> usize
+pub fn put_checked(out: &mut [u8], checked: Result<AcceptedRule, RuleRefusal>) -> usize
     requires { 64 ≤ length out.old }
     ensures put { Put out.old 0 (checked_text (answer_of checked)) out.new result }
     ensures upper_bound { result ≤ 64 }
 {
     match checked {
-        Checked::Accepted(reach, _) => put_accepted(out, 0, reach),
-        _ => put_refused(out, 0, of_rule(checked)),
+        Ok(rule) => put_accepted(out, 0, rule.reach),
+        Err(_) => put_refused(out, 0, of_rule(checked)),
     }
 }
 

@@ -12,7 +12,6 @@ use input::{is_short, read_more, read_rule};
 use lines::{Next, next_event, put_checked, rule_in};
 use meaning::{LogEnd, MOST_ROWS, RULE_BYTES, Stamp};
 use monitor::State;
-use rulefile::Checked;
 use std::io::{Print, Read};
 use text::put_end;
 
@@ -127,8 +126,8 @@ fn main(rt: HostRuntime) {
     let mut line = [0u8; 64];
     let end = put_checked(&mut line, checked);
     write(&output, &line[0..end]);
-    let Checked::Accepted(_, _) = checked else {
+    if checked.is_err() {
         return;
-    };
+    }
     take_all(&mut input, &output, state);
 }

@@ -2,26 +2,20 @@
 use Prim.Native.Nat.{ℕ, ◌≤◌, ◌+◌, ◌-◌}
 use native.Mathlib.Nat.{zero-sub}
 use native.Mathlib.Omega.{arith}
-use mathlib.Core.Path.{◌≡◌, refl, sym, ◌∙◌, ap, subst}
-use mathlib.Core.Bool.{true, false, true≢false}
-use mathlib.Core.List.{List, [], ◌∷◌}
+use mathlib.Core.Path.{◌≡◌, sym, ◌∙◌, ap, subst}
+use mathlib.Core.Bool.{true}
+use mathlib.Core.List.{List, []}
 use lib.ListN.{length, drop, replicate, length-append, length-replicate, replicate-append-replicate}
 use lib.Seq.{drop_at}
-use types.Run.{OneOf, miss}
-use denote.Enum.Declared.{tag_of}
-use Rattle.meaning.specs.Outcome.{given, Outcome, refused}
+use Rattle.meaning.specs.Outcome.{given}
 use Rattle.meaning.specs.Log.{size, latest, log_of}
-use Rattle.meaning.specs.RuleFile.{Accepted as Answer, checking, is_accepted, node_count}
+use Rattle.meaning.specs.RuleFile.{Accepted as Answer, checking, node_count}
 use Rattle.meaning.specs.Kept.{entries_of, entries}
 use Rattle.meaning.proofs.Accepted.{accepted, nodes_most}
 use Rattle.method.specs.Stored.{stored_of}
 use Rattle.method.proofs.Lists.{gather_none}
 use Rattle.method.proofs.Reached.{empty_entries}
 use Rattle.entries.specs.Entries.{entries_from}
-use Rattle.rulefile.specs.Checked.{answer_of}
-use Rattle.rulefile.specs.declared.Checked.{Checked}
-use Rattle.rulefile.specs.declared.Checked.TheVariants.{Accepted, Cut, OtherVersion, SizeOut, Misshapen, WindowOut, FreeBroken, NotOneParent}
-use Rattle.rulefile.specs.contracts.Checked.{the_type}
 use Rattle.entries.specs.Appended.{at_front}
 use Rattle.figures.proofs.Front.{front_read}
 use Rattle.lent_state.specs.Lent.{Lent, fitting}
@@ -29,7 +23,6 @@ use Rattle.lent_state.proofs.Memory.{sized_fits}
 use Rattle.image_words.specs.Promises.{ReadsLent}
 use Rattle.image_words.specs.declared.Read.{Read}
 use Rattle.monitor.specs.State.{blank, lent_of, start_state}
-use Rattle.monitor.specs.Promises.{Starts, state_for}
 use Rattle.monitor.specs.declared.State.{State}
 use Rattle.monitor.proofs.Along.{Stores}
 
@@ -68,28 +61,3 @@ start_stores b a ok =
       fits = start_fits b l;
       stores = rw (front_read b (replicate (652 - length b) 0), zero-sub, gather_none (entries_of b (log_of [])) 0 (node_count b) (λ x u o. empty_entries b x));
     }
-
--- the kinds of answers of checking that are refusals
-abbrev refusals : List ℕ
-refusals = 1 ∷ 2 ∷ 3 ∷ 4 ∷ 5 ∷ 6 ∷ 7 ∷ []
-
-pub not_accepted : (k : Checked) → OneOf refusals (tag_of the_type k) → is_accepted (answer_of k) ≡ false
-not_accepted (Accepted r f) o = absurd (miss refusals 0 tt o)
-not_accepted Cut o = refl
-not_accepted OtherVersion o = refl
-not_accepted SizeOut o = refl
-not_accepted (Misshapen x) o = refl
-not_accepted (WindowOut x) o = refl
-not_accepted (FreeBroken x) o = refl
-not_accepted (NotOneParent x) o = refl
-
-refused_state : (b : List ℕ) (o : Outcome Answer) → is_accepted o ≡ false → state_for b o ≡ blank
-refused_state b (refused number place) none = refl
-refused_state b (given a) none = absurd (true≢false none)
-
-module _ (b : List ℕ) (k : Checked) (e : answer_of k ≡ checking b) (z : State) where
-  pub start_refused : OneOf refusals (tag_of the_type k) → z ≡ blank → Starts b (record { checked = k; state = z })
-  start_refused o h = record { answered = e; started = h ∙ sym (refused_state b (checking b) (ap is_accepted (sym e) ∙ not_accepted k o)) }
-
-  pub start_accepted : {r f : ℕ} → k ≡ Accepted r f → z ≡ start_state b → Starts b (record { checked = k; state = z })
-  start_accepted is h = record { answered = e; started = h ∙ ap (state_for b) (sym (ap answer_of is) ∙ e) }

@@ -16,7 +16,7 @@ use figures::Open;
 use image_words::{Read, Saved};
 use lent_state::Answer;
 use meaning::{LogEnd, MOST_KEPT, RULE_BYTES, Stamp, TIME_WORDS};
-use rulefile::Checked;
+use rulefile::{AcceptedRule, RuleRefusal};
 
 // What is kept between calls, by value: the rule's bytes and how many they are; the points accepted; the latest known time, of a point or a notice; the retained times and how many they are; the kept entries, each with its owner (a node twice, and 1 more for a pair), the number of its point or its age, and its four values; and their count.
 #[repr(C)]
@@ -34,10 +34,10 @@ pub struct State {
     pub count: u32,
 }
 
-// What starting gives: the answer of checking the rule, and where it is accepted the state of an empty log.
+// What starting gives: the answer of checking the rule, and where it is accepted the state of an empty log. The state stands beside the answer: C is given the state of zeros that `Starts` promises of a refusal.
 #[derive(Clone, Copy)]
 pub struct Started {
-    pub checked: Checked,
+    pub checked: Result<AcceptedRule, RuleRefusal>,
     pub state: State,
 }
 
@@ -105,11 +105,10 @@ pub fn start(rule: &[u8]) -> Started
     ensures { Starts rule.now result }
 {
     let checked = rulefile::check(rule);
-    let Checked::Accepted(_, _) = checked else {
-        let state = zeros();
-        return Started { checked, state };
+    let state = match checked {
+        Ok(_) => empty(rule),
+        Err(_) => zeros(),
     };
-    let state = empty(rule);
     Started { checked, state }
 }
 

@@ -7,25 +7,25 @@ ghost use Rattle.limits.specs.Weighs.{refusal_of};
 ghost use Rattle.refusals.specs.Numbered.{numbered};
 
 use limits::Refusal;
-use rulefile::Checked;
+use rulefile::{AcceptedRule, RuleRefusal};
 
 // A refusal's number and place.
 #[derive(Clone, Copy)]
 pub struct Numbered(pub u32, pub u32);
 
 // The refusal of a rule; 0 and 0 where it is accepted.
-pub fn of_rule(c: Checked) -> Numbered
+pub fn of_rule(c: Result<AcceptedRule, RuleRefusal>) -> Numbered
     ensures { result ≡ numbered (answer_of c) }
 {
     match c {
-        Checked::Accepted(_, _) => Numbered(0, 0),
-        Checked::Cut => Numbered(1, 0),
-        Checked::OtherVersion => Numbered(2, 0),
-        Checked::SizeOut => Numbered(3, 0),
-        Checked::Misshapen(x) => Numbered(4, x as u32),
-        Checked::WindowOut(x) => Numbered(5, x as u32),
-        Checked::FreeBroken(x) => Numbered(6, x as u32),
-        Checked::NotOneParent(x) => Numbered(7, x as u32),
+        Ok(_) => Numbered(0, 0),
+        Err(RuleRefusal::Cut) => Numbered(1, 0),
+        Err(RuleRefusal::OtherVersion) => Numbered(2, 0),
+        Err(RuleRefusal::SizeOut) => Numbered(3, 0),
+        Err(RuleRefusal::Misshapen(x)) => Numbered(4, x as u32),
+        Err(RuleRefusal::WindowOut(x)) => Numbered(5, x as u32),
+        Err(RuleRefusal::FreeBroken(x)) => Numbered(6, x as u32),
+        Err(RuleRefusal::NotOneParent(x)) => Numbered(7, x as u32),
     }
 }
 

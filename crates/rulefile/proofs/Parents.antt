@@ -9,17 +9,13 @@ use mathlib.Core.List.{List, [], ◌∷◌, ◌++◌, Memᴰ}
 use lib.ListN.{length, get_or, set, replicate}
 use lib.Seq.{get_or-set_same, get_or-set_other}
 use lib.Dec.{eqb}
-use borrow.Author.Count.{below_more}
 use borrow.Author.Tests.{eqb-true, eqb-false, eq-eqb, ne_eqb}
 use Rattle.meaning.specs.Lists.{range, gather, occurrences}
 use Rattle.meaning.specs.Outcome.{Outcome, refused, when, not_one_parent}
-use Rattle.meaning.specs.RuleFile.{Accepted as Answer, node_count, node_at, children_of, times_child, weigh_parents}
+use Rattle.meaning.specs.RuleFile.{Accepted, node_count, node_at, children_of, times_child, weigh_parents}
 use Rattle.meaning.specs.declared.Children.{Children}
 use Rattle.meaning.specs.declared.Children.TheVariants.{None, One, Two}
 use Rattle.meaning.specs.View.{children_in}
-use Rattle.rulefile.specs.declared.Stray.{Stray}
-use Rattle.rulefile.specs.declared.Stray.TheVariants.{At, Nowhere}
-use Rattle.rulefile.specs.Weighing.{stray_or, first_of, FirstStray}
 use Rattle.rulefile.proofs.Ranges.{gather_last, occurrences-bound}
 use Rattle.meaning.proofs.Lists.{occurrences_append}
 
@@ -87,17 +83,7 @@ pub counted_all : (b uses : List ℕ) (x : ℕ) → x ≡ node_count b → UsesC
 unfolding times_child
 counted_all b uses x e k y = k.right y ∙ ap (λ n. occurrences y (children_to b n)) e
 
--- the first stray node of one node more
-pub stray_more : (uses : List ℕ) (y : ℕ) (found : Stray) → FirstStray uses y found → FirstStray uses (y + 1) (first_of found (get_or uses y 0) y)
-stray_more uses y found h = go found (eqb (get_or uses y 0) 1) refl h
-  where
-    go : (s : Stray) (t : Bool) → eqb (get_or uses y 0) 1 ≡ t → FirstStray uses y s → FirstStray uses (y + 1) (cond t s (stray_or s y))
-    go (At z) true e k = (omega (arith, k.0), k.1, k.2)
-    go (At z) false e k = (omega (arith, k.0), k.1, k.2)
-    go Nowhere true e k = below_more (λ z. get_or uses z 0 ≡ 1) y k (eqb-true (get_or uses y 0) 1 e)
-    go Nowhere false e k = (omega arith, k, eqb-false (get_or uses y 0) 1 e)
-
-module _ (b : List ℕ) (rest : Outcome Answer) where
+module _ (b : List ℕ) (rest : Outcome Accepted) where
   -- every node of the range is a child once
   pub parents_pass : (k a : ℕ) → ((z : ℕ) → a ≤ z → z < a + k → times_child b z ≡ 1) → weigh_parents b (range a k) rest ≡ rest
   parents_pass zero a h = refl

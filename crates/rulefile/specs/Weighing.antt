@@ -1,20 +1,17 @@
 -- What the steps of `check` ask and answer: a file of the right length, its nodes weighed one by one, and how often each is a child.
-use Rattle.std.specs.Prelude.{ℕ, ◌+◌, ◌-◌, ◌*◌, ◌≤◌, ◌<◌, ◌≡◌, Bool, false, cond, List, length, get_or, eqb}
+use Rattle.std.specs.Prelude.{ℕ, ◌+◌, ◌-◌, ◌*◌, ◌≤◌, ◌<◌, ◌≡◌, Bool, cond, List, length, get_or, Result, Ok, Err, Option, Some, None}
 use Rattle.meaning.specs.Lists.{range}
 use Rattle.meaning.specs.Outcome.{Outcome, given}
 use Rattle.meaning.specs.Formula.{free, reach}
-use Rattle.meaning.specs.RuleFile.{Accepted as Answer, node_count, formula_at, shape_fits, range_fits, mask_of, pattern, times_child, weigh_nodes, weigh_parents, is_accepted}
+use Rattle.meaning.specs.RuleFile.{Accepted, node_count, formula_at, shape_fits, range_fits, mask_of, pattern, times_child, weigh_nodes, weigh_parents}
 use Rattle.meaning.specs.declared.Head.{Head}
 use Rattle.meaning.specs.declared.Body.{Body}
 use Rattle.meaning.specs.declared.Node.{Node}
 use Rattle.ruleshape.specs.Sound.{NodeFits}
 use Rattle.rulefree.specs.Mask.{node_mask, node_fits}
-use Rattle.rulefile.specs.declared.Checked.TheVariants.{Misshapen, WindowOut, FreeBroken}
-use Rattle.rulefile.specs.declared.Tested.{Tested}
-use Rattle.rulefile.specs.declared.Tested.TheVariants.{Free, Refused}
-use Rattle.rulefile.specs.declared.Stray.{Stray}
-use Rattle.rulefile.specs.declared.Stray.TheVariants.{At, Nowhere}
-use Rattle.rulefile.specs.Checked.{answer_of}
+use Rattle.rulefile.specs.declared.RuleRefusal.{RuleRefusal}
+use Rattle.rulefile.specs.declared.RuleRefusal.TheVariants.{Misshapen, WindowOut, FreeBroken}
+use Rattle.rulefile.specs.Checked.{refusal_of}
 
 -- the file has the length that its node count asks, and that count is in range
 pub record Sized (b : List ℕ) : Type 0 where
@@ -28,12 +25,12 @@ pub record AllFit (b : List ℕ) : Type 0 where
   pub each : (y : ℕ) → y < node_count b → NodeFits b y
 
 -- what tests of shape, window and free variables say of node x, whose free variables are the mask m
-abbrev pub weighed_by : Bool → Bool → Bool → ℕ → ℕ → Tested
+abbrev pub weighed_by : Bool → Bool → Bool → ℕ → ℕ → Result ℕ RuleRefusal
 weighed_by shape window free x m =
-    cond shape (cond window (cond free (Free m) (Refused (FreeBroken x))) (Refused (WindowOut x))) (Refused (Misshapen x))
+    cond shape (cond window (cond free (Ok m) (Err (FreeBroken x))) (Err (WindowOut x))) (Err (Misshapen x))
 
 -- node x, of this head and body, weighed with the masks of the nodes below it
-abbrev pub weighing : List ℕ → ℕ → Head → Body → Node → List ℕ → Tested
+abbrev pub weighing : List ℕ → ℕ → Head → Body → Node → List ℕ → Result ℕ RuleRefusal
 weighing b x h w n masks = weighed_by (shape_fits b x h w) (range_fits h w) (node_fits masks n) x (node_mask masks n)
 
 -- the list has the mask of each node's free variables
@@ -41,16 +38,16 @@ abbrev pub Masked : List ℕ → List ℕ → Type 0
 Masked b masks = (x : ℕ) → x < node_count b → get_or masks x 0 ≡ mask_of (free (formula_at b x))
 
 -- what "Check a rule" says where every node passes 4 to 6: 7, and then the answer; and what it says from the nodes on
-abbrev pub after_nodes : List ℕ → Outcome Answer
+abbrev pub after_nodes : List ℕ → Outcome Accepted
 after_nodes b = weigh_parents b (range 0 (node_count b - 1)) (given (record { reach = reach (pattern b); free = mask_of (free (pattern b)) }))
 
-abbrev pub from_nodes : List ℕ → Outcome Answer
+abbrev pub from_nodes : List ℕ → Outcome Accepted
 from_nodes b = weigh_nodes b (range 0 (node_count b)) (after_nodes b)
 
 -- what is weighed tells the answer o, the reach apart
-abbrev pub Tells : List ℕ → List ℕ → Outcome Answer → Tested → Type 0
-Tells b masks o (Free m) = (o ≡ given (record { reach = reach (pattern b); free = m })) × Masked b masks
-Tells b masks o (Refused c) = (o ≡ answer_of c) × (is_accepted o ≡ false)
+abbrev pub Tells : List ℕ → List ℕ → Outcome Accepted → Result ℕ RuleRefusal → Type 0
+Tells b masks o (Ok m) = (o ≡ given (record { reach = reach (pattern b); free = m })) × Masked b masks
+Tells b masks o (Err r) = o ≡ refusal_of r
 
 -- every node passes 4 to 6, the lists have the mask of each and how often it is a child, and m is the pattern's mask
 pub record NodesPass (b masks uses : List ℕ) (m : ℕ) : Type 0 where
@@ -60,19 +57,11 @@ pub record NodesPass (b masks uses : List ℕ) (m : ℕ) : Type 0 where
   pub mask : m ≡ mask_of (free (pattern b))
 
 -- all nodes weighed
-abbrev pub NodesWeighed : List ℕ → List ℕ → List ℕ → Tested → Type 0
-NodesWeighed b masks uses (Free m) = NodesPass b masks uses m
-NodesWeighed b masks uses (Refused c) = Tells b masks (from_nodes b) (Refused c)
-
--- the stray node found so far, or node y where there is none yet and its count isn't 1
-abbrev pub stray_or : Stray → ℕ → Stray
-stray_or (At z) y = At z
-stray_or Nowhere y = At y
-
-abbrev pub first_of : Stray → ℕ → ℕ → Stray
-first_of found count y = cond (eqb count 1) found (stray_or found y)
+abbrev pub NodesWeighed : List ℕ → List ℕ → List ℕ → Result ℕ RuleRefusal → Type 0
+NodesWeighed b masks uses (Ok m) = NodesPass b masks uses m
+NodesWeighed b masks uses (Err r) = Tells b masks (from_nodes b) (Err r)
 
 -- the lowest node below n whose count isn't 1
-abbrev pub FirstStray : List ℕ → ℕ → Stray → Type 0
-FirstStray uses n (At y) = (y < n) × ((z : ℕ) → z < y → get_or uses z 0 ≡ 1) × (get_or uses y 0 ≡ 1 → ⊥)
-FirstStray uses n Nowhere = (z : ℕ) → z < n → get_or uses z 0 ≡ 1
+abbrev pub FirstStray : List ℕ → ℕ → Option ℕ → Type 0
+FirstStray uses n (Some y) = (y < n) × ((z : ℕ) → z < y → get_or uses z 0 ≡ 1) × (get_or uses y 0 ≡ 1 → ⊥)
+FirstStray uses n None = (z : ℕ) → z < n → get_or uses z 0 ≡ 1

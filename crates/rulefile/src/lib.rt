@@ -9,7 +9,7 @@ ghost use Rattle.meaning.specs.RuleFile.{node_count, arity_fits, sizes_fit, form
 ghost use Rattle.meaning.specs.View.{children_in};
 ghost use Rattle.ruleshape.specs.Sound.{window_reach};
 ghost use Rattle.rulefile.specs.Checked.{answer_of};
-ghost use Rattle.rulefile.specs.Weighing.{Sized, AllFit, weighing, NodesWeighed, Masked, Tells, first_of, FirstStray, from_nodes};
+ghost use Rattle.rulefile.specs.Weighing.{Sized, AllFit, weighing, NodesWeighed, Masked, Tells, FirstStray, from_nodes};
 
 use meaning::{Body, Children, Head, MOST_NODES, Node, Times};
 use rulefree::{node_fits, node_mask};
@@ -19,10 +19,16 @@ use ruleshape::{range_fits, shape_fits};
 // Nodes at most that a rule has, as a byte.
 const NODES: u8 = MOST_NODES as u8;
 
-// The answer: the reach and the mask of free variables, or the refusal, with its node where it has one.
+// What "Check a rule" tells of a rule that is accepted: its reach, and its free variables as a mask.
 #[derive(Clone, Copy)]
-pub enum Checked {
-    Accepted(u32, u8),
+pub struct AcceptedRule {
+    pub reach: u32,
+    pub mask: u8,
+}
+
+// Why a rule is refused, with the node where it is one.
+#[derive(Clone, Copy)]
+pub enum RuleRefusal {
     Cut,
     OtherVersion,
     SizeOut,
@@ -30,20 +36,6 @@ pub enum Checked {
     WindowOut(u8),
     FreeBroken(u8),
     NotOneParent(u8),
-}
-
-// A node weighed, or a whole rule: the mask of free variables, or the refusal.
-#[derive(Clone, Copy)]
-pub enum Tested {
-    Free(u8),
-    Refused(Checked),
-}
-
-// The first node that isn't a child exactly once.
-#[derive(Clone, Copy)]
-pub enum Stray {
-    At(u8),
-    Nowhere,
 }
 
 fn arity_fits(rule: &[u8], relation: u8) -> bool
@@ -65,8 +57,15 @@ fn sizes_fit(rule: &[u8]) -> bool
     (1 <= rule[1]) & (rule[1] <= 8) & (1 <= rule[2]) & (rule[2] <= NODES) & (rule[3] == 0) & arities
 }
 
-// Refusals 4, 5 and 6 of node x, of this head and body, with the masks of the nodes below it.
-fn weigh_node(rule: &[u8], x: u8, h: Head, w: Body, node: Node, masks: &[u8]) -> Tested
+// The mask of node x, of this head and body, with the masks of the nodes below it; or refusal 4, 5 or 6.
+fn weigh_node(
+    rule: &[u8],
+    x: u8,
+    h: Head,
+    w: Body,
+    node: Node,
+    masks: &[u8],
+) -> Result<u8, RuleRefusal>
     requires { 12 ≤ length rule.now }
     ensures { result ≡ weighing rule.now x h w node masks.now }
 {
@@ -74,15 +73,15 @@ fn weigh_node(rule: &[u8], x: u8, h: Head, w: Body, node: Node, masks: &[u8]) ->
     let window = range_fits(h, w);
     let free = node_fits(masks, node);
     if !shape {
-        return Tested::Refused(Checked::Misshapen(x));
+        return Err(RuleRefusal::Misshapen(x));
     }
     if !window {
-        return Tested::Refused(Checked::WindowOut(x));
+        return Err(RuleRefusal::WindowOut(x));
     }
     if !free {
-        return Tested::Refused(Checked::FreeBroken(x));
+        return Err(RuleRefusal::FreeBroken(x));
     }
-    Tested::Free(node_mask(masks, node))
+    Ok(node_mask(masks, node))
 }
 
 // Counts a child.
@@ -109,88 +108,66 @@ fn count_children(uses: &mut [u8], children: Children)
     }
 }
 
-// All nodes, lowest first, each read once; where they pass, the lent bytes hold the mask of each and how often it is a child.
-fn weigh_nodes(rule: &[u8], masks: &mut [u8], uses: &mut [u8]) -> Tested
+// All nodes, lowest first, each read once: the last one's mask, and in the lent bytes the mask of each and how often it is a child.
+fn weigh_nodes(rule: &[u8], masks: &mut [u8], uses: &mut [u8]) -> Result<u8, RuleRefusal>
     requires { Sized rule.now × (32 ≤ length masks.old) × (32 ≤ length uses.old) × ((y : ℕ) → get_or uses.old y 0 ≡ 0) }
     ensures { NodesWeighed rule.now masks.new uses.new result }
 {
     let n = rule[2];
-    let mut x: u8 = 0;
-    while x < n {
+    for x in 0..n {
         let h = head_at(rule, x);
         let w = body_of(rule, x);
         let node = node_of(arity_at(rule, h.left), h, w);
-        let weighed = weigh_node(rule, x, h, w, node, masks);
-        let Tested::Free(mask) = weighed else {
-            return weighed;
-        };
+        let mask = weigh_node(rule, x, h, w, node, masks)?;
         masks[x as usize] = mask;
         count_children(uses, children_of(node));
-        x += 1;
     }
     let last = (n - 1) as usize;
-    Tested::Free(masks[last])
-}
-
-// The stray node found so far; else node y, where its count isn't 1.
-fn first_of(found: Stray, count: u8, y: u8) -> Stray
-    ensures { result ≡ first_of found count y }
-{
-    if count == 1 {
-        return found;
-    }
-    let Stray::At(first) = found else {
-        return Stray::At(y);
-    };
-    Stray::At(first)
+    Ok(masks[last])
 }
 
 // The lowest node below n that isn't a child exactly once.
-fn first_stray(uses: &[u8], n: u8) -> Stray
+fn first_stray(uses: &[u8], n: u8) -> Option<u8>
     requires { n ≤ length uses.now }
     ensures { FirstStray uses.now n result }
 {
-    let mut found = Stray::Nowhere;
-    let mut y: u8 = 0;
-    while y < n {
-        found = first_of(found, uses[y as usize], y);
-        y += 1;
+    for y in 0..n {
+        if uses[y as usize] != 1 {
+            return Some(y);
+        }
     }
-    found
+    None
 }
 
-// Refusals 4 to 7 of a file whose sizes and length are right.
-fn check_nodes(rule: &[u8], masks: &mut [u8]) -> Tested
+// Refusals 4 to 7 of a file whose sizes and length are right; else the last node's mask.
+fn check_nodes(rule: &[u8], masks: &mut [u8]) -> Result<u8, RuleRefusal>
     requires { Sized rule.now × (32 ≤ length masks.old) }
     ensures { Tells rule.now masks.new (from_nodes rule.now) result }
 {
     let mut uses = [0u8; MOST_NODES];
-    let weighed = weigh_nodes(rule, masks, &mut uses);
-    let Tested::Free(mask) = weighed else {
-        return weighed;
-    };
-    let Stray::At(y) = first_stray(&uses, rule[2] - 1) else {
-        return Tested::Free(mask);
-    };
-    Tested::Refused(Checked::NotOneParent(y))
+    let mask = weigh_nodes(rule, masks, &mut uses)?;
+    match first_stray(&uses, rule[2] - 1) {
+        Some(y) => Err(RuleRefusal::NotOneParent(y)),
+        None => Ok(mask),
+    }
 }
 
 // Everything of "Check a rule" but the reach: any bytes. Where no refusal applies, the lent bytes hold the mask of each node's free variables.
-fn weigh_rule(rule: &[u8], masks: &mut [u8]) -> Tested
+fn weigh_rule(rule: &[u8], masks: &mut [u8]) -> Result<u8, RuleRefusal>
     requires { 32 ≤ length masks.old }
     ensures { Tells rule.now masks.new (checking rule.now) result }
 {
     if rule.len() < 12 {
-        return Tested::Refused(Checked::Cut);
+        return Err(RuleRefusal::Cut);
     }
     if rule[0] != 1 {
-        return Tested::Refused(Checked::OtherVersion);
+        return Err(RuleRefusal::OtherVersion);
     }
     if !sizes_fit(rule) {
-        return Tested::Refused(Checked::SizeOut);
+        return Err(RuleRefusal::SizeOut);
     }
     if rule.len() != 12 + 20 * (rule[2] as usize) {
-        return Tested::Refused(Checked::Cut);
+        return Err(RuleRefusal::Cut);
     }
     check_nodes(rule, masks)
 }
@@ -201,10 +178,7 @@ pub fn accepts(rule: &[u8], masks: &mut [u8]) -> bool
     ensures answer { result ≡ is_accepted (checking rule.now) }
     ensures known { result ≡ true → Masked rule.now masks.new }
 {
-    match weigh_rule(rule, masks) {
-        Tested::Free(_) => true,
-        Tested::Refused(_) => false,
-    }
+    weigh_rule(rule, masks).is_ok()
 }
 
 // What a node adds to the greatest reach of its children.
@@ -240,12 +214,11 @@ fn reach_of(rule: &[u8], x: u8) -> u32
 }
 
 // Checks a rule: any bytes.
-pub fn check(rule: &[u8]) -> Checked
+pub fn check(rule: &[u8]) -> Result<AcceptedRule, RuleRefusal>
     ensures { answer_of result ≡ checking rule.now }
 {
     let mut masks = [0u8; MOST_NODES];
-    match weigh_rule(rule, &mut masks) {
-        Tested::Free(mask) => Checked::Accepted(reach_of(rule, rule[2] - 1), mask),
-        Tested::Refused(refusal) => refusal,
-    }
+    let mask = weigh_rule(rule, &mut masks)?;
+    let reach = reach_of(rule, rule[2] - 1);
+    Ok(AcceptedRule { reach, mask })
 }

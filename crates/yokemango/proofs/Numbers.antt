@@ -2,11 +2,10 @@
 use Prim.Native.Nat.{ℕ, ◌≤◌}
 use native.Mathlib.Omega.{arith}
 use mathlib.Core.Path.{◌≡◌}
-use mathlib.Core.Bool.{true, false, true≢false}
+use mathlib.Core.Bool.{true, false}
 use mathlib.Core.List.{List}
 use lib.ListN.{length}
-use Rattle.meaning.specs.Outcome.{Outcome, refused, given, most_kept}
-use Rattle.meaning.specs.RuleFile.{Accepted, is_accepted}
+use Rattle.meaning.specs.Outcome.{Outcome, refused, most_kept}
 use Rattle.rulefile.specs.Checked.{answer_of as checked_of}
 use Rattle.entries.specs.Entries.{EntriesWithin}
 use Rattle.figures.specs.Fronts.{open_answer}
@@ -23,11 +22,6 @@ use Rattle.monitor.specs.declared.Started.{Started}
 use Rattle.yokemango.specs.Parts.{parts_of}
 use Rattle.yokemango.specs.Numbers.{told_of, start_parts, figures_with, open_in, figures_of}
 use Rattle.yokemango.specs.declared.Parts.{Parts}
-
--- a rule's refusal as four numbers
-pub rule_told : (o : Outcome Accepted) → is_accepted o ≡ false → {t : Numbered} → t ≡ numbered o → record { number = t.0; place = t.1; reach = 0; free = 0 } ≡ parts_of o
-rule_told (refused n p) none e = rw e
-rule_told (given a) none e = absurd (true≢false none)
 
 -- an event's refusal as a taking tells it
 pub event_told : (r : Refusal) {t : Numbered} → t ≡ numbered (refusal_of r) → record { number = t.0; place = t.1; words = 0 } ≡ told_of (refusal_of r)

@@ -25,7 +25,7 @@ use meaning::{LogEnd, Stamp};
 use monitor::State;
 use refusals::{of_event, of_rule};
 use report::RowCount;
-use rulefile::{Checked, check};
+use rulefile::{AcceptedRule, RuleRefusal, check};
 
 // The answer of checking: 0, or the refusal's number and place; the reach, and the free variables, bit k for variable k.
 #[repr(C)]
@@ -37,17 +37,17 @@ pub struct Parts {
     pub free: u32,
 }
 
-fn parts_of(c: Checked) -> Parts
+fn parts_of(c: Result<AcceptedRule, RuleRefusal>) -> Parts
     ensures { result ≡ parts_of (answer_of c) }
 {
     match c {
-        Checked::Accepted(reach, mask) => Parts {
+        Ok(rule) => Parts {
             number: 0,
             place: 0,
-            reach,
-            free: mask as u32,
+            reach: rule.reach,
+            free: rule.mask as u32,
         },
-        _ => {
+        Err(_) => {
             let told = of_rule(c);
             Parts {
                 number: told.0,

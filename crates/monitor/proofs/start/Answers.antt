@@ -5,4 +5,4 @@ use Rattle.monitor.proofs.Starting.{rule_fits}
 use Rattle.monitor.proofs.start.Goals as goal
 
 pub empty-state-requires : goal.empty-state-requires
-empty-state-requires c = rule_fits _ _ (sym c.check-checked.ensures ∙ ap answer_of c.in-Accepted.is)
+empty-state-requires c = rule_fits _ _ (sym c.check-checked.ensures ∙ ap answer_of c.in-Ok.is)

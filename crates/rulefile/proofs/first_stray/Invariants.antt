@@ -1,10 +1,8 @@
-use Prim.Native.Nat.{◌≤◌, ◌-◌}
-use Rattle.rulefile.specs.Weighing.{FirstStray}
+use Prim.Native.Nat.{ℕ, ◌<◌}
+use mathlib.Core.Path.{◌≡◌}
+use lib.ListN.{get_or}
 use Rattle.rulefile.proofs.first_stray.Given as goal
 
--- `rulefile::first_stray` meets its contract. The loop keeps `FirstStray` of the nodes passed so far.
+-- each node passed so far is a child once
 abbrev pub invariant-loop-y : goal.invariant-loop-y
-invariant-loop-y l = (l.y ≤ l.n) × FirstStray l.uses l.y l.found
-
-abbrev pub decreases-loop-y : goal.decreases-loop-y
-decreases-loop-y l = l.n - l.y
+invariant-loop-y l = (z : ℕ) → z < l.y → get_or l.uses z 0 ≡ 1
