@@ -44,15 +44,10 @@ use Rattle.node_step.specs.Walks.{set_words, block_in, OutThere, Walked}
 use Rattle.call.specs.Stores.{EntriesStored, Storable}
 use Rattle.call.specs.Blocks.{last_points, LastReady}
 use Rattle.call.specs.Settles.{call_in, ReadyIn, RoomToKeep, weighed_now, SettledCall}
-use Rattle.call.specs.declared.Settled.TheVariants.{Done, Full}
 
 pub either_way : {A B C : Type 0} → (A → C) → (B → C) → A ⊎ B → C
 either_way f g (inl x) = f x
 either_way f g (inr y) = g y
-
--- a call that is settled has not come out full
-pub not_full : {A : Type 0} {r : Result Written Refusal} → Done r ≡ Full → A
-not_full d = let q : ◌≡◌ {A = ℕ} 0 1 = cc in absurd (omega arith)
 
 -- ---- the crowded nodes
 

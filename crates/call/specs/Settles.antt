@@ -1,5 +1,5 @@
 -- A call from a well-formed state and an admitted event or notice on: what 13 to 16 answer, and what is left of the buffer and the state's words.
-use Rattle.std.specs.Prelude.{ℕ, ◌+◌, ◌-◌, ◌*◌, ◌≤◌, ◌≡◌, List, length, take, Result, Ok, Err}
+use Rattle.std.specs.Prelude.{ℕ, ◌+◌, ◌-◌, ◌*◌, ◌≤◌, ◌≡◌, List, length, take, Option, Some, None, Result, Ok, Err}
 use Rattle.meaning.specs.Outcome.{Outcome, most_kept}
 use Rattle.meaning.specs.RuleFile.{node_count, last_node}
 use Rattle.meaning.specs.Keeper.{weighed, buffer_after}
@@ -12,8 +12,6 @@ use Rattle.limits.specs.declared.Written.{Written}
 use Rattle.node_step.specs.Figures.{called, CallReady}
 use Rattle.node_step.specs.Walks.{set_words}
 use Rattle.call.specs.Stores.{EntriesStored}
-use Rattle.call.specs.declared.Settled.{Settled}
-use Rattle.call.specs.declared.Settled.TheVariants.{Done, Full}
 
 -- what is stored as the call begins, where the first count entries of the words are a state's
 abbrev pub call_in : List ℕ → LogEnd → List ℕ → List ℕ → List ℕ → List ℕ → ℕ → Stored
@@ -44,6 +42,6 @@ pub record SettledCall (s : Stored) (w buffer buffer' os ns vs os' ns' vs' : Lis
   pub stays : (e : Refusal) → r ≡ Err e → (os' ≡ os) × (ns' ≡ ns) × (vs' ≡ vs)
 
 -- the call tried: settled; or more entries would be kept than there is room for, and every word is as it was
-abbrev pub Tried : Stored → List ℕ → List ℕ → List ℕ → List ℕ → List ℕ → List ℕ → List ℕ → List ℕ → List ℕ → Settled → Type 0
-Tried s w buffer buffer' os ns vs os' ns' vs' (Done r) = SettledCall s w buffer buffer' os ns vs os' ns' vs' r
-Tried s w buffer buffer' os ns vs os' ns' vs' Full = (buffer' ≡ buffer) × (os' ≡ os) × (ns' ≡ ns) × (vs' ≡ vs)
+abbrev pub Tried : Stored → List ℕ → List ℕ → List ℕ → List ℕ → List ℕ → List ℕ → List ℕ → List ℕ → List ℕ → Option (Result Written Refusal) → Type 0
+Tried s w buffer buffer' os ns vs os' ns' vs' (Some r) = SettledCall s w buffer buffer' os ns vs os' ns' vs' r
+Tried s w buffer buffer' os ns vs os' ns' vs' None = (buffer' ≡ buffer) × (os' ≡ os) × (ns' ≡ ns) × (vs' ≡ vs)

@@ -14,19 +14,11 @@ ghost use Rattle.limits.specs.Weighs.{Weighs};
 ghost use Rattle.call.specs.Stores.{EntriesStored, Storable};
 ghost use Rattle.call.specs.Blocks.{EntriesPut, BlockStorable, last_points, LastReady};
 ghost use Rattle.call.specs.Settles.{call_in, ReadyIn, RoomToKeep, Tried};
-ghost use Rattle.call.specs.declared.Settled.TheVariants.{Full};
 
 use limits::{Refusal, Written};
 use meaning::{LogEnd, Point};
 use node_step::{NO_NODE, NODE_WORDS, SET_WORDS};
 use writer::Points;
-
-// A call that was tried: settled, or more entries would be kept than there was room for.
-#[derive(Clone, Copy)]
-pub enum Settled {
-    Done(Result<Written, Refusal>),
-    Full,
-}
 
 // Stores node x's block behind k entries; the entry behind it.
 fn store_block(
@@ -122,7 +114,7 @@ fn weigh_last(
     limits::weigh(report, rows, at, stamps, p, unsettled, kept)
 }
 
-// A call in lent room: all nodes, refusals 13 to 16, and where none applies the report and the entries that are then kept.
+// A call in lent room: all nodes, refusals 13 to 16, and where none applies the report and the entries that are then kept. None where more entries would be kept than there is room for, which may be fewer than a state has.
 pub fn settle(
     rule: &[u8],
     figures: &[u32],
@@ -139,12 +131,12 @@ pub fn settle(
     out_numbers: &mut [u32],
     out_values: &mut [u32],
     blocks: &mut [u32],
-) -> Settled
+) -> Option<Result<Written, Refusal>>
     requires ready_in { ReadyIn rule.now log stamps.now owners.old numbers.old values.old count event.now figures.now }
     requires event_in_bounds { (rows_needed (call_in rule.now log stamps.now owners.old numbers.old values.old count) event.now * 4 ≤ length rows.old) × (marks_needed (call_in rule.now log stamps.now owners.old numbers.old values.old count) event.now < length at.old) }
     requires room_to_keep { RoomToKeep rule.now out_numbers.old out_values.old blocks.old }
     ensures tried { Tried (call_in rule.now log stamps.now owners.old numbers.old values.old count) event.now report.old report.new owners.old numbers.old values.old owners.new numbers.new values.new result }
-    ensures full { result ≡ Full → length out_numbers.old < most_kept }
+    ensures full { result ≡ None → length out_numbers.old < most_kept }
 {
     let place = tree_walk::walk(
         rule,
@@ -163,20 +155,20 @@ pub fn settle(
     );
     let low = place.low;
     if low < NO_NODE {
-        return Settled::Done(Err(Refusal::Crowded(low)));
+        return Some(Err(Refusal::Crowded(low)));
     }
     let kept = place.kept;
     let room = out_numbers.len();
     if room < kept {
         if room < meaning::MOST_KEPT {
-            return Settled::Full;
+            return None;
         }
     }
     let weighed = weigh_last(
         rule, figures, stamps, log.points, event, rows, at, kept, report,
     );
     match weighed {
-        Err(refusal) => Settled::Done(Err(refusal)),
+        Err(refusal) => Some(Err(refusal)),
         Ok(written) => {
             store(
                 out_numbers,
@@ -187,7 +179,7 @@ pub fn settle(
                 numbers,
                 values,
             );
-            Settled::Done(Ok(written))
+            Some(Ok(written))
         }
     }
 }

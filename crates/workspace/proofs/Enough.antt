@@ -3,12 +3,14 @@ use Prim.Native.Nat.{ℕ, ◌*◌, ◌≤◌, ◌<◌}
 use native.Mathlib.Omega.{arith}
 use mathlib.Core.List.{List}
 use lib.ListN.{length}
+use Rattle.meaning.specs.Outcome.{most_kept}
 use Rattle.meaning.specs.declared.LogEnd.{LogEnd}
 use Rattle.method.specs.Room.{marks_needed, marks_to_time}
 use Rattle.method.proofs.Room.{room_enough}
 use Rattle.call.specs.Settles.{call_in, ReadyIn}
 use Rattle.call.proofs.Calls.{stamps_long}
-use Rattle.workspace.specs.Rooms.{CallFits, largest_rows, marks}
+use Rattle.std.proofs.lemmas.Bool.Decides.{nat_tests}
+use Rattle.workspace.specs.Rooms.{CallFits, IsRoom, largest_rows, marks}
 
 module _ {b : List ℕ} {log : LogEnd} {stamps os ns vs : List ℕ} {count : ℕ} {w f : List ℕ} (h : ReadyIn b log stamps os ns vs count w f) where
   pub marks_enough : marks_needed (call_in b log stamps os ns vs count) w < marks
@@ -22,3 +24,7 @@ module _ {b : List ℕ} {log : LogEnd} {stamps os ns vs : List ℕ} {count : ℕ
 
   pub marks_by_times : marks_needed (call_in b log stamps os ns vs count) w ≤ marks_to_time * length stamps
   marks_by_times = omega (arith, stamps_long h, (room_enough (call_in b log stamps os ns vs count) h.ready.formed w).by_times)
+
+-- no room has more than the largest
+pub room_small : {rows m kept row_words values : ℕ} → IsRoom rows m kept row_words values → (rows ≤ largest_rows) × (m ≤ marks) × (kept ≤ most_kept)
+room_small {rows} {m} {kept} r = grind (arith, nat_tests)

@@ -2,13 +2,11 @@
 #![tactic(auto)]
 
 ghost use Rattle.std.specs.Prelude.{◌≡◌, true, ◌≤◌, ◌<◌};
-ghost use Rattle.meaning.specs.Outcome.{most_points};
+ghost use Rattle.meaning.specs.Outcome.{most_points, most_kept};
 ghost use Rattle.method.specs.Room.{rows_needed};
 ghost use Rattle.call.specs.Settles.{call_in, ReadyIn, SettledCall, Tried};
-ghost use Rattle.call.specs.declared.Settled.TheVariants.{Done, Full};
-ghost use Rattle.workspace.specs.Rooms.{CallFits, NeedsAre, small_rows, double_rows, medium_rows, usual_rows, large_rows, largest_rows, few_marks, some_marks, marks};
+ghost use Rattle.workspace.specs.Rooms.{CallFits, NeedsAre, IsRoom};
 
-use call::Settled;
 use limits::{Refusal, Written};
 use meaning::{LogEnd, MOST_KEPT, MOST_NODES};
 use node_step::SET_WORDS;
@@ -25,6 +23,19 @@ const USUAL_ROWS: usize = 704;
 const LARGE_ROWS: usize = 2688;
 
 const LARGEST_ROWS: usize = 8512;
+
+// The words of their rows.
+const SMALL_WORDS: usize = SMALL_ROWS * 4;
+
+const DOUBLE_WORDS: usize = DOUBLE_ROWS * 4;
+
+const MEDIUM_WORDS: usize = MEDIUM_ROWS * 4;
+
+const USUAL_WORDS: usize = USUAL_ROWS * 4;
+
+const LARGE_WORDS: usize = LARGE_ROWS * 4;
+
+const LARGEST_WORDS: usize = LARGEST_ROWS * 4;
 
 // For how many entries that are kept there is room, and the words of their values.
 const FEW_KEPT: usize = 32;
@@ -71,8 +82,14 @@ fn never(points: u32) -> u32
     points / 4_000_000_000
 }
 
-// A call tried in the smallest room. Like the other rooms' functions it calls itself `again` times first, which is never (see `never`).
-fn settle_small_few(
+// A call tried in a room of so many rows and marks, where so many entries may be kept. It calls itself `again` times first, which is never (see `never`).
+fn settle_in<
+    const ROWS: usize,
+    const MARKS: usize,
+    const KEPT: usize,
+    const ROW_WORDS: usize,
+    const VALUES: usize,
+>(
     again: u32,
     rule: &[u8],
     figures: &[u32],
@@ -84,14 +101,16 @@ fn settle_small_few(
     values: &mut [u32],
     count: usize,
     report: &mut [u32],
-) -> Settled
+) -> Option<Result<Written, Refusal>>
     requires again_value { again ≡ 0 }
+    requires room { IsRoom ROWS MARKS KEPT ROW_WORDS VALUES }
     requires ready_in { ReadyIn rule.now log stamps.now owners.old numbers.old values.old count event.now figures.now }
-    requires call_fits { CallFits (call_in rule.now log stamps.now owners.old numbers.old values.old count) event.now small_rows few_marks }
-    ensures { Tried (call_in rule.now log stamps.now owners.old numbers.old values.old count) event.now report.old report.new owners.old numbers.old values.old owners.new numbers.new values.new result }
+    requires call_fits { CallFits (call_in rule.now log stamps.now owners.old numbers.old values.old count) event.now ROWS MARKS }
+    ensures tried { Tried (call_in rule.now log stamps.now owners.old numbers.old values.old count) event.now report.old report.new owners.old numbers.old values.old owners.new numbers.new values.new result }
+    ensures full { result ≡ None → KEPT < most_kept }
 {
     if 0 < again {
-        return settle_small_few(
+        return settle_in::<ROWS, MARKS, KEPT, ROW_WORDS, VALUES>(
             again - 1,
             rule,
             figures,
@@ -105,242 +124,10 @@ fn settle_small_few(
             report,
         );
     }
-    let mut rows = [0u32; SMALL_ROWS * 4];
-    let mut at = [0u32; FEW_MARKS];
-    let mut out_numbers = [0u32; FEW_KEPT];
-    let mut out_values = [0u32; FEW_VALUES];
-    let mut blocks = [0u32; TABLE];
-    call::settle(
-        rule,
-        figures,
-        stamps,
-        log,
-        event,
-        owners,
-        numbers,
-        values,
-        count,
-        report,
-        &mut rows,
-        &mut at,
-        &mut out_numbers,
-        &mut out_values,
-        &mut blocks,
-    )
-}
-
-// A call tried with more rows: a rule of four nodes needs them where it settles two points at once.
-fn settle_double_few(
-    again: u32,
-    rule: &[u8],
-    figures: &[u32],
-    stamps: &[u32],
-    log: LogEnd,
-    event: &[u32],
-    owners: &mut [u32],
-    numbers: &mut [u32],
-    values: &mut [u32],
-    count: usize,
-    report: &mut [u32],
-) -> Settled
-    requires again_value { again ≡ 0 }
-    requires ready_in { ReadyIn rule.now log stamps.now owners.old numbers.old values.old count event.now figures.now }
-    requires call_fits { CallFits (call_in rule.now log stamps.now owners.old numbers.old values.old count) event.now double_rows few_marks }
-    ensures { Tried (call_in rule.now log stamps.now owners.old numbers.old values.old count) event.now report.old report.new owners.old numbers.old values.old owners.new numbers.new values.new result }
-{
-    if 0 < again {
-        return settle_double_few(
-            again - 1,
-            rule,
-            figures,
-            stamps,
-            log,
-            event,
-            owners,
-            numbers,
-            values,
-            count,
-            report,
-        );
-    }
-    let mut rows = [0u32; DOUBLE_ROWS * 4];
-    let mut at = [0u32; FEW_MARKS];
-    let mut out_numbers = [0u32; FEW_KEPT];
-    let mut out_values = [0u32; FEW_VALUES];
-    let mut blocks = [0u32; TABLE];
-    call::settle(
-        rule,
-        figures,
-        stamps,
-        log,
-        event,
-        owners,
-        numbers,
-        values,
-        count,
-        report,
-        &mut rows,
-        &mut at,
-        &mut out_numbers,
-        &mut out_values,
-        &mut blocks,
-    )
-}
-
-// A call tried with few rows and room for some entries.
-fn settle_small_some(
-    again: u32,
-    rule: &[u8],
-    figures: &[u32],
-    stamps: &[u32],
-    log: LogEnd,
-    event: &[u32],
-    owners: &mut [u32],
-    numbers: &mut [u32],
-    values: &mut [u32],
-    count: usize,
-    report: &mut [u32],
-) -> Settled
-    requires again_value { again ≡ 0 }
-    requires ready_in { ReadyIn rule.now log stamps.now owners.old numbers.old values.old count event.now figures.now }
-    requires call_fits { CallFits (call_in rule.now log stamps.now owners.old numbers.old values.old count) event.now small_rows few_marks }
-    ensures { Tried (call_in rule.now log stamps.now owners.old numbers.old values.old count) event.now report.old report.new owners.old numbers.old values.old owners.new numbers.new values.new result }
-{
-    if 0 < again {
-        return settle_small_some(
-            again - 1,
-            rule,
-            figures,
-            stamps,
-            log,
-            event,
-            owners,
-            numbers,
-            values,
-            count,
-            report,
-        );
-    }
-    let mut rows = [0u32; SMALL_ROWS * 4];
-    let mut at = [0u32; FEW_MARKS];
-    let mut out_numbers = [0u32; SOME_KEPT];
-    let mut out_values = [0u32; SOME_VALUES];
-    let mut blocks = [0u32; TABLE];
-    call::settle(
-        rule,
-        figures,
-        stamps,
-        log,
-        event,
-        owners,
-        numbers,
-        values,
-        count,
-        report,
-        &mut rows,
-        &mut at,
-        &mut out_numbers,
-        &mut out_values,
-        &mut blocks,
-    )
-}
-
-// A call tried with more of all.
-fn settle_medium_some(
-    again: u32,
-    rule: &[u8],
-    figures: &[u32],
-    stamps: &[u32],
-    log: LogEnd,
-    event: &[u32],
-    owners: &mut [u32],
-    numbers: &mut [u32],
-    values: &mut [u32],
-    count: usize,
-    report: &mut [u32],
-) -> Settled
-    requires again_value { again ≡ 0 }
-    requires ready_in { ReadyIn rule.now log stamps.now owners.old numbers.old values.old count event.now figures.now }
-    requires call_fits { CallFits (call_in rule.now log stamps.now owners.old numbers.old values.old count) event.now medium_rows some_marks }
-    ensures { Tried (call_in rule.now log stamps.now owners.old numbers.old values.old count) event.now report.old report.new owners.old numbers.old values.old owners.new numbers.new values.new result }
-{
-    if 0 < again {
-        return settle_medium_some(
-            again - 1,
-            rule,
-            figures,
-            stamps,
-            log,
-            event,
-            owners,
-            numbers,
-            values,
-            count,
-            report,
-        );
-    }
-    let mut rows = [0u32; MEDIUM_ROWS * 4];
-    let mut at = [0u32; SOME_MARKS];
-    let mut out_numbers = [0u32; SOME_KEPT];
-    let mut out_values = [0u32; SOME_VALUES];
-    let mut blocks = [0u32; TABLE];
-    call::settle(
-        rule,
-        figures,
-        stamps,
-        log,
-        event,
-        owners,
-        numbers,
-        values,
-        count,
-        report,
-        &mut rows,
-        &mut at,
-        &mut out_numbers,
-        &mut out_values,
-        &mut blocks,
-    )
-}
-
-// A call tried with room for many entries.
-fn settle_medium_many(
-    again: u32,
-    rule: &[u8],
-    figures: &[u32],
-    stamps: &[u32],
-    log: LogEnd,
-    event: &[u32],
-    owners: &mut [u32],
-    numbers: &mut [u32],
-    values: &mut [u32],
-    count: usize,
-    report: &mut [u32],
-) -> Settled
-    requires again_value { again ≡ 0 }
-    requires ready_in { ReadyIn rule.now log stamps.now owners.old numbers.old values.old count event.now figures.now }
-    requires call_fits { CallFits (call_in rule.now log stamps.now owners.old numbers.old values.old count) event.now medium_rows marks }
-    ensures { Tried (call_in rule.now log stamps.now owners.old numbers.old values.old count) event.now report.old report.new owners.old numbers.old values.old owners.new numbers.new values.new result }
-{
-    if 0 < again {
-        return settle_medium_many(
-            again - 1,
-            rule,
-            figures,
-            stamps,
-            log,
-            event,
-            owners,
-            numbers,
-            values,
-            count,
-            report,
-        );
-    }
-    let mut rows = [0u32; MEDIUM_ROWS * 4];
+    let mut rows = [0u32; ROW_WORDS];
     let mut at = [0u32; MARKS];
-    let mut out_numbers = [0u32; MANY_KEPT];
-    let mut out_values = [0u32; MANY_VALUES];
+    let mut out_numbers = [0u32; KEPT];
+    let mut out_values = [0u32; VALUES];
     let mut blocks = [0u32; TABLE];
     call::settle(
         rule,
@@ -359,193 +146,6 @@ fn settle_medium_many(
         &mut out_values,
         &mut blocks,
     )
-}
-
-// A call tried with more rows beside them.
-fn settle_usual_many(
-    again: u32,
-    rule: &[u8],
-    figures: &[u32],
-    stamps: &[u32],
-    log: LogEnd,
-    event: &[u32],
-    owners: &mut [u32],
-    numbers: &mut [u32],
-    values: &mut [u32],
-    count: usize,
-    report: &mut [u32],
-) -> Settled
-    requires again_value { again ≡ 0 }
-    requires ready_in { ReadyIn rule.now log stamps.now owners.old numbers.old values.old count event.now figures.now }
-    requires call_fits { CallFits (call_in rule.now log stamps.now owners.old numbers.old values.old count) event.now usual_rows marks }
-    ensures { Tried (call_in rule.now log stamps.now owners.old numbers.old values.old count) event.now report.old report.new owners.old numbers.old values.old owners.new numbers.new values.new result }
-{
-    if 0 < again {
-        return settle_usual_many(
-            again - 1,
-            rule,
-            figures,
-            stamps,
-            log,
-            event,
-            owners,
-            numbers,
-            values,
-            count,
-            report,
-        );
-    }
-    let mut rows = [0u32; USUAL_ROWS * 4];
-    let mut at = [0u32; MARKS];
-    let mut out_numbers = [0u32; MANY_KEPT];
-    let mut out_values = [0u32; MANY_VALUES];
-    let mut blocks = [0u32; TABLE];
-    call::settle(
-        rule,
-        figures,
-        stamps,
-        log,
-        event,
-        owners,
-        numbers,
-        values,
-        count,
-        report,
-        &mut rows,
-        &mut at,
-        &mut out_numbers,
-        &mut out_values,
-        &mut blocks,
-    )
-}
-
-// What a call gives that was tried with room for all entries that may be kept.
-fn done(settled: Settled) -> Result<Written, Refusal>
-    requires { settled ≡ Full → ⊥ }
-    ensures { settled ≡ Done result }
-{
-    match settled {
-        Settled::Done(weighed) => weighed,
-        Settled::Full => Err(Refusal::KeptOver),
-    }
-}
-
-// A call in a large room, for all entries that may be kept.
-fn settle_large(
-    again: u32,
-    rule: &[u8],
-    figures: &[u32],
-    stamps: &[u32],
-    log: LogEnd,
-    event: &[u32],
-    owners: &mut [u32],
-    numbers: &mut [u32],
-    values: &mut [u32],
-    count: usize,
-    report: &mut [u32],
-) -> Result<Written, Refusal>
-    requires again_value { again ≡ 0 }
-    requires ready_in { ReadyIn rule.now log stamps.now owners.old numbers.old values.old count event.now figures.now }
-    requires call_fits { CallFits (call_in rule.now log stamps.now owners.old numbers.old values.old count) event.now large_rows marks }
-    ensures { SettledCall (call_in rule.now log stamps.now owners.old numbers.old values.old count) event.now report.old report.new owners.old numbers.old values.old owners.new numbers.new values.new result }
-{
-    if 0 < again {
-        return settle_large(
-            again - 1,
-            rule,
-            figures,
-            stamps,
-            log,
-            event,
-            owners,
-            numbers,
-            values,
-            count,
-            report,
-        );
-    }
-    let mut rows = [0u32; LARGE_ROWS * 4];
-    let mut at = [0u32; MARKS];
-    let mut out_numbers = [0u32; ALL_KEPT];
-    let mut out_values = [0u32; ALL_VALUES];
-    let mut blocks = [0u32; TABLE];
-    let settled = call::settle(
-        rule,
-        figures,
-        stamps,
-        log,
-        event,
-        owners,
-        numbers,
-        values,
-        count,
-        report,
-        &mut rows,
-        &mut at,
-        &mut out_numbers,
-        &mut out_values,
-        &mut blocks,
-    );
-    done(settled)
-}
-
-// A call in the largest room.
-fn settle_largest(
-    again: u32,
-    rule: &[u8],
-    figures: &[u32],
-    stamps: &[u32],
-    log: LogEnd,
-    event: &[u32],
-    owners: &mut [u32],
-    numbers: &mut [u32],
-    values: &mut [u32],
-    count: usize,
-    report: &mut [u32],
-) -> Result<Written, Refusal>
-    requires again_value { again ≡ 0 }
-    requires ready_in { ReadyIn rule.now log stamps.now owners.old numbers.old values.old count event.now figures.now }
-    requires call_fits { CallFits (call_in rule.now log stamps.now owners.old numbers.old values.old count) event.now largest_rows marks }
-    ensures { SettledCall (call_in rule.now log stamps.now owners.old numbers.old values.old count) event.now report.old report.new owners.old numbers.old values.old owners.new numbers.new values.new result }
-{
-    if 0 < again {
-        return settle_largest(
-            again - 1,
-            rule,
-            figures,
-            stamps,
-            log,
-            event,
-            owners,
-            numbers,
-            values,
-            count,
-            report,
-        );
-    }
-    let mut rows = [0u32; LARGEST_ROWS * 4];
-    let mut at = [0u32; MARKS];
-    let mut out_numbers = [0u32; ALL_KEPT];
-    let mut out_values = [0u32; ALL_VALUES];
-    let mut blocks = [0u32; TABLE];
-    let settled = call::settle(
-        rule,
-        figures,
-        stamps,
-        log,
-        event,
-        owners,
-        numbers,
-        values,
-        count,
-        report,
-        &mut rows,
-        &mut at,
-        &mut out_numbers,
-        &mut out_values,
-        &mut blocks,
-    );
-    done(settled)
 }
 
 // Whether a room of so many rows, marks and entries has what a call needs: there is a mark more than sets.
@@ -553,13 +153,7 @@ fn has_room(needs: Needs, rows: usize, marks: usize, entries: usize) -> bool
     ensures passes { result ≡ true → (needs.rows ≤ rows) × (needs.marks < marks) × (needs.entries ≤ entries) }
     ensures fits { needs.rows ≤ rows → needs.marks < marks → needs.entries ≤ entries → result ≡ true }
 {
-    if rows < needs.rows {
-        return false;
-    }
-    if marks <= needs.marks {
-        return false;
-    }
-    needs.entries <= entries
+    needs.rows <= rows && needs.marks < marks && needs.entries <= entries
 }
 
 // A call tried in the first room that has what it needs, and full where only room for all entries has.
@@ -576,43 +170,43 @@ fn settle_smaller(
     count: usize,
     report: &mut [u32],
     needs: Needs,
-) -> Settled
+) -> Option<Result<Written, Refusal>>
     requires again_value { again ≡ 0 }
     requires ready_in { ReadyIn rule.now log stamps.now owners.old numbers.old values.old count event.now figures.now }
     requires needs_are { NeedsAre (call_in rule.now log stamps.now owners.old numbers.old values.old count) event.now needs }
     ensures { Tried (call_in rule.now log stamps.now owners.old numbers.old values.old count) event.now report.old report.new owners.old numbers.old values.old owners.new numbers.new values.new result }
 {
     if has_room(needs, SMALL_ROWS, FEW_MARKS, FEW_KEPT) {
-        return settle_small_few(
+        return settle_in::<SMALL_ROWS, FEW_MARKS, FEW_KEPT, SMALL_WORDS, FEW_VALUES>(
             again, rule, figures, stamps, log, event, owners, numbers, values, count, report,
         );
     }
     if has_room(needs, DOUBLE_ROWS, FEW_MARKS, FEW_KEPT) {
-        return settle_double_few(
+        return settle_in::<DOUBLE_ROWS, FEW_MARKS, FEW_KEPT, DOUBLE_WORDS, FEW_VALUES>(
             again, rule, figures, stamps, log, event, owners, numbers, values, count, report,
         );
     }
     if has_room(needs, SMALL_ROWS, FEW_MARKS, SOME_KEPT) {
-        return settle_small_some(
+        return settle_in::<SMALL_ROWS, FEW_MARKS, SOME_KEPT, SMALL_WORDS, SOME_VALUES>(
             again, rule, figures, stamps, log, event, owners, numbers, values, count, report,
         );
     }
     if has_room(needs, MEDIUM_ROWS, SOME_MARKS, SOME_KEPT) {
-        return settle_medium_some(
+        return settle_in::<MEDIUM_ROWS, SOME_MARKS, SOME_KEPT, MEDIUM_WORDS, SOME_VALUES>(
             again, rule, figures, stamps, log, event, owners, numbers, values, count, report,
         );
     }
     if has_room(needs, MEDIUM_ROWS, MARKS, MANY_KEPT) {
-        return settle_medium_many(
+        return settle_in::<MEDIUM_ROWS, MARKS, MANY_KEPT, MEDIUM_WORDS, MANY_VALUES>(
             again, rule, figures, stamps, log, event, owners, numbers, values, count, report,
         );
     }
     if has_room(needs, USUAL_ROWS, MARKS, MANY_KEPT) {
-        return settle_usual_many(
+        return settle_in::<USUAL_ROWS, MARKS, MANY_KEPT, USUAL_WORDS, MANY_VALUES>(
             again, rule, figures, stamps, log, event, owners, numbers, values, count, report,
         );
     }
-    Settled::Full
+    None
 }
 
 // A call with room for all entries that may be kept: the largest room is always enough.
@@ -636,13 +230,15 @@ fn settle_all(
     ensures { SettledCall (call_in rule.now log stamps.now owners.old numbers.old values.old count) event.now report.old report.new owners.old numbers.old values.old owners.new numbers.new values.new result }
 {
     if needs.rows <= LARGE_ROWS {
-        return settle_large(
+        return settle_in::<LARGE_ROWS, MARKS, ALL_KEPT, LARGE_WORDS, ALL_VALUES>(
             again, rule, figures, stamps, log, event, owners, numbers, values, count, report,
-        );
+        )
+        .unwrap();
     }
-    settle_largest(
+    settle_in::<LARGEST_ROWS, MARKS, ALL_KEPT, LARGEST_WORDS, ALL_VALUES>(
         again, rule, figures, stamps, log, event, owners, numbers, values, count, report,
     )
+    .unwrap()
 }
 
 // A call in the room that it needs: so many rows.
@@ -674,8 +270,8 @@ pub fn settle_in_room(
         again, rule, figures, stamps, log, event, owners, numbers, values, count, report, needs,
     );
     match tried {
-        Settled::Done(weighed) => weighed,
-        Settled::Full => settle_all(
+        Some(weighed) => weighed,
+        None => settle_all(
             again, rule, figures, stamps, log, event, owners, numbers, values, count, report, needs,
         ),
     }

@@ -3,7 +3,7 @@ use Prim.Native.Nat.{◌*◌}
 use native.Mathlib.Omega.{arith}
 use mathlib.Core.Path.{refl}
 use mathlib.Core.Logic.{inl, inr}
-use Rattle.call.proofs.Calls.{not_full, part_first, walked_is, rule_long, walk_asks, crowded_settles, last_ready, storable, refused_settles, written_fits, written_settles}
+use Rattle.call.proofs.Calls.{part_first, walked_is, rule_long, walk_asks, crowded_settles, last_ready, storable, refused_settles, written_fits, written_settles}
 use Rattle.call.proofs.settle.Goals as goal
 use Rattle.call.proofs.settle.Goals.{then-room-kept+else-room-lt-MOST_KEPT, else-room-kept}
 
@@ -12,7 +12,7 @@ walk-place-requires c = let asks = walk_asks c.requires.ready_in c.args.rows.now
     record { call_ready = asks.0; event_in_bounds = asks.1.0; out_there = asks.1.1 }
 
 pub returns-then-low-lt-NO_NODE : goal.returns-then-low-lt-NO_NODE
-returns-then-low-lt-NO_NODE c = let t = walked_is c.requires.ready_in (part_first c.args.owners.now c.args.count) (part_first c.args.numbers.now c.args.count) (part_first c.args.values.now (c.args.count * 4)) c.walk-place.ensures in record { tried = crowded_settles c.requires.ready_in t c.if-low-lt-NO_NODE.true; full = not_full }
+returns-then-low-lt-NO_NODE c = let t = walked_is c.requires.ready_in (part_first c.args.owners.now c.args.count) (part_first c.args.numbers.now c.args.count) (part_first c.args.values.now (c.args.count * 4)) c.walk-place.ensures in record { tried = crowded_settles c.requires.ready_in t c.if-low-lt-NO_NODE.true; full = λ e. cc }
 
 pub returns-then-room-lt-MOST_KEPT : goal.returns-then-room-lt-MOST_KEPT
 returns-then-room-lt-MOST_KEPT c = record { tried = (refl, refl, refl, refl); full = λ _. omega (arith, c.if-room-lt-MOST_KEPT.true, c.out_numbers-1.given) }
@@ -27,7 +27,7 @@ pub store-requires : goal.store-requires
 store-requires c = let t = walked_is c.requires.ready_in (part_first c.args.owners.now c.args.count) (part_first c.args.numbers.now c.args.count) (part_first c.args.values.now (c.args.count * 4)) c.walk-place.ensures in let u = written_fits c.requires.ready_in t (omega (arith, t.low, c.if-low-lt-NO_NODE.false)) (elim c.if-room-kept.branch [ then-room-kept+else-room-lt-MOST_KEPT w ↦ inl (omega (arith, w.if-room-lt-MOST_KEPT.false, c.out_numbers-1.given)) | else-room-kept w ↦ inr (omega (arith, w.if-room-kept.false, c.out_numbers-1.given)) ]) (rw c.in-Ok.is at c.weigh_last-weighed.ensures) in storable c.requires.ready_in t (omega (arith, t.low, c.if-low-lt-NO_NODE.false)) u.0 u.1 (omega (arith, c.requires.room_to_keep, c.out_numbers-1.given, c.out_values-1.given)) (omega (arith, c.requires.room_to_keep, c.blocks-1.given))
 
 pub returns-in-Err : goal.returns-in-Err
-returns-in-Err c = let t = walked_is c.requires.ready_in (part_first c.args.owners.now c.args.count) (part_first c.args.numbers.now c.args.count) (part_first c.args.values.now (c.args.count * 4)) c.walk-place.ensures in record { tried = refused_settles c.requires.ready_in t (omega (arith, t.low, c.if-low-lt-NO_NODE.false)) (elim c.if-room-kept.branch [ then-room-kept+else-room-lt-MOST_KEPT w ↦ inl (omega (arith, w.if-room-lt-MOST_KEPT.false, c.out_numbers-1.given)) | else-room-kept w ↦ inr (omega (arith, w.if-room-kept.false, c.out_numbers-1.given)) ]) (rw c.in-Err.is at c.weigh_last-weighed.ensures); full = not_full }
+returns-in-Err c = let t = walked_is c.requires.ready_in (part_first c.args.owners.now c.args.count) (part_first c.args.numbers.now c.args.count) (part_first c.args.values.now (c.args.count * 4)) c.walk-place.ensures in record { tried = refused_settles c.requires.ready_in t (omega (arith, t.low, c.if-low-lt-NO_NODE.false)) (elim c.if-room-kept.branch [ then-room-kept+else-room-lt-MOST_KEPT w ↦ inl (omega (arith, w.if-room-lt-MOST_KEPT.false, c.out_numbers-1.given)) | else-room-kept w ↦ inr (omega (arith, w.if-room-kept.false, c.out_numbers-1.given)) ]) (rw c.in-Err.is at c.weigh_last-weighed.ensures); full = λ e. cc }
 
 pub returns-in-Ok : goal.returns-in-Ok
-returns-in-Ok c = let t = walked_is c.requires.ready_in (part_first c.args.owners.now c.args.count) (part_first c.args.numbers.now c.args.count) (part_first c.args.values.now (c.args.count * 4)) c.walk-place.ensures in record { tried = written_settles c.requires.ready_in t (omega (arith, t.low, c.if-low-lt-NO_NODE.false)) (elim c.if-room-kept.branch [ then-room-kept+else-room-lt-MOST_KEPT w ↦ inl (omega (arith, w.if-room-lt-MOST_KEPT.false, c.out_numbers-1.given)) | else-room-kept w ↦ inr (omega (arith, w.if-room-kept.false, c.out_numbers-1.given)) ]) (rw c.in-Ok.is at c.weigh_last-weighed.ensures) c.store.ensures; full = not_full }
+returns-in-Ok c = let t = walked_is c.requires.ready_in (part_first c.args.owners.now c.args.count) (part_first c.args.numbers.now c.args.count) (part_first c.args.values.now (c.args.count * 4)) c.walk-place.ensures in record { tried = written_settles c.requires.ready_in t (omega (arith, t.low, c.if-low-lt-NO_NODE.false)) (elim c.if-room-kept.branch [ then-room-kept+else-room-lt-MOST_KEPT w ↦ inl (omega (arith, w.if-room-lt-MOST_KEPT.false, c.out_numbers-1.given)) | else-room-kept w ↦ inr (omega (arith, w.if-room-kept.false, c.out_numbers-1.given)) ]) (rw c.in-Ok.is at c.weigh_last-weighed.ensures) c.store.ensures; full = λ e. cc }

@@ -3,14 +3,8 @@ use native.Mathlib.Omega.{arith}
 use Rattle.workspace.proofs.Enough.{marks_enough, largest_fits}
 use Rattle.workspace.proofs.settle_all.Goals as goal
 
-pub settle_large-requires : goal.settle_large-requires
-settle_large-requires c = record { again_value = c.requires.again_value; ready_in = c.requires.ready_in; call_fits = (omega (arith, c.requires.needs_are.0, c.if-needs-le-LARGE_ROWS.true), marks_enough c.requires.ready_in) }
+pub settle_in-requires-clause-call_fits : goal.settle_in-requires-clause-call_fits
+settle_in-requires-clause-call_fits c = (omega (arith, c.requires.needs_are.0, c.if-needs-le-LARGE_ROWS.true), marks_enough c.requires.ready_in)
 
-pub returns-then-needs-le-LARGE_ROWS : goal.returns-then-needs-le-LARGE_ROWS
-returns-then-needs-le-LARGE_ROWS c = c.settle_large.ensures
-
-pub settle_largest-requires : goal.settle_largest-requires
-settle_largest-requires c = record { again_value = c.requires.again_value; ready_in = c.requires.ready_in; call_fits = largest_fits c.requires.ready_in }
-
-pub returns : goal.returns
-returns c = c.settle_largest.ensures
+pub settle_in-requires-2-clause-call_fits : goal.settle_in-requires-2-clause-call_fits
+settle_in-requires-2-clause-call_fits c = largest_fits c.requires.ready_in

@@ -2,7 +2,6 @@
 use Prim.Native.Nat.{◌*◌, ◌≤◌}
 use lib.ListN.{length}
 use native.Mathlib.Omega.{arith}
-use mathlib.Core.Path.{◌∙◌}
 use Rattle.method.specs.Room.{rows_needed, marks_needed, marks_to_time}
 use Rattle.call.proofs.Calls.{again_ready, again_so, again_settled}
 use Rattle.workspace.proofs.Enough.{stamps_few, marks_by_times}
@@ -21,24 +20,12 @@ pub settle_smaller-tried-requires : goal.settle_smaller-tried-requires
 settle_smaller-tried-requires c = record { again_value = c.never-again.ensures; ready_in = c.requires.ready_in; needs_are = (c.requires.event_bound, marks_by_times c.requires.ready_in) }
 
 pub settle_all-requires : goal.settle_all-requires
-settle_all-requires c = let g = rw c.in-Full.is at c.settle_smaller-tried.ensures in
+settle_all-requires c = let g = rw c.in-None.is at c.settle_smaller-tried.ensures in
     record { again_value = c.never-again.ensures; ready_in = again_ready c.requires.ready_in g.1 g.2 g.3; needs_are = again_so c.requires.ready_in g.1 g.2 g.3 (λ t. (rows_needed t c.args.event.now ≤ c.args.needed) × (marks_needed t c.args.event.now ≤ marks_to_time * length c.args.stamps.now)) (c.requires.event_bound, marks_by_times c.requires.ready_in) }
 
-pub returns-in-Done : goal.returns-in-Done
-returns-in-Done c = rw c.in-Done.is at c.settle_smaller-tried.ensures
+pub returns-in-Some : goal.returns-in-Some
+returns-in-Some c = rw c.in-Some.is at c.settle_smaller-tried.ensures
 
-pub shape_of-owners-in-Full : goal.shape_of-owners-in-Full
-shape_of-owners-in-Full c = c.owners-in-Full-1.given ∙ c.owners-1.given
-
-pub shape_of-numbers-in-Full : goal.shape_of-numbers-in-Full
-shape_of-numbers-in-Full c = c.numbers-in-Full-1.given ∙ c.numbers-1.given
-
-pub shape_of-values-in-Full : goal.shape_of-values-in-Full
-shape_of-values-in-Full c = c.values-in-Full-1.given ∙ c.values-1.given
-
-pub shape_of-report-in-Full : goal.shape_of-report-in-Full
-shape_of-report-in-Full c = c.report-in-Full-1.given ∙ c.report-1.given
-
-pub returns-in-Full : goal.returns-in-Full
-returns-in-Full c = let g = rw c.in-Full.is at c.settle_smaller-tried.ensures in
+pub returns-in-None : goal.returns-in-None
+returns-in-None c = let g = rw c.in-None.is at c.settle_smaller-tried.ensures in
     again_settled c.requires.ready_in g.1 g.2 g.3 g.0 c.settle_all.ensures
