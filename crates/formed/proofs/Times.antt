@@ -1,13 +1,16 @@
 -- Retained times and counts of settled points: the least of the counts, times that don't fall, and counts from where none is below.
+use Rattle.std.specs.Prelude.{MatchBool}
+use Rattle.std.specs.List.{fold}
+use Rattle.std.specs.List.Sorted.{IsNonDecreasing}
 use Prim.Native.Nat.{ℕ, zero, suc, ◌+◌, ◌-◌, ◌≤◌, ◌<◌, min}
 use native.Mathlib.Omega.{arith}
 use mathlib.Core.Path.{◌≡◌, refl, sym, ap, ap₂, ◌∙◌}
 use mathlib.Core.Bool.{Bool, true, false, ◌&&◌}
 use mathlib.Core.List.{List, [], ◌∷◌, ◌++◌}
-use lib.ListN.{length, get_or, drop, replicate, length-drop, get_or-replicate}
-use lib.Seq.{drop-length, drop-cons}
+use lib.ListN.{length, get_or, replicate, get_or-replicate}
 use lib.Dec.{leb}
-use borrow.Author.Tests.{le-leb, lt-leb}
+use borrow.Author.Tests.{le-leb, leb-true}
+use Rattle.meaning.proofs.Points.{first, second, both, Tested, passed, failed, tested}
 use Rattle.meaning.specs.Log.{point}
 use Rattle.meaning.specs.View.{view_of}
 use Rattle.meaning.specs.RuleFile.{node_count, node_at}
@@ -20,56 +23,41 @@ use Rattle.method.specs.WellFormed.{not_falling}
 use Rattle.progress.specs.Filled.{Filled}
 use Rattle.formed.specs.Parts.{counts_in, CountsStand}
 
--- ---- the least, from the back: of the counts from i on
+-- ---- the least
 
-pub record Least (points : ℕ) (counts : List ℕ) (m i : ℕ) : Type 0 where
-  pub reached : i ≤ length counts
-  pub least : m ≡ least_of points (drop i counts)
+least_most : (n x : ℕ) (cs : List ℕ) → least_of (min n x) cs ≡ min x (least_of n cs)
+least_most n x [] = omega arith
+least_most n x (c ∷ cs) = omega (arith, least_most n x cs)
 
-module _ (points : ℕ) (counts : List ℕ) where
-  pub least_none : Least points counts points (length counts)
-  least_none = record { reached = omega arith; least = sym (ap (least_of points) (drop-length counts)) }
+-- it is found from the first count on too
+pub least_folds : (n : ℕ) (cs : List ℕ) → fold min n cs ≡ least_of n cs
+least_folds n [] = refl
+least_folds n (c ∷ cs) = least_folds (min n c) cs ∙ least_most n c cs
 
-  pub least_more : {m m' i : ℕ} → Least points counts m i → 0 < i → m' ≡ min (get_or counts (i - 1) 0) m → Least points counts m' (i - 1)
-  least_more {m} {m'} {i} h l e =
-      let s : suc (i - 1) ≡ i = omega arith in
-      let f : drop (i - 1) counts ≡ get_or counts (i - 1) 0 ∷ drop i counts = drop-cons counts (i - 1) 0 (omega (arith, h.reached)) ∙ ap (λ k. get_or counts (i - 1) 0 ∷ drop k counts) s in
-      record { reached = omega (arith, h.reached); least = e ∙ ap (min (get_or counts (i - 1) 0)) h.least ∙ sym (ap (least_of points) f) }
+-- ---- times that don't fall
 
--- ---- times that don't fall, up to i
+rises : (ts : List ℕ) → ((k : ℕ) → suc k < length ts → get_or ts k 0 ≤ get_or ts (suc k) 0) → not_falling ts ≡ true
+rises [] h = refl
+rises (t ∷ []) h = refl
+rises (t ∷ u ∷ ts) h = both (le-leb t u (h 0 (omega arith))) (rises (u ∷ ts) (λ k l. h (suc k) (omega arith)))
 
-pub record Rising (times : List ℕ) (i : ℕ) : Type 0 where
-  pub begun : 1 ≤ i
-  pub same : not_falling times ≡ not_falling (drop (i - 1) times)
+rose : (ts : List ℕ) → not_falling ts ≡ true → (k : ℕ) → suc k < length ts → get_or ts k 0 ≤ get_or ts (suc k) 0
+rose [] t k l = absurd (omega arith)
+rose (a ∷ []) t k l = absurd (omega arith)
+rose (a ∷ b ∷ ts) t zero l = leb-true a b (first (leb a b) (not_falling (b ∷ ts)) t)
+rose (a ∷ b ∷ ts) t (suc k) l = rose (b ∷ ts) (second (leb a b) (not_falling (b ∷ ts)) t) k (omega arith)
 
-pub rising_none : (times : List ℕ) → Rising times 1
-rising_none times = record { begun = omega arith; same = refl }
-
-module _ {times : List ℕ} {i : ℕ} (h : Rising times i) where
-  -- the two at i - 1 and i
-  two : i < length times → drop (i - 1) times ≡ get_or times (i - 1) 0 ∷ get_or times i 0 ∷ drop (suc i) times
-  two l =
-      let s : suc (i - 1) ≡ i = omega (arith, h.begun) in
-      drop-cons times (i - 1) 0 (omega arith) ∙ ap (λ k. get_or times (i - 1) 0 ∷ drop k times) s ∙ ap (λ ts. get_or times (i - 1) 0 ∷ ts) (drop-cons times i 0 l)
-
-  pub rising_more : i < length times → get_or times (i - 1) 0 ≤ get_or times i 0 → Rising times (i + 1)
-  rising_more l m =
-      let s : i + 1 - 1 ≡ i = omega arith in
-      record {
-        begun = omega arith;
-        same = h.same ∙ ap not_falling (two l) ∙ (rw (le-leb (get_or times (i - 1) 0) (get_or times i 0) m)) ∙ ap not_falling (sym (drop-cons times i 0 l)) ∙ ap (λ k. not_falling (drop k times)) (sym s);
-      }
-
-  pub rising_falls : i < length times → get_or times i 0 < get_or times (i - 1) 0 → false ≡ not_falling times
-  rising_falls l m = sym (h.same ∙ ap not_falling (two l) ∙ (rw (lt-leb (get_or times (i - 1) 0) (get_or times i 0) m)))
-
-  few_rise : (ts : List ℕ) → length ts ≤ 1 → not_falling ts ≡ true
-  few_rise [] l = refl
-  few_rise (t ∷ []) l = refl
-  few_rise (t ∷ u ∷ ts) l = absurd (omega arith)
-
-  pub rising_all : length times ≤ i → true ≡ not_falling times
-  rising_all l = sym (h.same ∙ few_rise (drop (i - 1) times) (omega (arith, length-drop (i - 1) times, h.begun)))
+-- what `is_sorted` says of them
+pub sorted_rise : (ts : List ℕ) (r : Bool) → MatchBool r (IsNonDecreasing ts) ((k : ℕ) × (k + 1 < length ts) × ((d : ℕ) → get_or ts (k + 1) d < get_or ts k d)) → r ≡ not_falling ts
+sorted_rise ts true h = sym (rises ts (λ k l. h k (suc k) 0 (omega arith) l))
+sorted_rise ts false h = go (tested (not_falling ts))
+  where
+    go : Tested (not_falling ts) → false ≡ not_falling ts
+    go (passed t) =
+        let s : suc h.0 ≡ h.0 + 1 = omega arith in
+        let up = rw s at (rose ts t h.0 (omega (arith, h.1))) in
+        absurd (omega (arith, up, h.2 0))
+    go (failed f) = sym f
 
 -- one time more, which is behind the last
 pub behind_last : (ts : List ℕ) (t : ℕ) → not_falling (ts ++ t ∷ []) ≡ (not_falling ts && leb (get_or ts (length ts - 1) 0) t)

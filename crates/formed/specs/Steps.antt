@@ -1,12 +1,11 @@
 -- What the steps of a walk through the nodes' entries in slices ensure.
-use Rattle.std.specs.Prelude.{ℕ, ◌+◌, ◌-◌, ◌≤◌, ◌<◌, ◌≡◌, true, false, List, get_or}
+use Rattle.std.specs.Prelude.{ℕ, ◌+◌, ◌-◌, ◌≤◌, ◌<◌, ◌≡◌, true, false, List, get_or, Option, Some, None}
 use Rattle.meaning.specs.Kept.{Entry}
 use Rattle.meaning.specs.declared.Point.{Point}
 use Rattle.method.specs.Stored.{held, held_pairs}
 use Rattle.entries.specs.Entries.{entries_from, begins, has_owner}
 use Rattle.node_sets.specs.NodeEntries.{set_entries, aged_entries}
-use Rattle.formed.specs.declared.Ended.{Ended}
-use Rattle.formed.specs.declared.Ended.TheVariants.{At, Stuck}
+use Rattle.formed.specs.declared.Ends.{Ends}
 use Rattle.formed.specs.Walk.{behind, sets_rest, runs_fit}
 
 -- the entries from cursor on
@@ -27,9 +26,9 @@ pub record NodeTo (os ns vs : List ℕ) (count cursor : ℕ) (b : List ℕ) (x :
   pub rest : rest_at os ns vs count r ≡ behind (has_owner x 1) (sets_rest x low n (rest_at os ns vs count cursor))
   pub fit : runs_fit b x low n (rest_at os ns vs count cursor) ≡ true
 
-abbrev pub NodeEnded : List ℕ → List ℕ → List ℕ → ℕ → ℕ → List ℕ → ℕ → Point → ℕ → Ended → Type 0
-NodeEnded os ns vs count cursor b x low n (At p r) = NodeTo os ns vs count cursor b x low n p r
-NodeEnded os ns vs count cursor b x low n Stuck = OwnFirst b x low n (rest_at os ns vs count cursor) → ⊥
+abbrev pub NodeEnded : List ℕ → List ℕ → List ℕ → ℕ → ℕ → List ℕ → ℕ → Point → ℕ → Option Ends → Type 0
+NodeEnded os ns vs count cursor b x low n (Some e) = NodeTo os ns vs count cursor b x low n e.pairs e.end
+NodeEnded os ns vs count cursor b x low n None = OwnFirst b x low n (rest_at os ns vs count cursor) → ⊥
 
 -- where each node's entries begin, and its pairs among them, with those that are read off all entries for it; node y's rows are kept from point low y on and up to point end y
 pub record EntriesPlaced (os ns vs : List ℕ) (count : ℕ) (low : ℕ → Point) (end : ℕ → ℕ) (nodes : ℕ) (begins pairs : List ℕ) : Type 0 where

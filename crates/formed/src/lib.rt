@@ -30,11 +30,11 @@ use rowset::Row;
 // The largest word.
 const LARGEST: u32 = 4294967295;
 
-// Where a node's pairs begin, and the entry behind them; or its entries don't fit.
+// Where a node's pairs begin, and the entry behind them.
 #[derive(Clone, Copy)]
-pub enum Ended {
-    At(usize, usize),
-    Stuck,
+pub struct Ends {
+    pub pairs: usize,
+    pub end: usize,
 }
 
 // The largest value of each variable that a mask leaves: 0 where the mask doesn't have it.
@@ -54,16 +54,7 @@ fn most_of(mask: u8) -> Row
 fn is_under(most: Row, u: Row) -> bool
     ensures { result ≡ row_under most (words_of u) }
 {
-    if most.v0 < u.v0 {
-        return false;
-    }
-    if most.v1 < u.v1 {
-        return false;
-    }
-    if most.v2 < u.v2 {
-        return false;
-    }
-    u.v3 <= most.v3
+    u.v0 <= most.v0 && u.v1 <= most.v1 && u.v2 <= most.v2 && u.v3 <= most.v3
 }
 
 // The bits of two rows, word by word.
@@ -98,10 +89,7 @@ fn follows(last: u64, here: u64, lowest: u32, numbers: &[u32], values: &[u32], i
     requires last_value { (last ≡ joint_at numbers.now values.now (i - 1)) × (here ≡ joint_at numbers.now values.now i) }
     ensures { result ≡ before (suc lowest) (pair_at numbers.now values.now (i - 1)) (pair_at numbers.now values.now i) }
 {
-    if last < here {
-        return true;
-    }
-    is_behind(lowest, numbers, values, i)
+    last < here || is_behind(lowest, numbers, values, i)
 }
 
 // Entries from..to, of which there is one, ascend by number and then by row, and their rows are 0 at variables that the mask doesn't have: the bits of all rows are gathered in the same loop, and compared with the largest that the mask leaves once.
@@ -112,8 +100,7 @@ fn rows_ascend(numbers: &[u32], values: &[u32], from: usize, to: usize, mask: u8
     let lowest = kinds::lowest_of(mask);
     let mut bits = rowset::row_at(values, from);
     let mut last = pairs::joint(numbers[from], bits.v0);
-    let mut i = from + 1;
-    while i < to {
+    for i in from + 1..to {
         let row = rowset::row_at(values, i);
         let here = pairs::joint(numbers[i], row.v0);
         if !follows(last, here, lowest, numbers, values, i) {
@@ -121,16 +108,8 @@ fn rows_ascend(numbers: &[u32], values: &[u32], from: usize, to: usize, mask: u8
         }
         bits = joined(bits, row);
         last = here;
-        i += 1;
     }
     is_under(most_of(mask), bits)
-}
-
-// It was found before, or two numbers are the same.
-fn or_same(found: bool, a: u32, b: u32) -> bool
-    ensures { result ≡ found || eqb a b }
-{
-    found | (a == b)
 }
 
 // Of entries from..to, which ascend, no more than a point may have rows have one number: none has that of the one so many before it. The loop has one way out, so that several are compared at once.
@@ -143,10 +122,8 @@ fn few_alike(numbers: &[u32], from: usize, to: usize) -> bool
         return true;
     }
     let mut alike = false;
-    let mut i = from + most;
-    while i < to {
-        alike = or_same(alike, numbers[i], numbers[i - most]);
-        i += 1;
+    for i in from + most..to {
+        alike |= numbers[i] == numbers[i - most];
     }
     !alike
 }
@@ -173,20 +150,14 @@ fn sets_fit(
     if end.0 <= numbers[to - 1] {
         return false;
     }
-    if !rows_ascend(numbers, values, from, to, mask) {
-        return false;
-    }
-    few_alike(numbers, from, to)
+    rows_ascend(numbers, values, from, to, mask) && few_alike(numbers, from, to)
 }
 
 // The largest age that fits the window: the last before its end, and where there is no end its start.
 fn oldest(w: Window) -> u32
     ensures { (age : ℕ) → leb age result ≡ age_fits w age }
 {
-    if w.end == 0 {
-        return w.start;
-    }
-    w.end - 1
+    if w.end == 0 { w.start } else { w.end - 1 }
 }
 
 // Pairs from..to, of which there is one, ascend, and fit the window and the mask: the last is the oldest.
@@ -194,10 +165,7 @@ fn aged_fit(numbers: &[u32], values: &[u32], from: usize, to: usize, mask: u8, w
     requires { (from < to) × (to ≤ length numbers.now) × (to * 4 ≤ length values.now) }
     ensures { result ≡ aged_fit mask w (pairs_from numbers.now values.now from (to - from)) }
 {
-    if oldest(w) < numbers[to - 1] {
-        return false;
-    }
-    rows_ascend(numbers, values, from, to, mask)
+    numbers[to - 1] <= oldest(w) && rows_ascend(numbers, values, from, to, mask)
 }
 
 // Pairs from..to, of which there is one, are node x's: only kinds 9, 10 and 13 have any.
@@ -214,21 +182,15 @@ fn kind_fits(
     requires from_lt_to { (from < to) × (to ≤ length numbers.now) × (to * 4 ≤ length values.now) }
     ensures { result ≡ pairs_fit rule.now x (view_of (node_at rule.now x)) (pairs_from numbers.now values.now from (to - from)) }
 {
-    let look = rulenodes::times_at(rule, x);
-    match look {
-        Times::Here => false,
-        Times::Before => false,
-        Times::After => false,
-        Times::Past => {
-            let body = rulenodes::body_of(rule, x);
-            let w = Window {
-                start: body.word0,
-                end: body.word1,
-            };
-            aged_fit(numbers, values, from, to, mask, w)
-        }
-        Times::Future => false,
-    }
+    let Times::Past = rulenodes::times_at(rule, x) else {
+        return false;
+    };
+    let body = rulenodes::body_of(rule, x);
+    let w = Window {
+        start: body.word0,
+        end: body.word1,
+    };
+    aged_fit(numbers, values, from, to, mask, w)
 }
 
 // The same, where mostly there are none.
@@ -245,10 +207,7 @@ fn pairs_fit(
     requires from_le_to { (from ≤ to) × (to ≤ length numbers.now) × (to * 4 ≤ length values.now) }
     ensures { result ≡ pairs_fit rule.now x (view_of (node_at rule.now x)) (pairs_from numbers.now values.now from (to - from)) }
 {
-    if from == to {
-        return true;
-    }
-    kind_fits(rule, x, numbers, values, from, to, mask)
+    from == to || kind_fits(rule, x, numbers, values, from, to, mask)
 }
 
 // Finds all entries of node x at the cursor, and tests them: its rows at points from low on and before end, and its pairs.
@@ -263,7 +222,7 @@ fn node_end(
     low: Point,
     end: Point,
     mask: u8,
-) -> Ended
+) -> Option<Ends>
     requires rule_len { (length rule.now ≡ 12 + 20 * node_count rule.now) × (x < node_count rule.now) × MaskOf rule.now x mask }
     requires cursor_le_count { (cursor ≤ count) × EntriesWithin owners.now numbers.now values.now count }
     ensures { NodeEnded owners.now numbers.now values.now count cursor rule.now x low (end.0 - low.0) result }
@@ -272,12 +231,15 @@ fn node_end(
     let first = entries::run_end(owners, cursor, count, owner);
     let to = entries::run_end(owners, first, count, owner + 1);
     if !sets_fit(numbers, values, cursor, first, low, end, mask) {
-        return Ended::Stuck;
+        return None;
     }
     if !pairs_fit(rule, x, numbers, values, first, to, mask) {
-        return Ended::Stuck;
+        return None;
     }
-    Ended::At(first, to)
+    Some(Ends {
+        pairs: first,
+        end: to,
+    })
 }
 
 // Whether the entries are those of the nodes in turn, from each node's first kept point on and before its first unsettled one, and fit them. Where they are, begins and pairs say where each node's begin, and its pairs.
@@ -299,13 +261,11 @@ fn entries_fit(
     ensures answer { result ≡ entries_fit rule.now (λ y. point (get_or lows.now y 0)) (λ y. get_or counts.now y 0) (entries_from owners.now numbers.now values.now 0 count) (node_count rule.now) }
     ensures placed { result ≡ true → EntriesPlaced owners.now numbers.now values.now count (λ y. point (get_or lows.now y 0)) (λ y. get_or counts.now y 0) (node_count rule.now) begins.new pairs.new }
 {
-    let n = rule[2];
     let mut next = 0;
-    let mut x: u8 = 0;
     begins[0] = 0;
-    while x < n {
+    for x in 0..rule[2] {
         let k = x as usize;
-        let Ended::At(first, to) = node_end(
+        let Some(ends) = node_end(
             rule,
             x,
             owners,
@@ -319,10 +279,9 @@ fn entries_fit(
         ) else {
             return false;
         };
-        pairs[k] = first as u32;
-        begins[k + 1] = to as u32;
-        next = to;
-        x += 1;
+        pairs[k] = ends.pairs as u32;
+        begins[k + 1] = ends.end as u32;
+        next = ends.end;
     }
     next == count
 }
@@ -331,13 +290,7 @@ fn entries_fit(
 fn least(points: u32, counts: &[u32]) -> u32
     ensures { result ≡ least_of points counts.now }
 {
-    let mut m = points;
-    let mut i = counts.len();
-    while 0 < i {
-        i -= 1;
-        m = counts[i].min(m);
-    }
-    m
+    counts.iter().fold(points, |m, c| m.min(*c))
 }
 
 // The first point whose time is retained, from the counts of settled points.
@@ -351,36 +304,21 @@ pub fn first_retained(points: u32, counts: &[u32]) -> Point
 fn not_falling(times: &[u32]) -> bool
     ensures { result ≡ not_falling times.now }
 {
-    let n = times.len();
-    let mut i = 1;
-    while i < n {
-        if times[i] < times[i - 1] {
-            return false;
-        }
-        i += 1;
-    }
-    true
+    times.is_sorted()
 }
 
 // The last of the times, 0 where there is none.
 fn last_time(times: &[u32]) -> u32
     ensures { result ≡ get_or times.now (length times.now - 1) 0 }
 {
-    let n = times.len();
-    if 0 < n {
-        return times[n - 1];
-    }
-    0
+    times.last().map_or(0, |t| *t)
 }
 
 // The times don't fall, and the latest known time isn't below the last of them.
 fn latest_last(times: &[u32], latest: Stamp) -> bool
     ensures { result ≡ not_falling (times.now ++ latest.0 ∷ []) }
 {
-    if not_falling(times) {
-        return last_time(times) <= latest.0;
-    }
-    false
+    not_falling(times) && last_time(times) <= latest.0
 }
 
 // As many times are retained as the counts of settled points ask, and they don't fall, nor does the latest known time.
@@ -389,10 +327,7 @@ fn times_asked(log: LogEnd, times: &[u32], counts: &[u32]) -> bool
     ensures { result ≡ (eqb (length times.now) (log.points - (first_retained log.points counts.now).0) && not_falling (times.now ++ log.latest.0 ∷ [])) }
 {
     let first = first_retained(log.points, counts);
-    if times.len() as u32 == log.points.saturating_sub(first.0) {
-        return latest_last(times, log.latest);
-    }
-    false
+    times.len() as u32 == log.points.saturating_sub(first.0) && latest_last(times, log.latest)
 }
 
 // How many points each node has settled.

@@ -12,7 +12,7 @@ use Rattle.meaning.specs.RuleFile.{window_of, bodies, body_at, node_at, formula_
 use Rattle.meaning.specs.declared.Window.{Window}
 use Rattle.meaning.specs.declared.Body.{Body}
 use Rattle.meaning.specs.declared.Times.{Times}
-use Rattle.meaning.specs.declared.Times.TheVariants.{Here, Past}
+use Rattle.meaning.specs.declared.Times.TheVariants.{Here, Before, After, Past, Future}
 use Rattle.method.specs.Settle.{has_pairs}
 use Rattle.method.specs.WellFormed.{pair_fits, pairs_fit}
 use Rattle.rulenodes.proofs.Windows.{window_read}
@@ -35,21 +35,19 @@ fits b x mask ps is {body = body} e f p q =
     ∙ ap (λ (w : Window). ascending (suc (lowest_of (free (formula_at b x)))) ps && all (pair_fits b x w) ps) (ap window_of p ∙ sym (window_read b x (other past))))
 
 -- pairs of another node
-fails : (b ns vs : List ℕ) (x from to : ℕ) → from < to → {t k : Times} → t ≡ (view_of (node_at b x)).times → t ≡ k → has_pairs k ≡ false
+none_but_past : (t : Times) → (t ≡ Past → ⊥) → has_pairs t ≡ false
+none_but_past Here n = refl
+none_but_past Before n = refl
+none_but_past After n = refl
+none_but_past Past n = absurd (n refl)
+none_but_past Future n = refl
+
+other_fails : (b ns vs : List ℕ) (x from to : ℕ) → from < to → {t : Times} → t ≡ (view_of (node_at b x)).times → (t ≡ Past → ⊥)
     → false ≡ pairs_fit b x (view_of (node_at b x)) (pairs_from ns vs from (to - from))
-fails b ns vs x from to l e f h = pairs-some b x (view_of (node_at b x)) ns vs from to l (sym e ∙ f) h
+other_fails b ns vs x from to l {t} e n = pairs-some b x (view_of (node_at b x)) ns vs from to l (sym e) (none_but_past t n)
 
-pub returns-in-Here : goal.returns-in-Here
-returns-in-Here c = fails c.args.rule.now c.args.numbers.now c.args.values.now c.args.x c.args.from c.args.to c.requires.from_lt_to.0 c.times_at-look.ensures c.in-Here.is refl
+pub returns-in_default : goal.returns-in_default
+returns-in_default c = let a = c.args in other_fails a.rule.now a.numbers.now a.values.now a.x a.from a.to c.requires.from_lt_to.0 c.times_at.ensures c.in_default.not-Past
 
-pub returns-in-Before : goal.returns-in-Before
-returns-in-Before c = fails c.args.rule.now c.args.numbers.now c.args.values.now c.args.x c.args.from c.args.to c.requires.from_lt_to.0 c.times_at-look.ensures c.in-Before.is refl
-
-pub returns-in-After : goal.returns-in-After
-returns-in-After c = fails c.args.rule.now c.args.numbers.now c.args.values.now c.args.x c.args.from c.args.to c.requires.from_lt_to.0 c.times_at-look.ensures c.in-After.is refl
-
-pub returns-in-Future : goal.returns-in-Future
-returns-in-Future c = fails c.args.rule.now c.args.numbers.now c.args.values.now c.args.x c.args.from c.args.to c.requires.from_lt_to.0 c.times_at-look.ensures c.in-Future.is refl
-
-pub returns-in-Past : goal.returns-in-Past
-returns-in-Past c = fits c.args.rule.now c.args.x c.args.mask (pairs_from c.args.numbers.now c.args.values.now c.args.from (c.args.to - c.args.from)) c.requires.rule_len.2 c.times_at-look.ensures c.in-Past.is c.body_of-body.ensures c.aged_fit.ensures
+pub returns : goal.returns
+returns c = fits c.args.rule.now c.args.x c.args.mask (pairs_from c.args.numbers.now c.args.values.now c.args.from (c.args.to - c.args.from)) c.requires.rule_len.2 c.times_at.ensures c.in-Past.is c.body_of-body.ensures c.aged_fit.ensures

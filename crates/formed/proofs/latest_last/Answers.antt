@@ -8,7 +8,7 @@ returns-then-not_falling c = let a = c.args in
     let rises = sym c.not_falling.ensures ∙ c.if-not_falling.true in
     rw c.last_time.ensures (sym (behind_last a.times.now a.latest.0 ∙ rw rises))
 
-pub returns : goal.returns
-returns c = let a = c.args in
+pub returns-else-not_falling : goal.returns-else-not_falling
+returns-else-not_falling c = let a = c.args in
     let falls = sym c.not_falling.ensures ∙ c.if-not_falling.false in
-    sym (behind_last a.times.now a.latest.0 ∙ rw falls)
+    c.if-not_falling.false ∙ sym (behind_last a.times.now a.latest.0 ∙ rw falls)

@@ -1,15 +1,7 @@
--- `not_falling` meets its contract. The loop keeps `Rising`: the times up to i don't fall.
-use Rattle.formed.proofs.Times.{rising_none, rising_more, rising_falls, rising_all}
+-- `not_falling` meets its contract.
+use Rattle.std.proofs.lemmas.List.Sorted.{non_decreasing_from_is_sorted}
+use Rattle.formed.proofs.Times.{sorted_rise}
 use Rattle.formed.proofs.not_falling.Goals as goal
 
-pub loop-i-init : goal.loop-i-init
-loop-i-init c = rising_none c.args.times.now
-
-pub returns-then-times-i : goal.returns-then-times-i
-returns-then-times-i c = rising_falls c.loop-i.invariant c.loop-i-test.true c.if-times-i.true
-
-pub loop-i-preserved : goal.loop-i-preserved
-loop-i-preserved c = rising_more c.loop-i.invariant c.loop-i-test.true c.if-times-i.false
-
 pub returns : goal.returns
-returns c = rising_all c.loop-i.invariant c.loop-i-test.false
+returns c = let ts = c.args.times.now in sorted_rise ts c.is_sorted.result (non_decreasing_from_is_sorted ts c.is_sorted.result c.is_sorted.ensures.cases)

@@ -1,10 +1,8 @@
 -- `sets_fit` meets its contract: the first and the last number say it of all, as they ascend.
 use Prim.Native.Nat.{◌-◌, ◌<◌}
 use native.Mathlib.Omega.{arith}
-use Rattle.formed.proofs.Climbs.{tells_as, said_so, said_not, sets_empty, sets_are}
+use Rattle.formed.proofs.Climbs.{tells_as, sets_empty, sets_are}
 use Rattle.formed.proofs.sets_fit.Goals as goal
-use mathlib.Core.Path.{ap}
-use mathlib.Core.Bool.{not}
 
 pub returns-then-from-to : goal.returns-then-from-to
 returns-then-from-to c = let a = c.args in sets_empty a.numbers.now a.values.now a.mask a.from a.to a.low a.end c.if-from-to.true
@@ -18,10 +16,8 @@ returns-then-end-numbers c = λ h.
     let l = (let it : let a = c.args in a.from < a.to = omega (arith, c.requires.0, c.if-from-to.false) in it) in
     omega (arith, h.inside (a.to - 1) (omega arith) (omega arith), c.if-end-numbers.true)
 
-pub returns-then-not-rows_ascend : goal.returns-then-not-rows_ascend
-returns-then-not-rows_ascend c = λ h. said_not c.rows_ascend.result (ap not c.if-not-rows_ascend.true) c.rows_ascend.ensures h.rise
-
-pub returns : goal.returns
-returns c = let a = c.args in
-    let rise = said_so c.rows_ascend.result (ap not c.if-not-rows_ascend.false) c.rows_ascend.ensures in
-    tells_as (λ few. sets_are a.numbers.now a.values.now a.mask a.from a.to a.low a.end ((let it : let a = c.args in a.from < a.to = omega (arith, c.requires.0, c.if-from-to.false) in it)) c.if-numbers-from.false c.if-end-numbers.false rise few) (λ h. h.few) c.few_alike.result c.few_alike.ensures
+pub returns-then-rows_ascend : goal.returns-then-rows_ascend
+returns-then-rows_ascend c = let a = c.args in
+    let some : a.from < a.to = omega (arith, c.requires.0, c.if-from-to.false) in
+    let rise = rw c.if-rows_ascend.true at c.rows_ascend.ensures in
+    tells_as (λ few. sets_are a.numbers.now a.values.now a.mask a.from a.to a.low a.end some c.if-numbers-from.false c.if-end-numbers.false rise few) (λ h. h.few) c.few_alike.result c.few_alike.ensures
