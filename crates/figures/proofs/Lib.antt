@@ -1,5 +1,4 @@
 -- Facts about figures in slices and as a table.
-pub mod Moved
 pub mod Begins
 pub mod Tabled
 pub mod Slices

@@ -39,10 +39,6 @@ needs_few b size f x (a ∷ c ∷ cs) s e =
 pub weights_there : (b masks lows before after wants begins pairs weights f : List ℕ) → TableOf (node_count b) masks lows before after wants begins pairs weights f → ((x : ℕ) → x < node_count b → get_or weights x 0 ≡ others_in b x) → (x : ℕ) → x < node_count b → weight_in f x ≡ others_in b x
 weights_there b masks lows before after wants begins pairs weights f t w x o = t.weight x o ∙ w x o
 
--- the most of three, from its parts
-pub most_of_lem : (nf ns : ℕ) {r h k sf ss sx F S X : ℕ} → r ≡ max nf h → h ≡ max k (sf + ss + sx) → k ≡ sf + ns → sf ≡ F → ss ≡ S → sx ≡ X → r ≡ max nf (max (F + ns) (F + S + X))
-most_of_lem nf ns e g k p q u = e ∙ rw (g, k, p, q, u)
-
 -- the heavier child first, by words that are the weights
 module _ (F : ℕ → ℕ → ℕ) (c d : ℕ) {u v u' v' r : ℕ} where
   pub right_first : u' ≡ u → v' ≡ v → u' < v' → r ≡ F d c → r ≡ F (cond (ltb u v) d c) (cond (ltb u v) c d)

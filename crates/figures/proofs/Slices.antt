@@ -1,4 +1,5 @@
 -- A state that stands at the front of slices: its parts, figures that no well-formed state has, and its figure `open`.
+use Rattle.std.specs.Prelude.{Some, None}
 use Prim.Native.Nat.{ℕ, ◌-◌, ◌≤◌, ◌<◌}
 use native.Mathlib.Omega.{arith}
 use mathlib.Core.Path.{◌≡◌, sym, ◌∙◌, ap, ap₂}
@@ -24,7 +25,6 @@ use Rattle.method.proofs.Bounds.{before_most}
 use Rattle.entries.specs.Entries.{entry_at, entries_from}
 use Rattle.formed.specs.StateFigures.{stored_in, StateFigures}
 use Rattle.figures.specs.Fronts.{front, stored_front, figures_fit, open_of, open_answer}
-use Rattle.figures.specs.declared.Open.TheVariants.{Points, NotWellFormed}
 
 -- ---- the front of the slices
 
@@ -80,7 +80,7 @@ figures_in bytes retained count e = (leb-true bytes most_bytes (search first), l
 
 -- ---- the figure `open`
 
-pub not_open : (s : Stored) → well_formed s ≡ false → open_of NotWellFormed ≡ open_answer s
+pub not_open : (s : Stored) → well_formed s ≡ false → open_of None ≡ open_answer s
 unfolding open_answer
 not_open s w = rw w
 
@@ -98,6 +98,6 @@ module _ (s : Stored) {masks counts lows : List ℕ} (ok : well_formed s ≡ tru
       let (a, good) = f.accepted in
       rw last_count (before_most s a good f.few_times f.times_many (last_node s.rule) (last_is_node s.rule a good))
 
-  pub open_counted : open_of (Points (s.points - get_or counts (last_node s.rule) 0)) ≡ open_answer s
+  pub open_counted : open_of (Some (s.points - get_or counts (last_node s.rule) 0)) ≡ open_answer s
   unfolding open_answer open_stored
   open_counted = rw (ok, last_count)

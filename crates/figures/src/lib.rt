@@ -25,7 +25,6 @@ use meaning::{
     Children, LogEnd, MOST_KEPT, MOST_NODES, MOST_ROWS, MOST_TIMES, Point, RULE_BYTES, Stamp, Times,
 };
 use node_step::NODE_WORDS;
-use rulenodes::greater;
 
 // The limits of a state's figures, as words.
 const MOST_BYTES: u32 = RULE_BYTES as u32;
@@ -33,13 +32,6 @@ const MOST_BYTES: u32 = RULE_BYTES as u32;
 const RETAINED: u32 = MOST_TIMES as u32;
 
 const KEPT: u32 = MOST_KEPT as u32;
-
-// The figure `open`, or that the state isn't well formed.
-#[derive(Clone, Copy)]
-pub enum Open {
-    Points(u32),
-    NotWellFormed,
-}
 
 // How many nodes the rule has.
 pub fn node_total(rule: &[u8]) -> usize
@@ -49,17 +41,13 @@ pub fn node_total(rule: &[u8]) -> usize
     rule[2] as usize
 }
 
-// The times with one more behind them, put to the front.
+// Puts the times with one more behind them to the front.
 fn put_times(times: &[u32], time: Stamp, out: &mut [u32])
     requires { length times.now + 1 ≤ length out.old }
     ensures { take (length times.now + 1) out.new ≡ times.now ++ time.0 ∷ [] }
 {
     let n = times.len();
-    let mut k = 0;
-    while k < n {
-        out[k] = times[k];
-        k += 1;
-    }
+    out[..n].copy_from_slice(times);
     out[n] = time.0;
 }
 
@@ -104,7 +92,7 @@ pub fn retain(after: &[u32], points: u32, stamps: &[u32], times: &mut [u32]) -> 
     (k - from) as u32
 }
 
-// The figure `open` of what is stored in the slices.
+// The figure `open` of what is stored in the slices; None where that isn't well formed.
 fn open_stored(
     rule: &[u8],
     log: LogEnd,
@@ -113,7 +101,7 @@ fn open_stored(
     numbers: &[u32],
     values: &[u32],
     count: usize,
-) -> Open
+) -> Option<u32>
     requires { EntriesWithin owners.now numbers.now values.now count }
     ensures { open_of result ≡ open_answer (stored_in rule.now log times.now owners.now numbers.now values.now count) }
 {
@@ -136,10 +124,10 @@ fn open_stored(
         &mut begins,
         &mut pairs,
     ) {
-        return Open::NotWellFormed;
+        return None;
     }
     let last = (rule[2] - 1) as usize;
-    Open::Points(log.points - counts[last])
+    Some(log.points - counts[last])
 }
 
 // Whether the figures of a state are within its arrays.
@@ -155,7 +143,7 @@ pub fn figures_fit(bytes: u32, retained: u32, count: u32) -> bool
     count <= KEPT
 }
 
-// The figure `open` of any state whatever, which stands in the slices as for `take`.
+// The figure `open` of any state whatever, which stands in the slices as for `take`; None where it isn't well formed.
 pub fn open_points<'a>(
     rule: &'a [u8],
     bytes: u32,
@@ -166,12 +154,12 @@ pub fn open_points<'a>(
     numbers: &'a [u32],
     values: &'a [u32],
     count: u32,
-) -> Open
+) -> Option<u32>
     requires { (length rule.now ≡ most_bytes) × (most_times ≤ length times.now) × EntriesWithin owners.now numbers.now values.now most_kept }
     ensures { open_of result ≡ open_answer (stored_front rule.now bytes log times.now retained owners.now numbers.now values.now count) }
 {
     if !figures_fit(bytes, retained, count) {
-        return Open::NotWellFormed;
+        return None;
     }
     let n = bytes as usize;
     let k = retained as usize;
@@ -202,13 +190,7 @@ fn children_weight(children: Children, words: &[u32]) -> u32
 fn is_previous(look: Times) -> bool
     ensures { result ≡ is_previous look }
 {
-    match look {
-        Times::Here => false,
-        Times::Before => true,
-        Times::After => false,
-        Times::Past => false,
-        Times::Future => false,
-    }
+    matches!(look, Times::Before)
 }
 
 // How many nodes of node x's tree aren't "previous", from those of the lower nodes. Of the rule only the node's head is read.
@@ -229,12 +211,8 @@ pub fn weights(rule: &[u8], out: &mut [u32])
     requires { ((a : Accepted) × (checking rule.now ≡ given a)) × (node_count rule.now ≤ length out.old) }
     ensures { (x : ℕ) → x < node_count rule.now → get_or out.new x 0 ≡ others_in rule.now x }
 {
-    let n = rule[2];
-    let mut x: u8 = 0;
-    while x < n {
-        let k = x as usize;
-        out[k] = weight_at(rule, out, x);
-        x += 1;
+    for x in 0..rule[2] {
+        out[x as usize] = weight_at(rule, out, x);
     }
 }
 
@@ -282,12 +260,11 @@ pub fn fill_table(
     requires { (n ≤ length masks.now) × (n ≤ length lows.now) × (n ≤ length before.now) × (n ≤ length after.now) × (n ≤ length wants.now) × (n < length begins.now) × (n ≤ length pairs.now) × (n ≤ length weights.now) × (n * node_words ≤ length table.old) }
     ensures { TableOf n masks.now lows.now before.now after.now wants.now begins.now pairs.now weights.now table.new }
 {
-    let mut x: usize = 0;
-    while x < n {
+    for x in 0..n {
         put_node(
             table,
             x * NODE_WORDS,
-            rulenodes::wide(masks[x]),
+            u32::from(masks[x]),
             Point(lows[x]),
             before[x],
             after[x],
@@ -297,7 +274,6 @@ pub fn fill_table(
             begins[x + 1],
             weights[x],
         );
-        x += 1;
     }
 }
 
@@ -328,7 +304,7 @@ fn need_of_one(table: &[u32], needs: &[u32], x: u8, a: u8) -> u32
 {
     let own = rows_in(table, x);
     let held = rows_in(table, a);
-    greater(needs[a as usize], held + own)
+    needs[a as usize].max(held + own)
 }
 
 // What the tree of node x needs whose children are walked in this order.
@@ -340,7 +316,7 @@ fn need_in_order(table: &[u32], needs: &[u32], x: u8, first: u8, second: u8) -> 
     let held = rows_in(table, first);
     let other = rows_in(table, second);
     let walking = held + needs[second as usize];
-    greater(needs[first as usize], greater(walking, held + other + own))
+    needs[first as usize].max(walking.max(held + other + own))
 }
 
 // The same with the heavier child first, the left where both are as heavy.
@@ -375,11 +351,8 @@ pub fn rows_needed(rule: &[u8], table: &[u32]) -> u32
 {
     let mut needs = [0u32; MOST_NODES];
     let n = rule[2];
-    let mut x: u8 = 0;
-    while x < n {
-        let k = x as usize;
-        needs[k] = need_at(rule, table, &needs, x);
-        x += 1;
+    for x in 0..n {
+        needs[x as usize] = need_at(rule, table, &needs, x);
     }
     let last = (n - 1) as usize;
     needs[last]

@@ -6,7 +6,6 @@ ghost use Rattle.monitor.specs.State.{stored};
 ghost use Rattle.lines.specs.Answers.{answer_text};
 ghost use Rattle.listing.specs.Ends.{cut_text, figures_text, end_text};
 
-use figures::Open;
 use lent_state::Answer;
 use limits::Refusal;
 use lines::{Next, put_last, put_refused, put_report};
@@ -44,8 +43,8 @@ fn put_figures(out: &mut [u8], at: usize, state: State) -> usize
 {
     let kept = monitor::kept(state);
     match monitor::open_points(state) {
-        Open::Points(n) => put_last(out, at, n, kept),
-        Open::NotWellFormed => put_refused(out, at, of_event(Refusal::NotWellFormed)),
+        Some(n) => put_last(out, at, n, kept),
+        None => put_refused(out, at, of_event(Refusal::NotWellFormed)),
     }
 }
 

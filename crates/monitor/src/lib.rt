@@ -12,7 +12,6 @@ ghost use Rattle.monitor.specs.State.{stored, start_state, blank};
 ghost use Rattle.monitor.specs.Promises.{Starts, Takes, Saves, Restores};
 
 use events::Handed;
-use figures::Open;
 use image_words::{Read, Saved};
 use lent_state::Answer;
 use meaning::{LogEnd, MOST_KEPT, RULE_BYTES, Stamp, TIME_WORDS};
@@ -245,7 +244,7 @@ pub fn kept(s: State) -> u32
 }
 
 // How many points a state has accepted that aren't settled, where it is well formed.
-pub fn open_points(state: State) -> Open
+pub fn open_points(state: State) -> Option<u32>
     ensures { open_of result ≡ open_answer (stored state) }
 {
     figures::open_points(

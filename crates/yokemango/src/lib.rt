@@ -17,7 +17,7 @@ ghost use Rattle.monitor.specs.State.{end_at};
 ghost use Rattle.yokemango.specs.Exported.{form_number, count_or_none, word_or_none};
 ghost use Rattle.yokemango.specs.Numbers.{start_parts, told_of, figures_with, figures_of, TakesAs, SavesAs, RestoresAs};
 
-use figures::{Open, open_points};
+use figures::open_points;
 use image_words::{Read, Saved};
 use lent_state::{Answer, lengths_fit};
 use limits::Refusal;
@@ -274,16 +274,16 @@ pub extern "C" fn yokemango_notice(
     told_answer(answer)
 }
 
-fn figures_of(found: Open, kept: u32) -> Figures
+fn figures_of(found: Option<u32>, kept: u32) -> Figures
     ensures { result ≡ figures_with (open_of found) kept }
 {
     match found {
-        Open::Points(n) => Figures {
+        Some(n) => Figures {
             number: 0,
             open_points: n,
             kept,
         },
-        Open::NotWellFormed => Figures {
+        None => Figures {
             number: 8,
             open_points: 0,
             kept,
@@ -308,7 +308,7 @@ pub extern "C" fn yokemango_figures<'a>(
     ensures { result ≡ figures_of (lent rule.now bytes (end_at points latest) times.now retained owners.now numbers.now values.now count) }
 {
     if !lengths_fit(rule, times, owners, numbers, values) {
-        return figures_of(Open::NotWellFormed, count);
+        return figures_of(None, count);
     }
     let found = open_points(
         rule,

@@ -1,9 +1,8 @@
--- `rows_needed` meets its contract. The loop keeps what the trees of the nodes passed so far need.
+-- `rows_needed` meets its contract.
 use Prim.Native.Nat.{◌-◌}
 use native.Mathlib.Omega.{arith}
 use mathlib.Core.Path.{◌≡◌, ◌∙◌, ap}
 use lib.ListN.{get_or}
-use borrow.Author.Rules.{rules}
 use Rattle.meaning.specs.RuleFile.{last_node}
 use Rattle.meaning.proofs.Accepted.{accepted, nodes_most, last_is_node}
 use Rattle.method.specs.Room.{need}
@@ -12,44 +11,26 @@ use Rattle.figures.proofs.Weighed.{one_more}
 use Rattle.figures.proofs.rows_needed.Goals as goal
 
 pub bounds-rule-2 : goal.bounds-rule-2
-bounds-rule-2 c = let r = c.requires.0 in
-    omega (arith, (accepted _ r.0 r.1).long)
-
-pub loop-x-init : goal.loop-x-init
-loop-x-init c = (search rules, search rules, search rules, λ y l. absurd (omega arith))
+bounds-rule-2 c = let r = c.requires.0 in omega (arith, (accepted _ r.0 r.1).long)
 
 pub need_at-requires : goal.need_at-requires
-need_at-requires c = let r = c.requires.0 in
-    let loop = c.loop-x in
-    (r, c.requires.1, omega (arith, loop.invariant.0), omega (arith, loop.invariant.2, nodes_most _ r.0 r.1), loop.invariant.3)
+need_at-requires c = let r = c.requires.0 in (r, c.requires.1, omega arith, omega (arith, nodes_most _ r.0 r.1), c.loop-x.invariant)
 
-pub bounds-needs-k : goal.bounds-needs-k
-bounds-needs-k c = let r = c.requires.0 in
-    let loop = c.loop-x in
-    omega (arith, loop.invariant.0, loop.invariant.2, nodes_most _ r.0 r.1)
-
-pub overflow_add-x : goal.overflow_add-x
-overflow_add-x c = let r = c.requires.0 in
-    let loop = c.loop-x in
-    omega (arith, loop.invariant.0, nodes_most _ r.0 r.1)
+pub bounds-needs-x : goal.bounds-needs-x
+bounds-needs-x c = let r = c.requires.0 in omega (arith, nodes_most _ r.0 r.1)
 
 pub loop-x-preserved : goal.loop-x-preserved
 loop-x-preserved c = let r = c.requires.0 in
     let loop = c.loop-x in
-    (loop.invariant.0, search rules, search rules, one_more (need c.args.rule.now (rows_in c.args.table.now)) loop.needs loop.x _ (omega (arith, loop.invariant.0, loop.invariant.2, nodes_most _ r.0 r.1)) loop.invariant.3 c.need_at.ensures)
+    one_more (need c.args.rule.now (rows_in c.args.table.now)) loop.needs loop.x _ (omega (arith, nodes_most _ r.0 r.1)) loop.invariant c.need_at.ensures
 
 pub overflow_sub-last : goal.overflow_sub-last
-overflow_sub-last c = let r = c.requires.0 in
-    let loop = c.loop-x in
-    omega (arith, loop.invariant.0, last_is_node _ r.0 r.1)
+overflow_sub-last c = let r = c.requires.0 in omega (arith, last_is_node _ r.0 r.1)
 
 pub bounds-needs-last : goal.bounds-needs-last
-bounds-needs-last c = let r = c.requires.0 in
-    let loop = c.loop-x in
-    omega (arith, loop.invariant.0, loop.invariant.2, nodes_most _ r.0 r.1, last_is_node _ r.0 r.1)
+bounds-needs-last c = let r = c.requires.0 in omega (arith, nodes_most _ r.0 r.1, last_is_node _ r.0 r.1)
 
 pub returns : goal.returns
 returns c = let r = c.requires.0 in
-    let loop = c.loop-x in
-    let e : get_or c.args.rule.now 2 0 - 1 ≡ last_node c.args.rule.now = omega (arith, loop.invariant.0) in
-    loop.invariant.3 _ (omega (arith, loop.invariant.0, last_is_node _ r.0 r.1)) ∙ ap (need c.args.rule.now (rows_in c.args.table.now)) e
+    let e : get_or c.args.rule.now 2 0 - 1 ≡ last_node c.args.rule.now = omega arith in
+    c.loop-x.invariant _ (omega (arith, last_is_node _ r.0 r.1)) ∙ ap (need c.args.rule.now (rows_in c.args.table.now)) e

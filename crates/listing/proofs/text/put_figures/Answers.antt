@@ -5,17 +5,17 @@ use Rattle.listing.specs.Ends.{figures_text}
 use Rattle.listing.proofs.text.put_figures.Goals as goal
 
 pub put_last-requires : goal.put_last-requires
-put_last-requires c = omega (arith, last_short c.in-Points.n c.kept-kept.result)
+put_last-requires c = omega (arith, last_short c.in-Some.n c.kept-kept.result)
 
 pub put_refused-requires : goal.put_refused-requires
 put_refused-requires c = omega (arith, refused_short c.of_event.result.0 c.of_event.result.1)
 
-pub returns-in-Points : goal.returns-in-Points
+pub returns-in-Some : goal.returns-in-Some
 unfolding figures_text
-returns-in-Points c = let told = rw c.in-Points.is at c.open_points.ensures in
+returns-in-Some c = let told = rw c.in-Some.is at c.open_points.ensures in
     rw (← told, ← c.kept-kept.ensures) c.put_last.ensures
 
-pub returns-in-NotWellFormed : goal.returns-in-NotWellFormed
+pub returns-in-None : goal.returns-in-None
 unfolding figures_text
-returns-in-NotWellFormed c = let told = rw c.in-NotWellFormed.is at c.open_points.ensures in
+returns-in-None c = let told = rw c.in-None.is at c.open_points.ensures in
     rw (← told) (rw c.of_event.ensures at c.put_refused.ensures)
