@@ -25,6 +25,7 @@ use meaning::{
     Children, LogEnd, MOST_KEPT, MOST_NODES, MOST_ROWS, MOST_TIMES, Point, RULE_BYTES, Stamp, Times,
 };
 use node_step::NODE_WORDS;
+use progress::Retained;
 
 // The limits of a state's figures, as words.
 const MOST_BYTES: u32 = RULE_BYTES as u32;
@@ -74,7 +75,11 @@ pub fn figures(
         points: log.points + progress::points_added(event),
         latest: time,
     };
-    progress::counts(rule, &stamps[0..k + 1], base, end, before, after);
+    let retained = Retained {
+        times: &stamps[0..k + 1],
+        base,
+    };
+    progress::counts(rule, retained, end, before, after);
     let n = node_total(rule);
     wanted::wanted(rule, &after[0..n], wants);
 }

@@ -25,6 +25,7 @@ use meaning::{
     LogEnd, MOST_KEPT, MOST_NODES, MOST_OPEN, MOST_POINTS, MOST_ROWS, MOST_TIMES, Point, Stamp,
     Times, Window,
 };
+use progress::Retained;
 use rowset::Row;
 
 // The largest word.
@@ -337,7 +338,7 @@ fn count_points(rule: &[u8], log: LogEnd, times: &[u32], counts: &mut [u32])
 {
     let base = Point(log.points.saturating_sub(times.len() as u32));
     let from = [base.0; MOST_NODES];
-    progress::counts(rule, times, base, log, &from, counts);
+    progress::counts(rule, Retained { times, base }, log, &from, counts);
 }
 
 // The part of the test that goes by times: few points and times, few points that the last node has not settled, as many times as the counts ask, and none that falls, nor the latest known time.

@@ -14,7 +14,10 @@ ghost use Rattle.node_step.specs.Walks.{set_words, RoomFor, ChildrenStand, OutTh
 ghost use Rattle.node_step.specs.Parts.{child_in, FiguresThere, ChildSetsAre, OwnFigures, ages_of, SetPushed, NextReady, NextSettled, LeafReady, LeafStep, PointsReady, PointsSettled, PairsReady, PairsKept, BlockReady, BlockKept};
 
 use meaning::{Children, LogEnd, MOST_NODES, MOST_ROWS, Node, Point};
-use room::Child;
+use progress::Retained;
+use room::{CallSets, Child, Operands};
+use settling::Given;
+use since::Held;
 
 // Where a node's step begins: so many sets are below its children's, so many stand in all, left's and right's begin at these sets, and so many entries are kept.
 #[derive(Clone, Copy)]
@@ -167,10 +170,22 @@ fn settle_next(
     requires set_room { SetRoom out.old 0 }
     ensures { NextSettled rule.now event.now rows.old at.old times.now base old_ages.now old_values.now left right n lowest start i node rows.new at.new result }
 {
-    let k = settling::settle_point(
-        node, lowest, rule, rows, at, left, right, times, base, event, old_ages, old_values, start,
-        i, out,
-    );
+    let of = Operands {
+        lowest,
+        left,
+        right,
+    };
+    let given = Given {
+        rule,
+        event,
+        retained: Retained { times, base },
+    };
+    let held = Held {
+        ages: old_ages,
+        values: old_values,
+        start,
+    };
+    let k = settling::settle_point(node, &of, &given, CallSets { rows, at }, held, i, out);
     push_set(out, k, rows, at, n)
 }
 
@@ -253,20 +268,27 @@ fn keep_pairs_at(
     if out_numbers.len() < kept {
         return kept;
     }
+    let of = Operands {
+        lowest,
+        left: children.left,
+        right: children.right,
+    };
+    let given = Given {
+        rule,
+        event,
+        retained: Retained { times, base },
+    };
+    let held = Held {
+        ages: old_ages,
+        values: old_values,
+        start,
+    };
     let n = settling::settle_pairs(
         node,
-        lowest,
-        rule,
-        rows,
-        at,
-        children.left,
-        children.right,
-        times,
-        base,
-        event,
-        old_ages,
-        old_values,
-        start,
+        &of,
+        &given,
+        CallSets { rows, at },
+        held,
         Point(end.0 - 1),
         &mut out_numbers[kept..],
         &mut out_values[kept * 4..],

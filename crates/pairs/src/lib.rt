@@ -225,7 +225,8 @@ pub fn add_young(
 // How many of the first n ages, grown by so much, are below a bound. The ages don't fall, so these are at the front.
 pub fn count_below(ages: &[u32], n: usize, by: u32, bound: u64) -> usize
     requires { (n ≤ length ages.now) × Rising ages.now n }
-    ensures { Below ages.now n by bound result }
+    ensures below { Below ages.now n by bound result }
+    ensures words { (k : ℕ) → get_or ages.now k 0 < 4294967296 }
 {
     let mut low = 0;
     let mut high = n;

@@ -5,10 +5,11 @@ ghost use Rattle.std.specs.Prelude.{◌≡◌, ◌+◌, ◌-◌, ◌*◌, ◌≤
 ghost use Rattle.meaning.specs.Log.{point};
 ghost use Rattle.meaning.specs.View.{view_of, children_in};
 ghost use Rattle.meaning.specs.RuleFile.{node_count, bodies, body_at, node_at};
-ghost use Rattle.method.specs.Stored.{stamp_in, least_of};
+ghost use Rattle.method.specs.Stored.{least_of};
 ghost use Rattle.method.specs.Counts.{scan, until_count, advance};
 ghost use Rattle.method.specs.Step.{points_added};
 ghost use Rattle.progress.specs.Filled.{Filled};
+ghost use Rattle.progress.specs.Stamps.{stamps_of};
 
 use meaning::{Children, LogEnd, Point, Stamp, Times};
 
@@ -19,12 +20,21 @@ fn word_in(words: &[u32], k: usize) -> u32
     words.get(k).copied().unwrap_or(0)
 }
 
-// The time stamp of point i, read off retained times of which the first is point base's.
-pub fn time_in(times: &[u32], base: Point, i: Point) -> Stamp
-    ensures { result ≡ stamp_in base times.now i }
-{
-    let k = i.0.saturating_sub(base.0);
-    Stamp(word_in(times, k as usize))
+// The time stamps that are retained: the first is point base's.
+#[derive(Clone, Copy)]
+pub struct Retained<'a> {
+    pub times: &'a [u32],
+    pub base: Point,
+}
+
+impl Retained<'_> {
+    // The time stamp of point i.
+    pub fn time(self, i: Point) -> Stamp
+        ensures { result ≡ stamps_of self.entry i }
+    {
+        let k = i.0.saturating_sub(self.base.0);
+        Stamp(word_in(self.times, k as usize))
+    }
 }
 
 // Whether a window's end d after a stamp comes no later than the bound.
@@ -35,11 +45,11 @@ fn ends_by(t: Stamp, d: u32, bound: Stamp) -> bool
 }
 
 // The first point, from `from` on and before m, whose window has not ended by the bound; where each has, the one after them.
-fn first_open(times: &[u32], base: Point, d: u32, bound: Stamp, from: Point, m: Point) -> Point
-    ensures { result ≡ scan (stamp_in base times.now) d bound from (m.0 - from.0) }
+fn first_open(retained: Retained, d: u32, bound: Stamp, from: Point, m: Point) -> Point
+    ensures { result ≡ scan (stamps_of retained.entry) d bound from (m.0 - from.0) }
 {
     for i in from.0..m.0 {
-        if !ends_by(time_in(times, base, Point(i)), d, bound) {
+        if !ends_by(retained.time(Point(i)), d, bound) {
             return Point(i);
         }
     }
@@ -47,21 +57,21 @@ fn first_open(times: &[u32], base: Point, d: u32, bound: Stamp, from: Point, m: 
 }
 
 // The time by which a window has to end: that of the first point that the children have not settled, or where they have settled all the latest known time.
-fn bound(times: &[u32], base: Point, log: LogEnd, m: u32) -> Stamp
-    ensures { result ≡ cond (ltb m log.points) (stamp_in base times.now (point m)) log.latest }
+fn bound(retained: Retained, log: LogEnd, m: u32) -> Stamp
+    ensures { result ≡ cond (ltb m log.points) (stamps_of retained.entry (point m)) log.latest }
 {
     if m < log.points {
-        return time_in(times, base, Point(m));
+        return retained.time(Point(m));
     }
     log.latest
 }
 
 // How many points until has settled, where its children have settled m points of a log that ends so.
-pub fn until_count(times: &[u32], base: Point, log: LogEnd, d: u32, m: u32, from: u32) -> u32
-    ensures { result ≡ until_count (stamp_in base times.now) log d m from }
+pub fn until_count(retained: Retained, log: LogEnd, d: u32, m: u32, from: u32) -> u32
+    ensures { result ≡ until_count (stamps_of retained.entry) log d m from }
 {
-    let by = bound(times, base, log, m);
-    let open = first_open(times, base, d, by, Point(from), Point(m));
+    let by = bound(retained, log, m);
+    let open = first_open(retained, d, by, Point(from), Point(m));
     open.0
 }
 
@@ -91,21 +101,12 @@ fn one_more(n: u32, m: u32) -> u32
 }
 
 // How many points node x has settled that is an until, where its children have settled m points.
-fn until_of(
-    rule: &[u8],
-    times: &[u32],
-    base: Point,
-    log: LogEnd,
-    m: u32,
-    from: &[u32],
-    x: u8,
-) -> u32
+fn until_of(rule: &[u8], retained: Retained, log: LogEnd, m: u32, from: &[u32], x: u8) -> u32
     requires { (length rule.now ≡ 12 + 20 * node_count rule.now) × (x < node_count rule.now) }
-    ensures { result ≡ until_count (stamp_in base times.now) log (body_at (bodies rule.now) x).word1 m (get_or from.now x 0) }
+    ensures { result ≡ until_count (stamps_of retained.entry) log (body_at (bodies rule.now) x).word1 m (get_or from.now x 0) }
 {
     until_count(
-        times,
-        base,
+        retained,
         log,
         rulenodes::end_at(rule, x),
         m,
@@ -114,17 +115,9 @@ fn until_of(
 }
 
 // The count of node x, from the counts of the nodes below it and a count that is not too high. Of the rule the node's head is read, and for until the window's end.
-fn count_of(
-    rule: &[u8],
-    times: &[u32],
-    base: Point,
-    log: LogEnd,
-    below: &[u32],
-    from: &[u32],
-    x: u8,
-) -> u32
+fn count_of(rule: &[u8], retained: Retained, log: LogEnd, below: &[u32], from: &[u32], x: u8) -> u32
     requires { (length rule.now ≡ 12 + 20 * node_count rule.now) × (x < node_count rule.now) }
-    ensures { result ≡ advance (stamp_in base times.now) log (λ y. get_or below.now y 0) (get_or from.now x 0) (view_of (node_at rule.now x)) }
+    ensures { result ≡ advance (stamps_of retained.entry) log (λ y. get_or below.now y 0) (get_or from.now x 0) (view_of (node_at rule.now x)) }
 {
     let m = least_of(below, log.points, rulenodes::children_at(rule, x));
     let look = rulenodes::times_at(rule, x);
@@ -132,19 +125,19 @@ fn count_of(
         Times::Here | Times::Past => m,
         Times::Before => one_more(log.points, m),
         Times::After => m.saturating_sub(1),
-        Times::Future => until_of(rule, times, base, log, m, from, x),
+        Times::Future => until_of(rule, retained, log, m, from, x),
     }
 }
 
 // The counts of every node of a rule, lowest first; words past them stay.
-pub fn counts(rule: &[u8], times: &[u32], base: Point, log: LogEnd, from: &[u32], out: &mut [u32])
+pub fn counts(rule: &[u8], retained: Retained, log: LogEnd, from: &[u32], out: &mut [u32])
     requires { (length rule.now ≡ 12 + 20 * node_count rule.now) × (node_count rule.now ≤ length out.old) }
-    ensures { Filled rule.now (stamp_in base times.now) log from.now out.old out.new }
+    ensures { Filled rule.now (stamps_of retained.entry) log from.now out.old out.new }
 {
     let nodes = rule[2];
     for x in 0..nodes {
         let k = x as usize;
-        out[k] = count_of(rule, times, base, log, &out[..k], from, x);
+        out[k] = count_of(rule, retained, log, &out[..k], from, x);
     }
 }
 

@@ -3,6 +3,8 @@ use Rattle.std.specs.Prelude.{ℕ, ◌+◌, ◌-◌, ◌*◌, ◌≤◌, ◌<◌
 use Rattle.meaning.specs.Outcome.{most_rows}
 use Rattle.meaning.specs.declared.Point.{Point}
 use Rattle.rowset.specs.Rows.{rows_from}
+use Rattle.room.specs.declared.Child.{Child}
+use Rattle.room.specs.declared.CallSets.{CallSets}
 
 -- set q
 abbrev pub set_in : List ℕ → List ℕ → ℕ → List (List ℕ)
@@ -22,3 +24,7 @@ pub record SetsInOrder (rows at : List ℕ) (n : ℕ) : Type 0 where
 pub record Sets (rows at : List ℕ) (n : ℕ) : Type 0 where
   pub laid : SetsInOrder rows at n
   pub few : (q : ℕ) → q < n → get_or at (q + 1) 0 - get_or at q 0 ≤ most_rows
+
+-- a child's set at point j
+abbrev pub sets_of : CallSets → Child → Point → List (List ℕ)
+sets_of s c = set_at s.rows.now s.at.now c.first c.low

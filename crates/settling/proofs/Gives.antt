@@ -24,7 +24,7 @@ use Rattle.meaning.specs.declared.Node.TheVariants.{Atom, And, AndNot, Keep, Or,
 use Rattle.meaning.specs.declared.Children.{Children}
 use Rattle.meaning.specs.declared.Children.TheVariants.{None, One, Two}
 use Rattle.meaning.specs.declared.Times.{Times}
-use Rattle.meaning.specs.declared.Times.TheVariants.{Past, Future}
+use Rattle.meaning.specs.declared.Times.TheVariants.{Here, Before, After, Past, Future}
 use Rattle.meaning.proofs.Points.{Tested, passed, failed, tested}
 use Rattle.method.specs.Stored.{stamp_in}
 use Rattle.method.specs.Settle.{Inputs, found, rows_since, pairs_since, candidates, settle, left_of, right_of, has_pairs}
@@ -32,7 +32,9 @@ use Rattle.method.proofs.Views.{Branches, none, single, double, viewed}
 use Rattle.rowset.specs.Sets.{SetMade}
 use Rattle.kinds.specs.Kinds.{in_mask, pairs_from}
 use Rattle.room.specs.declared.Child.{Child}
-use Rattle.untils.specs.Until.{left_test, Stand}
+use Rattle.room.specs.declared.CallSets.{CallSets}
+use Rattle.room.specs.declared.Operands.{Operands}
+use Rattle.untils.specs.Until.{left_test, BothStand}
 use Rattle.untils.proofs.Spans.{stand_part}
 use Rattle.since.specs.Since.{held_in, rows_in, pairs_in, PairsPut}
 use Rattle.settling.specs.Children.{child_set}
@@ -151,12 +153,6 @@ module _ (b w rows at times : List ℕ) (base : Point) (old_ages old_values : Li
         let e : min left.count left.count ≡ left.count = omega arith in
         rw (s.stamps, s.children.counted) (rw e at (until_rows_lem Always t d.children d.children s.children s.children))
 
-  -- the node's valuations, where the set of what its kind gives was made
-  pub point-settled : {node kind : Node} {out : List ℕ} {k : ℕ} → node ≡ kind → asked b w rows at old_ages old_values left right lowest start i kind → SetMade out k (set_of lowest (given kind))
-      → PointSettled b w rows at times base old_ages old_values left right lowest start i node out k
-  unfolding settle
-  point-settled {kind = kind} {out = out} {k = k} e d h = rw e (record { gives = λ v s. subst (λ us. SetMade out k (set_of lowest us)) (given_same v kind d s) h })
-
   -- the sets of left and right of a since, and what Inputs say of them
   module _ (node : Node) (past : (view_of node).times ≡ Past) where
     abbrev cs : Children
@@ -195,13 +191,28 @@ module _ (b w rows at times : List ℕ) (base : Point) (old_ages old_values : Li
         record { gives = λ v b w s. let (p, q) = past_seen v s.children in rw past (since_put v (view_of node).left (view_of node).window h k p q s.stamps put) }
 
   -- a node that is no since has no pairs
-  pub no_pairs : (node : Node) {t : Times} → (view_of node).times ≡ t → has_pairs t ≡ false → {ages values : List ℕ} → PairsSettled rows at times base old_ages old_values left right lowest start i node ages values ages values 0
-  no_pairs node e f = record { gives = λ v b w s. rw (e, f) none_put }
+  pub no_pairs : (node : Node) → ((view_of node).times ≡ Past → ⊥) → {ages values : List ℕ} → PairsSettled rows at times base old_ages old_values left right lowest start i node ages values ages values 0
+  no_pairs node other = record { gives = λ v b w s. rw (none_of (view_of node).times other) none_put }
+    where
+      none_of : (t : Times) → (t ≡ Past → ⊥) → has_pairs t ≡ false
+      none_of Here n = refl
+      none_of Before n = refl
+      none_of After n = refl
+      none_of Past n = absurd (n refl)
+      none_of Future n = refl
+
+-- the node's valuations, where the set of what its kind gives was made
+pub settled : {b w rows at times : List ℕ} {base : Point} {old_ages old_values : List ℕ} {left right : Child} {lowest : ℕ} {start i : Point} {node kind : Node} {out : List ℕ} {k : ℕ}
+    → asked b w rows at old_ages old_values left right lowest start i node → node ≡ kind → SetMade out k (set_of lowest (given b w rows at times base old_ages old_values left right lowest start i kind))
+    → PointSettled b w rows at times base old_ages old_values left right lowest start i node out k
+unfolding settle
+settled {b} {w} {rows} {at} {times} {base} {old_ages} {old_values} {left} {right} {lowest} {start} {i} {node} {kind} {out} {k} d e h =
+    let asked_of : asked b w rows at old_ages old_values left right lowest start i kind = rw e at d in
+    rw e (record { gives = λ v s. subst (λ us. SetMade out k (set_of lowest us)) (given_same b w rows at times base old_ages old_values left right lowest start i v kind asked_of s) h })
 
 -- the sets of until's children as far as both have settled
-pub both_stand : {rows at : List ℕ} {start i : Point} {c d : Child} → ChildThere rows at start i Future c → ChildThere rows at start i Future d
-    → Stand rows at c.first c.low i (min c.count d.count) × Stand rows at d.first d.low i (min c.count d.count)
-both_stand {rows} {at} {start} {i} {c} {d} h k = (
-  stand_part h.sets i (min c.count d.count) (omega arith) (omega (arith, h.settled, k.settled)) (omega arith),
-  stand_part k.sets i (min c.count d.count) (omega arith) (omega (arith, h.settled, k.settled)) (omega arith),
-)
+pub both_stand : (s : CallSets) (of : Operands) {start i : Point} → ChildThere s.rows.now s.at.now start i Future of.left → ChildThere s.rows.now s.at.now start i Future of.right → BothStand s of i (min of.left.count of.right.count)
+both_stand s of {start} {i} h k = record {
+  left = stand_part h.sets i (min of.left.count of.right.count) (omega arith) (omega (arith, h.settled, k.settled)) (omega arith);
+  right = stand_part k.sets i (min of.left.count of.right.count) (omega arith) (omega (arith, h.settled, k.settled)) (omega arith);
+}

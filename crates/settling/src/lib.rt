@@ -8,402 +8,293 @@ ghost use Rattle.meaning.specs.Formula.{in_window, compares};
 ghost use Rattle.meaning.specs.Definition2.{value};
 ghost use Rattle.meaning.specs.Evaluator.{cut_to, valuation_of, and_rows, until_rows};
 ghost use Rattle.meaning.specs.LookUp.{look_up, is_there};
-ghost use Rattle.method.specs.Stored.{stamp_in};
 ghost use Rattle.rowset.specs.Sets.{SetRoom, Added};
 ghost use Rattle.kinds.specs.Kinds.{in_mask, PairsThere};
-ghost use Rattle.untils.specs.Until.{left_test, Stand};
-ghost use Rattle.settling.specs.Children.{child_set, SetStands};
+ghost use Rattle.room.specs.Room.{sets_of};
+ghost use Rattle.progress.specs.Stamps.{stamps_of};
+ghost use Rattle.untils.specs.Until.{left_test, BothStand};
+ghost use Rattle.settling.specs.Children.{SetStands};
 ghost use Rattle.settling.specs.Inputs.{asked, right_in, PointSettled, PairsSettled};
 
 use meaning::{Children, Comparison, Left, Node, Point, Sides, Times, Window};
-use room::Child;
+use progress::Retained;
+use room::{CallSets, Child, Operands};
+use since::Held;
+use untils::Asks;
+
+// What a call is given: the rule, the words of the event or notice, and the time stamps that are then retained. The rule is there for the contract, which reads the event by its arities.
+#[derive(Clone, Copy)]
+pub struct Given<'a> {
+    pub rule: &'a [u8],
+    pub event: &'a [u32],
+    pub retained: Retained<'a>,
+}
 
 // Puts in a child's set at point j.
-fn copy_at(
-    lowest: u32,
-    c: Child,
-    rows: &[u32],
-    at: &[u32],
-    j: Point,
-    out: &mut [u32],
-    n: usize,
-) -> usize
-    requires set_stands { SetStands rows.now at.now c j }
+fn copy_at(lowest: u32, c: &Child, sets: CallSets, j: Point, out: &mut [u32], n: usize) -> usize
+    requires set_stands { SetStands sets.rows.now sets.at.now c.now j }
     requires set_room { SetRoom out.old n }
-    ensures { Added lowest out.old n out.new result (child_set rows.now at.now c j) }
+    ensures { Added lowest out.old n out.new result (sets_of sets.entry c.now j) }
 {
-    let p = untils::set_part(at, c.first, c.low, j);
-    kinds::copy(lowest, rows, p.from, p.to, out, n)
+    let p = sets.part(c, j);
+    kinds::copy(lowest, sets.rows, p.from, p.to, out, n)
 }
 
 // The same where the test passed, into an empty set.
-fn copy_if(
-    ok: bool,
-    lowest: u32,
-    c: Child,
-    rows: &[u32],
-    at: &[u32],
-    j: Point,
-    out: &mut [u32],
-) -> usize
-    requires set_stands { SetStands rows.now at.now c j }
+fn copy_if(ok: bool, lowest: u32, c: &Child, sets: CallSets, j: Point, out: &mut [u32]) -> usize
+    requires set_stands { SetStands sets.rows.now sets.at.now c.now j }
     requires set_room { SetRoom out.old 0 }
-    ensures { Added lowest out.old 0 out.new result (cond ok (child_set rows.now at.now c j) []) }
+    ensures { Added lowest out.old 0 out.new result (cond ok (sets_of sets.entry c.now j) []) }
 {
     if ok {
-        return copy_at(lowest, c, rows, at, j, out, 0);
+        return copy_at(lowest, c, sets, j, out, 0);
     }
     0
 }
 
 // "and" at point i.
-fn and_at(
-    lowest: u32,
-    a: Child,
-    b: Child,
-    rows: &[u32],
-    at: &[u32],
-    i: Point,
-    out: &mut [u32],
-) -> usize
-    requires set_stands { SetStands rows.now at.now a i }
-    requires set_stands_2 { SetStands rows.now at.now b i }
+fn and_at(of: &Operands, sets: CallSets, i: Point, out: &mut [u32]) -> usize
+    requires set_stands { SetStands sets.rows.now sets.at.now of.now.left i }
+    requires set_stands_2 { SetStands sets.rows.now sets.at.now of.now.right i }
     requires set_room { SetRoom out.old 0 }
-    ensures { Added lowest out.old 0 out.new result (and_rows (in_mask a.mask) (in_mask b.mask) (child_set rows.now at.now a i) (child_set rows.now at.now b i)) }
+    ensures { Added of.now.lowest out.old 0 out.new result (and_rows (in_mask of.now.left.mask) (in_mask of.now.right.mask) (sets_of sets.entry of.now.left i) (sets_of sets.entry of.now.right i)) }
 {
-    let p = untils::set_part(at, a.first, a.low, i);
-    let q = untils::set_part(at, b.first, b.low, i);
+    let p = sets.part(&of.left, i);
+    let q = sets.part(&of.right, i);
+    let f = of.left.mask;
+    let g = of.right.mask;
     kinds::and(
-        lowest, a.mask, b.mask, rows, p.from, p.to, q.from, q.to, out, 0,
+        of.lowest, f, g, sets.rows, p.from, p.to, q.from, q.to, out, 0,
     )
 }
 
 // "and not" at point i.
-fn and_not_at(
-    lowest: u32,
-    a: Child,
-    b: Child,
-    rows: &[u32],
-    at: &[u32],
-    i: Point,
-    out: &mut [u32],
-) -> usize
-    requires set_stands { SetStands rows.now at.now a i }
-    requires set_stands_2 { SetStands rows.now at.now b i }
+fn and_not_at(of: &Operands, sets: CallSets, i: Point, out: &mut [u32]) -> usize
+    requires set_stands { SetStands sets.rows.now sets.at.now of.now.left i }
+    requires set_stands_2 { SetStands sets.rows.now sets.at.now of.now.right i }
     requires set_room { SetRoom out.old 0 }
-    ensures { Added lowest out.old 0 out.new result (select (λ u. not (is_there (look_up b.lowest (cut_to (in_mask b.mask) (valuation_of u)) (child_set rows.now at.now b i)))) (child_set rows.now at.now a i)) }
+    ensures { Added of.now.lowest out.old 0 out.new result (select (λ u. not (is_there (look_up of.now.right.lowest (cut_to (in_mask of.now.right.mask) (valuation_of u)) (sets_of sets.entry of.now.right i)))) (sets_of sets.entry of.now.left i)) }
 {
-    let p = untils::set_part(at, a.first, a.low, i);
-    let q = untils::set_part(at, b.first, b.low, i);
+    let p = sets.part(&of.left, i);
+    let q = sets.part(&of.right, i);
+    let g = of.right.mask;
+    let order = of.right.lowest;
     kinds::and_not(
-        lowest, b.mask, b.lowest, rows, p.from, p.to, q.from, q.to, out, 0,
+        of.lowest, g, order, sets.rows, p.from, p.to, q.from, q.to, out, 0,
     )
 }
 
 // "keep" at point i.
 fn keep_at(
-    lowest: u32,
-    a: Child,
+    of: &Operands,
     c: Comparison,
     s: Sides,
-    rows: &[u32],
-    at: &[u32],
+    sets: CallSets,
     i: Point,
     out: &mut [u32],
 ) -> usize
-    requires set_stands { SetStands rows.now at.now a i }
+    requires set_stands { SetStands sets.rows.now sets.at.now of.now.left i }
     requires set_room { SetRoom out.old 0 }
-    ensures { Added lowest out.old 0 out.new result (select (λ u. compares c (value (valuation_of u) s.first) (value (valuation_of u) s.second)) (child_set rows.now at.now a i)) }
+    ensures { Added of.now.lowest out.old 0 out.new result (select (λ u. compares c (value (valuation_of u) s.first) (value (valuation_of u) s.second)) (sets_of sets.entry of.now.left i)) }
 {
-    let p = untils::set_part(at, a.first, a.low, i);
+    let p = sets.part(&of.left, i);
     let first = s.first;
     let second = s.second;
-    kinds::keep(lowest, c, first, second, rows, p.from, p.to, out, 0)
+    kinds::keep(of.lowest, c, first, second, sets.rows, p.from, p.to, out, 0)
 }
 
 // "or" at point i.
-fn or_at(
-    lowest: u32,
-    a: Child,
-    b: Child,
-    rows: &[u32],
-    at: &[u32],
-    i: Point,
-    out: &mut [u32],
-) -> usize
-    requires set_stands { SetStands rows.now at.now a i }
-    requires set_stands_2 { SetStands rows.now at.now b i }
+fn or_at(of: &Operands, sets: CallSets, i: Point, out: &mut [u32]) -> usize
+    requires set_stands { SetStands sets.rows.now sets.at.now of.now.left i }
+    requires set_stands_2 { SetStands sets.rows.now sets.at.now of.now.right i }
     requires set_room { SetRoom out.old 0 }
-    ensures { Added lowest out.old 0 out.new result (child_set rows.now at.now a i ++ child_set rows.now at.now b i) }
+    ensures { Added of.now.lowest out.old 0 out.new result (sets_of sets.entry of.now.left i ++ sets_of sets.entry of.now.right i) }
 {
-    let k = copy_at(lowest, a, rows, at, i, out, 0);
-    copy_at(lowest, b, rows, at, i, out, k)
+    let k = copy_at(of.lowest, &of.left, sets, i, out, 0);
+    copy_at(of.lowest, &of.right, sets, i, out, k)
 }
 
 // "exists" at point i.
-fn exists_at(
-    lowest: u32,
-    a: Child,
-    x: u32,
-    rows: &[u32],
-    at: &[u32],
-    i: Point,
-    out: &mut [u32],
-) -> usize
-    requires set_stands { SetStands rows.now at.now a i }
+fn exists_at(of: &Operands, x: u32, sets: CallSets, i: Point, out: &mut [u32]) -> usize
+    requires set_stands { SetStands sets.rows.now sets.at.now of.now.left i }
     requires set_room { SetRoom out.old 0 }
-    ensures { Added lowest out.old 0 out.new result (map (λ u. cut_to (λ y. not (eqb y x)) (valuation_of u)) (child_set rows.now at.now a i)) }
+    ensures { Added of.now.lowest out.old 0 out.new result (map (λ u. cut_to (λ y. not (eqb y x)) (valuation_of u)) (sets_of sets.entry of.now.left i)) }
 {
-    let p = untils::set_part(at, a.first, a.low, i);
-    kinds::exists(lowest, x, rows, p.from, p.to, out, 0)
+    let p = sets.part(&of.left, i);
+    kinds::exists(of.lowest, x, sets.rows, p.from, p.to, out, 0)
 }
 
 // "previous" at point i: nothing at the first point.
 fn previous_at(
-    lowest: u32,
-    a: Child,
-    rows: &[u32],
-    at: &[u32],
-    times: &[u32],
-    base: Point,
+    of: &Operands,
     w: Window,
+    sets: CallSets,
+    retained: Retained,
     i: Point,
     out: &mut [u32],
 ) -> usize
-    requires set_stands { 0 < i.0 → SetStands rows.now at.now a (point_before i) }
+    requires set_stands { 0 < i.0 → SetStands sets.rows.now sets.at.now of.now.left (point_before i) }
     requires set_room { SetRoom out.old 0 }
-    ensures { Added lowest out.old 0 out.new result (cond (ltb 0 i.0 && in_window w (elapsed (stamp_in base times.now (point_before i)) (stamp_in base times.now i))) (child_set rows.now at.now a (point_before i)) []) }
+    ensures { Added of.now.lowest out.old 0 out.new result (cond (ltb 0 i.0 && in_window w (elapsed (stamps_of retained.entry (point_before i)) (stamps_of retained.entry i))) (sets_of sets.entry of.now.left (point_before i)) []) }
 {
     if 0 < i.0 {
         let j = Point(i.0 - 1);
-        let then = progress::time_in(times, base, j);
-        let here = progress::time_in(times, base, i);
+        let then = retained.time(j);
+        let here = retained.time(i);
         let ok = untils::due(w, then, here);
-        return copy_if(ok, lowest, a, rows, at, j, out);
+        return copy_if(ok, of.lowest, &of.left, sets, j, out);
     }
     0
 }
 
 // "next" at point i, where the child has settled the point after.
 fn next_at(
-    lowest: u32,
-    a: Child,
-    rows: &[u32],
-    at: &[u32],
-    times: &[u32],
-    base: Point,
+    of: &Operands,
     w: Window,
+    sets: CallSets,
+    retained: Retained,
     i: Point,
     out: &mut [u32],
 ) -> usize
-    requires i_bound { (i.0 + 1 < a.count) × SetStands rows.now at.now a (point (i.0 + 1)) }
+    requires i_bound { (i.0 + 1 < 4294967296) × SetStands sets.rows.now sets.at.now of.now.left (point (i.0 + 1)) }
     requires set_room { SetRoom out.old 0 }
-    ensures { Added lowest out.old 0 out.new result (cond (in_window w (elapsed (stamp_in base times.now i) (stamp_in base times.now (point_after i)))) (child_set rows.now at.now a (point_after i)) []) }
+    ensures { Added of.now.lowest out.old 0 out.new result (cond (in_window w (elapsed (stamps_of retained.entry i) (stamps_of retained.entry (point_after i)))) (sets_of sets.entry of.now.left (point_after i)) []) }
 {
     let j = Point(i.0 + 1);
-    let here = progress::time_in(times, base, i);
-    let then = progress::time_in(times, base, j);
+    let here = retained.time(i);
+    let then = retained.time(j);
     let ok = untils::due(w, here, then);
-    copy_if(ok, lowest, a, rows, at, j, out)
+    copy_if(ok, of.lowest, &of.left, sets, j, out)
 }
 
-// The until kinds of two children at point i, over the points that both have settled. Left is a and right is b.
+// The until kinds of two children at point i, over the points that both have settled.
 fn until_at(
-    lowest: u32,
-    left: Left,
-    a: Child,
-    b: Child,
-    rows: &[u32],
-    at: &[u32],
-    times: &[u32],
-    base: Point,
-    w: Window,
+    asks: Asks,
+    of: &Operands,
+    sets: CallSets,
+    retained: Retained,
     i: Point,
     out: &mut [u32],
 ) -> usize
-    requires stand { Stand rows.now at.now a.first a.low i (min a.count b.count) }
-    requires stand_2 { Stand rows.now at.now b.first b.low i (min a.count b.count) }
+    requires stand { BothStand sets of.now i (min of.now.left.count of.now.right.count) }
     requires set_room { SetRoom out.old 0 }
-    ensures { Added lowest out.old 0 out.new result (until_rows (stamp_in base times.now) (min a.count b.count) w (left_test left a (child_set rows.now at.now a)) (child_set rows.now at.now b) i) }
+    ensures { Added of.now.lowest out.old 0 out.new result (until_rows (stamps_of retained.entry) (min of.now.left.count of.now.right.count) asks.window (left_test asks.left of.now.left (sets_of sets.entry of.now.left)) (sets_of sets.entry of.now.right) i) }
 {
-    let m = a.count.min(b.count);
-    untils::until(lowest, left, a, b, rows, at, times, base, w, i, m, out, 0)
+    let m = of.left.count.min(of.right.count);
+    untils::until(asks, of, sets, retained, i, m, out, 0)
 }
 
-// The valuations of a node at point i, put into out; 33 where they are more than 32. The first newly settled point is start, and the node's pairs before it are held in the old slices. The rule is there for the contract, which reads the event by its arities. Where the node has one child it is left.
+// The valuations of a node at point i, put into out; 33 where they are more than 32.
 pub fn settle_point(
     node: Node,
-    lowest: u32,
-    rule: &[u8],
-    rows: &[u32],
-    at: &[u32],
-    left: Child,
-    right: Child,
-    times: &[u32],
-    base: Point,
-    event: &[u32],
-    old_ages: &[u32],
-    old_values: &[u32],
-    start: Point,
+    of: &Operands,
+    given: &Given,
+    sets: CallSets,
+    held: Held,
     i: Point,
     out: &mut [u32],
 ) -> usize
-    requires asked { asked rule.now event.now rows.now at.now old_ages.now old_values.now left right lowest start i node }
+    requires asked { asked given.now.rule.now given.now.event.now sets.rows.now sets.at.now held.ages.now held.values.now of.now.left of.now.right of.now.lowest held.start i node }
     requires set_room { SetRoom out.old 0 }
-    ensures { PointSettled rule.now event.now rows.now at.now times.now base old_ages.now old_values.now left right lowest start i node out.new result }
+    ensures { PointSettled given.now.rule.now given.now.event.now sets.entry.rows.now sets.entry.at.now given.now.retained.times.now given.now.retained.base held.entry.ages.now held.entry.values.now of.now.left of.now.right of.now.lowest held.entry.start i node out.new result }
 {
+    let retained = given.retained;
+    let settled = of.left.count;
     match node {
-        Node::Atom(r, ts) => kinds::atom(lowest, r as u32, ts, event, out, 0),
-        Node::And(_, _) => and_at(lowest, left, right, rows, at, i, out),
-        Node::AndNot(_, _) => and_not_at(lowest, left, right, rows, at, i, out),
-        Node::Keep(_, c, s) => keep_at(lowest, left, c, s, rows, at, i, out),
-        Node::Or(_, _) => or_at(lowest, left, right, rows, at, i, out),
-        Node::Exists(_, x) => exists_at(lowest, left, x, rows, at, i, out),
-        Node::Previous(_, w) => previous_at(lowest, left, rows, at, times, base, w, i, out),
-        Node::Next(_, w) => next_at(lowest, left, rows, at, times, base, w, i, out),
-        Node::Since(_, _, w) => since::rows_at(
-            lowest,
-            Left::Holds,
-            left,
-            right,
-            rows,
-            at,
-            times,
-            base,
-            w,
-            old_ages,
-            old_values,
-            start,
-            i,
-            out,
-        ),
-        Node::NotSince(_, _, w) => since::rows_at(
-            lowest,
-            Left::Denied,
-            left,
-            right,
-            rows,
-            at,
-            times,
-            base,
-            w,
-            old_ages,
-            old_values,
-            start,
-            i,
-            out,
-        ),
-        Node::Until(_, _, w) => {
-            until_at(
-                lowest,
-                Left::Holds,
-                left,
-                right,
-                rows,
-                at,
-                times,
-                base,
-                w,
-                i,
-                out,
-            )
+        Node::Atom(r, ts) => kinds::atom(of.lowest, u32::from(r), ts, given.event, out, 0),
+        Node::And(_, _) => and_at(of, sets, i, out),
+        Node::AndNot(_, _) => and_not_at(of, sets, i, out),
+        Node::Keep(_, c, s) => keep_at(of, c, s, sets, i, out),
+        Node::Or(_, _) => or_at(of, sets, i, out),
+        Node::Exists(_, x) => exists_at(of, x, sets, i, out),
+        Node::Previous(_, w) => previous_at(of, w, sets, retained, i, out),
+        Node::Next(_, w) => next_at(of, w, sets, retained, i, out),
+        Node::Since(_, _, window) => {
+            let asks = Asks {
+                left: Left::Holds,
+                window,
+            };
+            since::rows_at(asks, of, sets, retained, held, i, out)
         }
-        Node::NotUntil(_, _, w) => {
-            until_at(
-                lowest,
-                Left::Denied,
-                left,
-                right,
-                rows,
-                at,
-                times,
-                base,
-                w,
-                i,
-                out,
-            )
+        Node::NotSince(_, _, window) => {
+            let asks = Asks {
+                left: Left::Denied,
+                window,
+            };
+            since::rows_at(asks, of, sets, retained, held, i, out)
         }
-        Node::Once(_, w) => since::rows_at(
-            lowest,
-            Left::Always,
-            left,
-            left,
-            rows,
-            at,
-            times,
-            base,
-            w,
-            old_ages,
-            old_values,
-            start,
-            i,
-            out,
-        ),
-        Node::Eventually(_, w) => untils::eventually(
-            lowest, rows, at, left.first, left.low, times, base, w, i, left.count, out, 0,
-        ),
+        Node::Until(_, _, window) => {
+            let asks = Asks {
+                left: Left::Holds,
+                window,
+            };
+            until_at(asks, of, sets, retained, i, out)
+        }
+        Node::NotUntil(_, _, window) => {
+            let asks = Asks {
+                left: Left::Denied,
+                window,
+            };
+            until_at(asks, of, sets, retained, i, out)
+        }
+        Node::Once(_, window) => {
+            let asks = Asks {
+                left: Left::Always,
+                window,
+            };
+            let once = Operands {
+                lowest: of.lowest,
+                left: of.left,
+                right: of.left,
+            };
+            since::rows_at(asks, &once, sets, retained, held, i, out)
+        }
+        Node::Eventually(_, w) => {
+            untils::eventually(of.lowest, w, &of.left, sets, retained, i, settled, out, 0)
+        }
     }
 }
 
 // The sets of right of since and until: those of the one child where there is one.
-fn right_of(children: Children, left: Child, right: Child) -> Child
-    ensures { result ≡ right_in children left right }
+fn right_of(children: Children, of: &Operands) -> Child
+    ensures { result ≡ right_in children of.now.left of.now.right }
 {
     match children {
-        Children::None => right,
-        Children::One(_) => left,
-        Children::Two(_, _) => right,
+        Children::One(_) => of.left,
+        Children::None | Children::Two(_, _) => of.right,
     }
 }
 
 // The node's pairs at point i, put to the front of ages and values, as many as the ages have room for; one more than that where there are more. Only since has any. The rule and the event are there for the contract.
 pub fn settle_pairs(
     node: Node,
-    lowest: u32,
-    rule: &[u8],
-    rows: &[u32],
-    at: &[u32],
-    left: Child,
-    right: Child,
-    times: &[u32],
-    base: Point,
-    event: &[u32],
-    old_ages: &[u32],
-    old_values: &[u32],
-    start: Point,
+    of: &Operands,
+    given: &Given,
+    sets: CallSets,
+    held: Held,
     i: Point,
     ages: &mut [u32],
     values: &mut [u32],
 ) -> usize
-    requires asked { asked rule.now event.now rows.now at.now old_ages.now old_values.now left right lowest start i node }
+    requires asked { asked given.now.rule.now given.now.event.now sets.rows.now sets.at.now held.ages.now held.values.now of.now.left of.now.right of.now.lowest held.start i node }
     requires pairs_there { PairsThere ages.old values.old (length ages.old) }
-    ensures { PairsSettled rows.now at.now times.now base old_ages.now old_values.now left right lowest start i node ages.old values.old ages.new values.new result }
+    ensures { PairsSettled sets.entry.rows.now sets.entry.at.now given.now.retained.times.now given.now.retained.base held.entry.ages.now held.entry.values.now of.now.left of.now.right of.now.lowest held.entry.start i node ages.old values.old ages.new values.new result }
 {
     let view = rulenodes::view_of(node);
-    let children = view.children;
     let look = view.times;
-    let ask = view.left;
     match look {
-        Times::Here => 0,
-        Times::Before => 0,
-        Times::After => 0,
-        Times::Past => since::pairs_at(
-            lowest,
-            ask,
-            left,
-            right_of(children, left, right),
-            rows,
-            at,
-            times,
-            base,
-            view.window,
-            old_ages,
-            old_values,
-            start,
-            i,
-            ages,
-            values,
-        ),
-        Times::Future => 0,
+        Times::Past => {
+            let asks = Asks {
+                left: view.left,
+                window: view.window,
+            };
+            let both = Operands {
+                lowest: of.lowest,
+                left: of.left,
+                right: right_of(view.children, of),
+            };
+            since::pairs_at(asks, &both, sets, given.retained, held, i, ages, values)
+        }
+        _ => 0,
     }
 }

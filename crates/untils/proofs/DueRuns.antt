@@ -2,9 +2,9 @@
 use Prim.Native.Nat.{ℕ, zero, suc, ◌+◌, ◌-◌, ◌≤◌, ◌<◌}
 use native.Mathlib.Omega.{arith}
 use mathlib.Core.Path.{◌≡◌, refl, sym, ap, ap₂, ◌∙◌}
-use mathlib.Core.Bool.{Bool, true, false, not, beq, false≢true}
+use mathlib.Core.Bool.{Bool, true, false, false≢true}
 use mathlib.Core.List.{List, [], ◌∷◌, ◌++◌}
-use lib.ListN.{length, get_or}
+use lib.ListN.{get_or}
 use lib.Dec.{ltb}
 use borrow.Author.Tests.{ltb-true, ltb-false}
 use Rattle.meaning.specs.Lists.{all, select, gather}
@@ -30,14 +30,6 @@ no_rows : (ws : List ℕ) (a : ℕ) → rows_from ws a 0 ≡ []
 unfolding rows_from
 no_rows ws a = refl
 
--- the points from j on go on to those from `from` on before to, which have sets; as many marks stand
-pub record RunLaid (marks first : ℕ) (low j from to : Point) (m : ℕ) : Type 0 where
-  pub begun : j.0 ≤ from.0
-  pub ordered : from.0 ≤ to.0
-  pub within : to.0 ≤ m
-  pub low_most : low.0 ≤ from.0
-  pub marked : first + (to.0 - low.0) < marks
-
 module _ (rows at : List ℕ) (first : ℕ) (low : Point) where
   -- the mark of the set at point a
   abbrev mark : ℕ → ℕ
@@ -61,9 +53,6 @@ module _ (rows at : List ℕ) (first : ℕ) (low : Point) where
       rw e (ap (λ us. set_at rows at first low (point a) ++ us) rest ∙ sym (rw (d, h) at (rows_append rows (mark a) (step - mark a) (mark (suc a + n) - step))))
 
   module _ {i : Point} {m : ℕ} (s : Stand rows at first low i m) where
-    pub run_laid : {p : Point → Bool} {j from to : Point} → i.0 ≤ j.0 → DueRun p j m false from → DueRun p from m true to → RunLaid (length at) first low j from to m
-    run_laid l f t = record { begun = f.begun; ordered = t.begun; within = t.reached; low_most = omega (arith, s.low_most, f.begun); marked = omega (arith, s.laid.marks, s.low_most, f.begun, t.begun, t.reached) }
-
     -- the points from a on before b
     module _ (a b : ℕ) (begun : i.0 ≤ a) (ordered : a ≤ b) (within : b ≤ m) where
       pub joined : gather (set_at rows at first low) (points_from (point a) (b - a)) ≡ rows_from rows (mark a) (mark b - mark a)
@@ -82,43 +71,11 @@ module _ (rows at : List ℕ) (first : ℕ) (low : Point) where
 
 -- ---- points that are due
 
--- two truth values that are the same, or aren't
-pub same_value : (a b : Bool) → not (beq a b) ≡ false → a ≡ b
-same_value true true e = refl
-same_value true false e = absurd (false≢true (sym e))
-same_value false true e = absurd (false≢true (sym e))
-same_value false false e = refl
-
-pub other_value : (a b : Bool) → not (beq a b) ≡ true → a ≡ not b
-other_value true true e = absurd (false≢true e)
-other_value true false e = refl
-other_value false true e = refl
-other_value false false e = absurd (false≢true e)
-
 -- the points from j on before k pass as is wanted
 pub record Passing (p : Point → Bool) (j : Point) (m : ℕ) (want : Bool) (k : ℕ) : Type 0 where
   pub begun : j.0 ≤ k
   pub reached : k ≤ m
   pub passes : (q : Point) → j.0 ≤ q.0 → q.0 < k → p q ≡ want
-
-pub passing_none : (p : Point → Bool) (j : Point) (m : ℕ) (want : Bool) → j.0 ≤ m → Passing p j m want j.0
-passing_none p j m want l = record { begun = omega arith; reached = l; passes = λ q u o. absurd (omega arith) }
-
-module _ {p : Point → Bool} {j : Point} {m : ℕ} {want : Bool} {k : ℕ} (t : Passing p j m want k) where
-  pub passing_more : k < m → p (point k) ≡ want → Passing p j m want (k + 1)
-  passing_more l e = record { begun = omega (arith, t.begun); reached = omega arith; passes = λ q u o. go q u o (tested (ltb q.0 k)) }
-    where
-      go : (q : Point) → j.0 ≤ q.0 → q.0 < k + 1 → Tested (ltb q.0 k) → p q ≡ want
-      go q u o (passed v) = t.passes q u (ltb-true q.0 k v)
-      go q u o (failed v) =
-          let d : q.0 ≡ k = omega (arith, ltb-false q.0 k v) in
-          ap (λ a. p (point a)) d ∙ e
-
-  pub passing_stops : p (point k) ≡ not want → DueRun p j m want (point k)
-  passing_stops e = record { begun = t.begun; reached = t.reached; passes = t.passes; stops = λ l. e }
-
-  pub passing_all : m ≤ k → DueRun p j m want (point k)
-  passing_all l = record { begun = t.begun; reached = t.reached; passes = t.passes; stops = λ o. absurd (omega arith) }
 
 -- a run of points that aren't due and then one of points that are go on
 pub goes_on : {p : Point → Bool} {j : Point} {m : ℕ} {from to : Point} → DueRun p j m false from → DueRun p from m true to → j.0 < m → j.0 < to.0

@@ -1,12 +1,12 @@
 -- Left's test over a run of points, one point at a time; and what one point adds to until's rows.
-use Prim.Native.Nat.{ℕ, suc, ◌+◌, ◌-◌, ◌≤◌, ◌<◌}
+use Prim.Native.Nat.{ℕ, suc, ◌+◌, ◌-◌, ◌<◌}
 use mathlib.Core.Path.{◌≡◌, refl, sym, ap, ap₂, ◌∙◌}
 use mathlib.Core.Bool.{Bool, true, false, cond}
 use mathlib.Core.List.{List, [], ◌∷◌, ◌++◌}
 use native.Mathlib.Numerals.{add-one}
 use native.Mathlib.Omega.{arith}
 use lib.Dec.{eqb}
-use borrow.Author.Tests.{eqb-true, eq-eqb, ne_eqb}
+use borrow.Author.Tests.{eqb-true}
 use Rattle.meaning.proofs.Points.{Tested, passed, failed, tested}
 use Rattle.meaning.specs.Lists.{all, select, gather}
 use Rattle.meaning.specs.Log.{point, elapsed, points_from}
@@ -32,11 +32,6 @@ module _ (p : Point → Bool) (k end : ℕ) where
       let s : end - k ≡ suc (end - (k + 1)) = omega arith in
       rw (s, e)
 
-  pub all_ends : end ≤ k → all p (points_from (point k) (end - k)) ≡ true
-  all_ends l =
-      let s : end - k ≡ 0 = omega arith in
-      rw s
-
 -- left's test at a point as the code computes it
 pub passes_as : (left : Left) {looked found t v : Bool} → found ≡ looked → t ≡ passes left found → t ≡ v → passes left looked ≡ v
 passes_as left e f g = ap (passes left) (sym e) ∙ sym f ∙ g
@@ -60,13 +55,6 @@ gather_one p f x xs = go (p x)
 -- the window's test of two stamps, each as it was read
 pub due_read : (w : Window) {s t a b : Stamp} {ok : Bool} → a ≡ s → b ≡ t → ok ≡ in_window w (elapsed a b) → ok ≡ in_window w (elapsed s t)
 due_read w d e f = f ∙ ap₂ (λ a b. in_window w (elapsed a b)) d e
-
--- the same where it is made only if two marks, each as it was read, aren't one
-pub none_there : {from to a b : ℕ} (t : Bool) → from ≡ a → to ≡ b → from ≡ to → false ≡ cond (eqb a b) false t
-none_there {from} {to} {a} {b} t d e f = rw (eq-eqb a b (sym d ∙ f ∙ e)) refl
-
-pub some_there : {from to a b : ℕ} {ok : Bool} (t : Bool) → from ≡ a → to ≡ b → (from ≡ to → ⊥) → ok ≡ t → ok ≡ cond (eqb a b) false t
-some_there {from} {to} {a} {b} t d e f g = rw (ne_eqb a b (λ h. f (d ∙ h ∙ sym e))) g
 
 -- until's rows over some points, and what one point gives
 module _ (τ : Point → Stamp) (w : Window) (left : List ℕ → Point → Bool) (right : Point → List (List ℕ)) (i : Point) where

@@ -13,6 +13,8 @@ use Rattle.meaning.specs.declared.Left.{Left}
 use Rattle.kinds.specs.Kinds.{in_mask}
 use Rattle.room.specs.Room.{SetsInOrder}
 use Rattle.room.specs.declared.Child.{Child}
+use Rattle.room.specs.declared.CallSets.{CallSets}
+use Rattle.room.specs.declared.Operands.{Operands}
 
 -- the window holds what has elapsed from a stamp to point j's
 abbrev pub due_at : (Point → Stamp) → Window → Stamp → Point → Bool
@@ -42,3 +44,12 @@ pub record Stand (rows at : List ℕ) (first : ℕ) (low i : Point) (m : ℕ) : 
   pub low_most : low.0 ≤ i.0
   pub ordered : i.0 ≤ m
   pub laid : SetsInOrder rows at (first + (m - low.0))
+
+-- the same of a child's sets
+abbrev pub Stands : CallSets → Child → Point → ℕ → Type 0
+Stands s c i m = Stand s.rows.now s.at.now c.first c.low i m
+
+-- the same of both children's
+pub record BothStand (s : CallSets) (of : Operands) (i : Point) (m : ℕ) : Type 0 where
+  pub left : Stands s of.left i m
+  pub right : Stands s of.right i m

@@ -11,6 +11,7 @@ ghost use Rattle.writer.specs.Words.{free_count, set_of, first_row, end_row, tri
 ghost use Rattle.writer.specs.Puts.{Put, handed, wrote, written_to};
 
 use meaning::{Point, Stamp};
+use progress::Retained;
 use rowset::Row;
 use rulenodes::{has_bit, one_if};
 
@@ -151,7 +152,11 @@ fn put_triples(marks: &[u32], times: &[u32], p: Points, buf: &mut [u32], at: usi
     while j < end {
         let q = set_of(p, Point(j));
         let count = mark(marks, q + 1) - mark(marks, q);
-        let t = progress::time_in(times, p.base, Point(j));
+        let t = Retained {
+            times,
+            base: p.base,
+        }
+        .time(Point(j));
         k = put_triple(buf, k, Point(j), t, count);
         j += 1;
     }

@@ -21,5 +21,5 @@ pub loop-low-preserved : goal.loop-low-preserved
 loop-low-preserved c = let l = c.loop-low in
     halving_down l.invariant (l.low + (l.high - l.low) / 2) c.requires.1 (omega arith) (omega (arith, c.loop-low-test.true)) c.if-age-bound.false
 
-pub returns : goal.returns
-returns c = halving_all c.loop-low.invariant c.loop-low-test.false
+pub returns-clause-below : goal.returns-clause-below
+returns-clause-below c = halving_all c.loop-low.invariant c.loop-low-test.false

@@ -4,8 +4,8 @@ use mathlib.Core.Path.{refl}
 use mathlib.Core.Bool.{Bool, cond}
 use mathlib.Core.List.{List, [], ◌∷◌}
 use Rattle.rowset.specs.Rows.{rows_from}
-use Rattle.rowset.proofs.Growing.{starts, goes_on, ended, map_select_one, chosen}
-use Rattle.room.specs.Room.{set_at}
+use Rattle.rowset.proofs.Growing.{starts, goes_on, map_select_one, chosen}
+use Rattle.room.specs.Room.{sets_of}
 use Rattle.untils.specs.Until.{leads}
 use Rattle.pairs.proofs.Adding.{add_none}
 use Rattle.pairs.proofs.Growing.{pairs_then}
@@ -15,20 +15,8 @@ pub loop-x-init : goal.loop-x-init
 unfolding rows_from
 loop-x-init c = starts c.requires.run.ordered (add_none c.requires.pair_room)
 
-pub add_if-g-requires : goal.add_if-g-requires
-add_if-g-requires c = c.loop-x.invariant.put.room
-
 pub loop-x-preserved : goal.loop-x-preserved
-loop-x-preserved c = let a = c.args in
-    let p : List ℕ → Bool = leads a.left a.a (set_at a.rows.now a.at.now a.a.first a.a.low) a.after a.end in
-    goes_on c.loop-x.invariant (λ u. cond (p u) ((a.age ∷ u) ∷ []) []) (map_select_one p (λ u. a.age ∷ u)) c.loop-x-test.true (pairs_then c.add_if-g.ensures)
-    (chosen p (λ u. a.age ∷ u) c.leads-ok.ensures refl c.row_at-r.ensures)
-
-pub shape_of-ages : goal.shape_of-ages
-shape_of-ages c = c.loop-x.invariant.put.ages_long
-
-pub shape_of-values : goal.shape_of-values
-shape_of-values c = c.loop-x.invariant.put.values_long
-
-pub returns : goal.returns
-returns c = ended c.loop-x.invariant refl c.loop-x-test.false
+loop-x-preserved c = let l = c.args.lead.now in
+    let p : List ℕ → Bool = (leads l.left l.a.now (sets_of l.sets l.a.now) l.from l.end) in
+    goes_on c.loop-x.invariant (λ u. cond (p u) ((c.args.age ∷ u) ∷ []) []) (map_select_one p (λ u. c.args.age ∷ u)) c.loop-x-test.true (pairs_then c.add_if-g.ensures)
+    (chosen p (λ u. c.args.age ∷ u) c.passes-ok.ensures refl c.row_at-r.ensures)

@@ -1,47 +1,37 @@
 -- `until` meets its contract: each point from i on before m puts in what it gives.
-use Prim.Native.Nat.{ℕ, ◌+◌, ◌-◌}
+use Prim.Native.Nat.{ℕ, ◌+◌}
 use native.Mathlib.Omega.{arith}
-use mathlib.Core.Path.{refl}
-use mathlib.Core.Bool.{Bool}
-use mathlib.Core.List.{List}
-use lib.ListN.{get_or}
-use borrow.Author.Rules.{rules}
+use mathlib.Core.Path.{sym, ap, ◌∙◌}
+use mathlib.Core.Bool.{Bool, cond}
+use mathlib.Core.List.{List, []}
+use Rattle.meaning.specs.Lists.{select}
 use Rattle.meaning.specs.Log.{point}
 use Rattle.meaning.specs.declared.Point.{Point}
 use Rattle.meaning.specs.declared.Stamp.{Stamp}
-use Rattle.method.specs.Stored.{stamp_in}
-use Rattle.rowset.proofs.Growing.{begun, turned, ended}
-use Rattle.room.specs.Room.{set_at}
-use Rattle.untils.specs.Until.{left_test}
-use Rattle.untils.proofs.Spans.{stand_part, set_none}
+use Rattle.progress.specs.Stamps.{stamps_of}
+use Rattle.rowset.proofs.Growing.{turned}
+use Rattle.room.specs.Room.{sets_of}
+use Rattle.untils.specs.Until.{left_test, leads}
+use Rattle.untils.proofs.Spans.{stand_part, set_run, set_read, set_none}
 use Rattle.untils.proofs.Passing.{at_point, point_one, point_there}
 use Rattle.untils.proofs.until.Goals as goal
 
-pub loop-j-init : goal.loop-j-init
-loop-j-init c = (omega arith, begun c.requires.stand.ordered c.requires.set_room)
+pub invariant_of-lead : goal.invariant_of-lead
+invariant_of-lead c = record { stand = stand_part c.requires.stand.left _ c.loop-j.j (omega arith) (omega arith) (omega arith) }
 
-pub due_there-ok-requires : goal.due_there-ok-requires
-due_there-ok-requires c = (omega (arith, c.requires.stand_2.low_most, c.loop-j.invariant.0), omega (arith, c.requires.stand_2.laid.marks, c.requires.stand_2.low_most, c.loop-j.invariant.0, c.loop-j-test.true))
-
-pub put_point_if-k-requires : goal.put_point_if-k-requires
-put_point_if-k-requires c = let j : ℕ = c.loop-j.j in
-    record { stand = stand_part c.requires.stand _ j (omega arith) (omega arith) (omega arith); stand_2 = stand_part c.requires.stand_2 (point j) (j + 1) (omega arith) (omega arith) (omega arith); set_room = search rules }
+pub put_if-k-requires-clause-run : goal.put_if-k-requires-clause-run
+put_if-k-requires-clause-run c = let e = c.part-rows.ensures in
+    set_run (stand_part c.requires.stand.right (point c.loop-j.j) (c.loop-j.j + 1) (omega arith) (omega arith) (omega arith)) e.0 e.1
 
 pub loop-j-preserved : goal.loop-j-preserved
 loop-j-preserved c = let a = c.args in
-    let τ : Point → Stamp = stamp_in a.base a.times.now in
-    let left : List ℕ → Point → Bool = left_test a.left a.a (set_at a.rows.now a.at.now a.a.first a.a.low) in
-    let right : Point → List (List ℕ) = set_at a.rows.now a.at.now a.b.first a.b.low in
-    let v = c.loop-j.invariant in
-    let j : ℕ = c.loop-j.j in
-    let q : ℕ = a.b.first + (j - a.b.low.0) in (
-      omega arith,
-      turned v.1 (at_point τ a.w left right a.i) (point_one τ a.w left right a.i) c.loop-j-test.true c.put_point_if-k.ensures
-          (point_there τ a.w left right a.i (point j) (get_or a.at.now q 0) (get_or a.at.now (q + 1) 0) c.time_in-start.ensures (set_none a.rows.now a.at.now q) c.due_there-ok.ensures),
-    )
-
-pub shape_of-out : goal.shape_of-out
-shape_of-out c = c.loop-j.invariant.1.put.long
-
-pub returns : goal.returns
-returns c = ended c.loop-j.invariant.1 refl c.loop-j-test.false
+    let of = c.args.of.now in
+    let τ : Point → Stamp = stamps_of a.retained in
+    let left : List ℕ → Point → Bool = left_test a.asks.left of.left (sets_of a.sets of.left) in
+    let right : Point → List (List ℕ) = sets_of a.sets of.right in
+    let here : Point = point c.loop-j.j in
+    let rows = c.part-rows.result in
+    let e = c.part-rows.ensures in
+    turned c.loop-j.invariant (at_point τ a.asks.window left right a.i) (point_one τ a.asks.window left right a.i) c.loop-j-test.true c.put_if-k.ensures
+    (ap (λ us. cond c.due_there-ok.result (select (leads a.asks.left of.left (sets_of a.sets of.left) a.i here) us) []) (set_read (stand_part c.requires.stand.right here (c.loop-j.j + 1) (omega arith) (omega arith) (omega arith)) e.0 e.1)
+    ∙ point_there τ a.asks.window left right a.i here rows.from rows.to c.time-start.ensures (λ h. set_none a.sets.rows.now a.sets.at.now _ (sym e.0 ∙ h ∙ e.1)) c.due_there-ok.ensures)

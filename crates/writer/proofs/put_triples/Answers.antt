@@ -26,7 +26,7 @@ pub put_triple-k-requires : goal.put_triple-k-requires
 put_triple-k-requires c = turn_room ((give c.args.marks.now c.args.times.now c.args.p)) c.loop-j.invariant.1 c.loop-j-test.true refl
 
 pub loop-j-preserved : goal.loop-j-preserved
-loop-j-preserved c = let e = triple_same c.args.marks.now c.args.times.now c.args.p c.set_of-q.ensures c.mark.ensures c.mark-in-loop-j.ensures c.time_in-t.ensures in
+loop-j-preserved c = let e = triple_same c.args.marks.now c.args.times.now c.args.p c.set_of-q.ensures c.mark.ensures c.mark-in-loop-j.ensures c.time-t.ensures in
     (omega arith, turn_more ((give c.args.marks.now c.args.times.now c.args.p)) c.loop-j.invariant.1 c.loop-j-test.true e c.put_triple-k.ensures)
 
 pub shape_of-buf : goal.shape_of-buf

@@ -54,21 +54,26 @@ module _ (by : ℕ) (passed : List ℕ → Bool) where
   abbrev pub bound_pairs : ℕ → ℕ → List (List ℕ) → List (List ℕ)
   bound_pairs below most held = map (λ p. min (get_or p 0 0 + by) most ∷ drop 1 p) (select (pair_stays below) held)
 
-  module _ {lowest : ℕ} (ages values : List ℕ) {old : ℕ} {all : List (List ℕ)} {x : ℕ} where
-    pub row_turned : (from below : ℕ) {out₀ : List ℕ} {n : Gathered} {out : List ℕ} {k : Gathered} → Gathering lowest (pair_at ages values) (bound_rows from below) old out₀ n all out k x → x < old
+  -- a turn of the loop over them, where the age, grown, is one that two words can make
+  module _ (w : Window) {lowest : ℕ} (ages values : List ℕ) {old : ℕ} {all : List (List ℕ)} {x : ℕ} (few : get_or ages x 0 + by < 8589934592) where
+    pub row_turned : {from below : ℕ} → from ≡ w.start → below ≡ below_of w → {out₀ : List ℕ} {n : Gathered} {out : List ℕ} {k : Gathered} → Gathering lowest (pair_at ages values) (older_rows w by passed) old out₀ n all out k x → x < old
         → {out' : List ℕ} {k' : Gathered} {t : Bool} {u : List ℕ} → Gathers lowest out k out' k' (cond t (u ∷ []) []) → t ≡ ((leb from (get_or ages x 0 + by) && ltb (get_or ages x 0 + by) below) && passed u) → u ≡ row_at values x
-        → Gathering lowest (pair_at ages values) (bound_rows from below) old out₀ n all out' k' (x + 1)
-    row_turned from below t l {u = u} h e is =
-        gathers_on t (λ p. cond (row_stays from below p) (drop 1 p ∷ []) []) (map_select_one (row_stays from below) (drop 1)) l h
-        (ap (λ b. cond b (u ∷ []) []) e ∙ ap (λ v. cond (row_stays from below (get_or ages x 0 ∷ v)) (v ∷ []) []) is)
+        → Gathering lowest (pair_at ages values) (older_rows w by passed) old out₀ n all out' k' (x + 1)
+    row_turned e f t l {u = u} h g is =
+        let age : ℕ = get_or ages x 0 + by in
+        let stays : List ℕ → Bool = λ p. in_window w (get_or p 0 0 + by) && passed (drop 1 p) in
+        gathers_on t (λ p. cond (stays p) (drop 1 p ∷ []) []) (map_select_one stays (drop 1)) l h
+        (ap (λ b. cond b (u ∷ []) []) (g ∙ ap (λ b. b && passed u) (in_window_lem w age few e f)) ∙ ap (λ v. cond (in_window w age && passed v) (v ∷ []) []) is)
 
-    pub pair_turned : (below most : ℕ) {ages₀ values₀ : List ℕ} {n : Gathered} {ages' values' : List ℕ} {k : Gathered} → Turns (pair_at ages values) (bound_pairs below most) old all (PairsAdded lowest ages₀ values₀ n ages' values' k) x → x < old
+    pub pair_turned : {below most : ℕ} → below ≡ below_of w → most ≡ most_of w → {ages₀ values₀ : List ℕ} {n : Gathered} {ages' values' : List ℕ} {k : Gathered} → Turns (pair_at ages values) (older_pairs w by passed) old all (PairsAdded lowest ages₀ values₀ n ages' values' k) x → x < old
         → {ages'' values'' : List ℕ} {k' : Gathered} {t : Bool} {u : List ℕ} → PairsAdded lowest ages' values' k ages'' values'' k' (cond t ((min (get_or ages x 0 + by) most ∷ u) ∷ []) []) → t ≡ (ltb (get_or ages x 0 + by) below && passed u) → u ≡ row_at values x
-        → Turns (pair_at ages values) (bound_pairs below most) old all (PairsAdded lowest ages₀ values₀ n ages'' values'' k') (x + 1)
-    pair_turned below most t l {u = u} h e is =
-        let grown : List ℕ → List ℕ = λ p. min (get_or p 0 0 + by) most ∷ drop 1 p in
-        goes_on t (λ p. cond (pair_stays below p) (grown p ∷ []) []) (map_select_one (pair_stays below) grown) l (pairs_then h)
-        (ap (λ b. cond b ((min (get_or ages x 0 + by) most ∷ u) ∷ []) []) e ∙ ap (λ v. cond (pair_stays below (get_or ages x 0 ∷ v)) ((min (get_or ages x 0 + by) most ∷ v) ∷ []) []) is)
+        → Turns (pair_at ages values) (older_pairs w by passed) old all (PairsAdded lowest ages₀ values₀ n ages'' values'' k') (x + 1)
+    pair_turned {most = most} e f t l {u = u} h g is =
+        let age : ℕ = get_or ages x 0 + by in
+        let stays : List ℕ → Bool = λ p. below_end w (get_or p 0 0 + by) && passed (drop 1 p) in
+        let grown : List ℕ → List ℕ = λ p. counted_age w (get_or p 0 0 + by) ∷ drop 1 p in
+        goes_on t (λ p. cond (stays p) (grown p ∷ []) []) (map_select_one stays grown) l (pairs_then h)
+        (ap (λ b. cond b ((min age most ∷ u) ∷ []) []) g ∙ counted_as w age few (λ a. (a ∷ u) ∷ []) (passed u) e f ∙ ap (λ v. cond (below_end w age && passed v) ((counted_age w age ∷ v) ∷ []) []) is)
 
   -- by the window, where ages and what they grow by are words
   module _ (w : Window) (ages values : List ℕ) (small : by < 4294967296) (words : (k : ℕ) → get_or ages k 0 < 4294967296) where
