@@ -1,10 +1,11 @@
 // Reading a rule file: its words, heads, bodies, and each node as one of the fifteen kinds.
 #![tactic(auto)]
 
-ghost use Rattle.std.specs.Prelude.{◌≡◌, [], ℕ, ◌+◌, ◌*◌, ◌≤◌, ◌<◌, max, length};
+ghost use Rattle.std.specs.Prelude.{◌≡◌, [], ℕ, ◌+◌, ◌*◌, ◌≤◌, ◌<◌, length};
 ghost use Rattle.meaning.specs.Readings.{twos_complement};
 ghost use Rattle.meaning.specs.View.{here, view_of, children_in};
-ghost use Rattle.meaning.specs.RuleFile.{word_at, node_count, arity, head_at, body_at, bodies, bit, term_of, comparison_of, terms_of_body, sides_of, node_of, node_at, children_of, one_if};
+ghost use Rattle.meaning.specs.RuleFile.{word_at, node_count, arity, head_at, body_at, bodies, bit, term_of, comparison_of, terms_of_body, sides_of, node_of, node_at, children_of};
+ghost use Rattle.rulenodes.specs.Kinds.{HasNumber};
 ghost use Rattle.meaning.specs.declared.Body.{Body};
 ghost use Rattle.meaning.specs.declared.Comparison.TheVariants.{ShiftedLess};
 ghost use Rattle.meaning.specs.declared.Node.TheVariants.{Atom};
@@ -14,36 +15,63 @@ use meaning::{
 };
 use readings::twos_complement;
 
-// A byte as a word.
-pub fn wide(b: u8) -> u32
-    ensures { (result ≡ b) × (result < 256) }
-{
-    b as u32
+// A node's kind, by its number in the head. "keep" and "keep-shifted" are two kinds here, and one case of `Node`.
+#[derive(Clone, Copy)]
+pub enum Kind {
+    Atom,
+    And,
+    AndNot,
+    Keep,
+    Or,
+    Exists,
+    Previous,
+    Next,
+    Since,
+    NotSince,
+    Until,
+    NotUntil,
+    Once,
+    Eventually,
+    KeepShifted,
+    Unknown,
 }
 
-// The greater of two numbers.
-pub fn greater(a: u32, b: u32) -> u32
-    ensures { result ≡ max a b }
-{
-    if a < b { b } else { a }
-}
+impl From<u8> for Kind {
+    ghost from_gives = { λ n k. HasNumber k n };
 
-// 1 for true, 0 for false.
-pub fn one_if(b: bool) -> u8
-    ensures { (result ≡ one_if b) × (result ≤ 1) }
-{
-    if b { 1 } else { 0 }
+    fn from(number: u8) -> Kind {
+        match number {
+            1 => Kind::Atom,
+            2 => Kind::And,
+            3 => Kind::AndNot,
+            4 => Kind::Keep,
+            5 => Kind::Or,
+            6 => Kind::Exists,
+            7 => Kind::Previous,
+            8 => Kind::Next,
+            9 => Kind::Since,
+            10 => Kind::NotSince,
+            11 => Kind::Until,
+            12 => Kind::NotUntil,
+            13 => Kind::Once,
+            14 => Kind::Eventually,
+            15 => Kind::KeepShifted,
+            _ => Kind::Unknown,
+        }
+    }
 }
 
 // The word at byte k.
+#[tactic(auto, unfolding(meaning::specs::RuleFile::word_at))]
 pub fn word_at(s: &[u8], k: usize) -> u32
     requires { k + 4 ≤ length s.now }
     ensures { result ≡ word_at s.now k }
 {
-    wide(s[k]) + 256 * wide(s[k + 1]) + 65536 * wide(s[k + 2]) + 16777216 * wide(s[k + 3])
+    u32::from_le_bytes([s[k], s[k + 1], s[k + 2], s[k + 3]])
 }
 
 // The head of node x.
+#[tactic(auto, unfolding(meaning::specs::RuleFile::head_at))]
 pub fn head_at(rule: &[u8], x: u8) -> Head
     requires { 12 + 4 * x + 4 ≤ length rule.now }
     ensures { result ≡ head_at rule.now x }
@@ -58,6 +86,7 @@ pub fn head_at(rule: &[u8], x: u8) -> Head
 }
 
 // The body of node x, from the part of the rule that begins with the bodies.
+#[tactic(auto, unfolding(meaning::specs::RuleFile::body_at))]
 pub fn body_at(bodies: &[u8], x: u8) -> Body
     requires { 16 * x + 16 ≤ length bodies.now }
     ensures { result ≡ body_at bodies.now x }
@@ -149,34 +178,35 @@ fn sides_of(mask: u8, w: Body) -> Sides
 }
 
 // The node that a head and a body make, with the arity of the relation that the head may name.
+#[tactic(auto, unfolding(meaning::specs::RuleFile::node_of))]
 pub fn node_of(arity: u8, h: Head, w: Body) -> Node
     ensures { result ≡ node_of arity h w }
 {
-    let kind = h.kind;
     let window = Window {
         start: w.word0,
         end: w.word1,
     };
-    match kind {
-        1 => Node::Atom(h.left, terms_of(arity, h.mask, w)),
-        2 => Node::And(h.left, h.right),
-        3 => Node::AndNot(h.left, h.right),
-        4 => Node::Keep(h.left, comparison_of(h.right), sides_of(h.mask, w)),
-        5 => Node::Or(h.left, h.right),
-        6 => Node::Exists(h.left, w.word0),
-        7 => Node::Previous(h.left, window),
-        8 => Node::Next(h.left, window),
-        9 => Node::Since(h.left, h.right, window),
-        10 => Node::NotSince(h.left, h.right, window),
-        11 => Node::Until(h.left, h.right, window),
-        12 => Node::NotUntil(h.left, h.right, window),
-        13 => Node::Once(h.left, window),
-        15 => Node::Keep(h.left, shifted_by(w.word2), sides_of(h.mask, w)),
-        _ => Node::Eventually(h.left, window),
+    match Kind::from(h.kind) {
+        Kind::Atom => Node::Atom(h.left, terms_of(arity, h.mask, w)),
+        Kind::And => Node::And(h.left, h.right),
+        Kind::AndNot => Node::AndNot(h.left, h.right),
+        Kind::Keep => Node::Keep(h.left, comparison_of(h.right), sides_of(h.mask, w)),
+        Kind::KeepShifted => Node::Keep(h.left, shifted_by(w.word2), sides_of(h.mask, w)),
+        Kind::Or => Node::Or(h.left, h.right),
+        Kind::Exists => Node::Exists(h.left, w.word0),
+        Kind::Previous => Node::Previous(h.left, window),
+        Kind::Next => Node::Next(h.left, window),
+        Kind::Since => Node::Since(h.left, h.right, window),
+        Kind::NotSince => Node::NotSince(h.left, h.right, window),
+        Kind::Until => Node::Until(h.left, h.right, window),
+        Kind::NotUntil => Node::NotUntil(h.left, h.right, window),
+        Kind::Once => Node::Once(h.left, window),
+        Kind::Eventually | Kind::Unknown => Node::Eventually(h.left, window),
     }
 }
 
 // Node x of a rule.
+#[tactic(auto, unfolding(meaning::specs::RuleFile::node_at))]
 pub fn node_at(rule: &[u8], x: u8) -> Node
     requires { (length rule.now ≡ 12 + 20 * node_count rule.now) × (x < node_count rule.now) }
     ensures { result ≡ node_at rule.now x }
@@ -193,6 +223,7 @@ pub struct AtomParts {
 }
 
 // The parts of node x, which has no children: it is an atom, and isn't taken apart by its kind.
+#[tactic(auto, using(crate::proofs::Childless::childless), unfolding(meaning::specs::RuleFile::node_at))]
 pub fn atom_at(rule: &[u8], x: u8) -> AtomParts
     requires { (length rule.now ≡ 12 + 20 * node_count rule.now) × (x < node_count rule.now) × (children_of (node_at rule.now x) ≡ []) }
     ensures { (node_at rule.now x ≡ Atom result.relation result.terms) × (arity rule.now result.relation ≡ result.terms.count) }
@@ -206,7 +237,7 @@ pub fn atom_at(rule: &[u8], x: u8) -> AtomParts
 }
 
 // The view of a node without a window.
-fn without_window(children: Children) -> View
+fn here(children: Children) -> View
     ensures { result ≡ here children }
 {
     View {
@@ -222,12 +253,9 @@ pub fn view_of(node: Node) -> View
     ensures { result ≡ view_of node }
 {
     match node {
-        Node::Atom(_, _) => without_window(Children::None),
-        Node::And(a, b) => without_window(Children::Two(a, b)),
-        Node::AndNot(a, b) => without_window(Children::Two(a, b)),
-        Node::Keep(a, _, _) => without_window(Children::One(a)),
-        Node::Or(a, b) => without_window(Children::Two(a, b)),
-        Node::Exists(a, _) => without_window(Children::One(a)),
+        Node::Atom(_, _) => here(Children::None),
+        Node::And(a, b) | Node::AndNot(a, b) | Node::Or(a, b) => here(Children::Two(a, b)),
+        Node::Keep(a, _, _) | Node::Exists(a, _) => here(Children::One(a)),
         Node::Previous(a, w) => View {
             children: Children::One(a),
             times: Times::Before,
@@ -288,24 +316,25 @@ pub fn children_of(node: Node) -> Children
 }
 
 // The children by the head alone, whatever its relation's arity and the node's body.
+#[tactic(auto, unfolding(meaning::specs::RuleFile::node_of))]
 fn children_by(h: Head) -> Children
     ensures { (arity : ℕ) (w : Body) → children_in result ≡ children_of (node_of arity h w) }
 {
-    let kind = h.kind;
-    match kind {
-        1 => Children::None,
-        2 => Children::Two(h.left, h.right),
-        3 => Children::Two(h.left, h.right),
-        5 => Children::Two(h.left, h.right),
-        9 => Children::Two(h.left, h.right),
-        10 => Children::Two(h.left, h.right),
-        11 => Children::Two(h.left, h.right),
-        12 => Children::Two(h.left, h.right),
+    match Kind::from(h.kind) {
+        Kind::Atom => Children::None,
+        Kind::And
+        | Kind::AndNot
+        | Kind::Or
+        | Kind::Since
+        | Kind::NotSince
+        | Kind::Until
+        | Kind::NotUntil => Children::Two(h.left, h.right),
         _ => Children::One(h.left),
     }
 }
 
 // The children of node x of a rule: of its bytes only the head is read.
+#[tactic(auto, unfolding(meaning::specs::RuleFile::node_at))]
 pub fn children_at(rule: &[u8], x: u8) -> Children
     requires { 12 + 4 * x + 4 ≤ length rule.now }
     ensures { children_in result ≡ children_of (node_at rule.now x) }
@@ -313,41 +342,33 @@ pub fn children_at(rule: &[u8], x: u8) -> Children
     children_by(head_at(rule, x))
 }
 
-// The kind of node x of a rule, as its number.
-fn kind_at(rule: &[u8], x: u8) -> u8
+// The kind of node x of a rule.
+#[tactic(auto, unfolding(meaning::specs::RuleFile::head_at))]
+fn kind_at(rule: &[u8], x: u8) -> Kind
     requires { 12 + 4 * x + 4 ≤ length rule.now }
-    ensures { result ≡ (head_at rule.now x).kind }
+    ensures { HasNumber result (head_at rule.now x).kind }
 {
     let at = 12 + 4 * (x as usize);
-    rule[at]
+    Kind::from(rule[at])
 }
 
 // Which points of its children node x of a rule looks at: of its bytes only the kind is read.
+#[tactic(auto, unfolding(meaning::specs::RuleFile::node_at, meaning::specs::RuleFile::node_of))]
 pub fn times_at(rule: &[u8], x: u8) -> Times
     requires { 12 + 4 * x + 4 ≤ length rule.now }
     ensures { result ≡ (view_of (node_at rule.now x)).times }
 {
-    let kind = kind_at(rule, x);
-    match kind {
-        1 => Times::Here,
-        2 => Times::Here,
-        3 => Times::Here,
-        4 => Times::Here,
-        5 => Times::Here,
-        6 => Times::Here,
-        7 => Times::Before,
-        8 => Times::After,
-        9 => Times::Past,
-        10 => Times::Past,
-        11 => Times::Future,
-        12 => Times::Future,
-        13 => Times::Past,
-        15 => Times::Here,
-        _ => Times::Future,
+    match kind_at(rule, x) {
+        Kind::Previous => Times::Before,
+        Kind::Next => Times::After,
+        Kind::Since | Kind::NotSince | Kind::Once => Times::Past,
+        Kind::Until | Kind::NotUntil | Kind::Eventually | Kind::Unknown => Times::Future,
+        _ => Times::Here,
     }
 }
 
 // The word of node x's body that is a window's end where its kind has a window.
+#[tactic(auto, unfolding(meaning::specs::RuleFile::body_at))]
 pub fn end_at(rule: &[u8], x: u8) -> u32
     requires { (length rule.now ≡ 12 + 20 * node_count rule.now) × (x < node_count rule.now) }
     ensures { result ≡ (body_at (bodies rule.now) x).word1 }

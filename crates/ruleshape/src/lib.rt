@@ -5,7 +5,7 @@ ghost use Rattle.std.specs.Prelude.{◌≡◌, ◌≤◌, ◌<◌, length};
 ghost use Rattle.meaning.specs.RuleFile.{atom_word_fits, atom_fits, two_fit, sides_fit, keep_fits, shifted_fits, exists_fits, one_window_fits, two_window_fits, shape_fits, window_fits, range_fits};
 
 use meaning::{Body, Head};
-use rulenodes::{arity_at, has_bit};
+use rulenodes::{Kind, arity_at, has_bit};
 
 // The longest window, in seconds.
 const LONGEST: u32 = 604800;
@@ -96,28 +96,20 @@ fn two_window_fits(x: u8, h: Head, w: Body) -> bool
 }
 
 // Whether node x, of this head and body, passes 4.
+#[tactic(auto, unfolding(meaning::specs::RuleFile::shape_fits))]
 pub fn shape_fits(rule: &[u8], x: u8, h: Head, w: Body) -> bool
     requires { 12 ≤ length rule.now }
     ensures { result ≡ shape_fits rule.now x h w }
 {
-    let kind = h.kind;
-    match kind {
-        1 => atom_fits(rule, h, w),
-        2 => two_fit(x, h, w),
-        3 => two_fit(x, h, w),
-        4 => keep_fits(x, h, w),
-        5 => two_fit(x, h, w),
-        6 => exists_fits(x, h, w),
-        7 => one_window_fits(x, h, w),
-        8 => one_window_fits(x, h, w),
-        9 => two_window_fits(x, h, w),
-        10 => two_window_fits(x, h, w),
-        11 => two_window_fits(x, h, w),
-        12 => two_window_fits(x, h, w),
-        13 => one_window_fits(x, h, w),
-        14 => one_window_fits(x, h, w),
-        15 => shifted_fits(x, h, w),
-        _ => false,
+    match Kind::from(h.kind) {
+        Kind::Atom => atom_fits(rule, h, w),
+        Kind::And | Kind::AndNot | Kind::Or => two_fit(x, h, w),
+        Kind::Keep => keep_fits(x, h, w),
+        Kind::KeepShifted => shifted_fits(x, h, w),
+        Kind::Exists => exists_fits(x, h, w),
+        Kind::Previous | Kind::Next | Kind::Once | Kind::Eventually => one_window_fits(x, h, w),
+        Kind::Since | Kind::NotSince | Kind::Until | Kind::NotUntil => two_window_fits(x, h, w),
+        Kind::Unknown => false,
     }
 }
 
@@ -133,21 +125,15 @@ fn window_fits(c: u32, d: u32) -> bool
 }
 
 // Whether a node of this head and body passes 5.
+#[tactic(auto, unfolding(meaning::specs::RuleFile::range_fits))]
 pub fn range_fits(h: Head, w: Body) -> bool
     ensures { result ≡ range_fits h w }
 {
-    let kind = h.kind;
     let fits = window_fits(w.word0, w.word1);
     let ends = 0 < w.word1;
-    match kind {
-        7 => fits,
-        8 => fits,
-        9 => fits,
-        10 => fits,
-        11 => fits & ends,
-        12 => fits & ends,
-        13 => fits,
-        14 => fits & ends,
+    match Kind::from(h.kind) {
+        Kind::Previous | Kind::Next | Kind::Since | Kind::NotSince | Kind::Once => fits,
+        Kind::Until | Kind::NotUntil | Kind::Eventually => fits & ends,
         _ => true,
     }
 }
