@@ -8,16 +8,13 @@ use Rattle.meaning.specs.Formula.{Formula, reach}
 use Rattle.meaning.specs.RuleFile.{node_count, node_at, children_of, formula_of, formula_at}
 use Rattle.meaning.specs.declared.Node.{Node}
 use Rattle.meaning.specs.declared.Node.TheVariants.{Atom, And, AndNot, Keep, Or, Exists, Previous, Next, Since, NotSince, Until, NotUntil, Once, Eventually}
-use Rattle.meaning.specs.declared.Children.{Children}
-use Rattle.meaning.specs.declared.Children.TheVariants.{None, One, Two}
-use Rattle.meaning.specs.View.{children_in}
 use Rattle.meaning.proofs.Tree.{formula_step}
 use Rattle.ruleshape.specs.Sound.{NodeSound, window_reach}
 use Rattle.ruleshape.proofs.Sound.{node_sound}
 use Rattle.rulefile.specs.Weighing.{AllFit}
 use Rattle.rulefile.proofs.Nodes.{children_lower}
 
-abbrev greatest : (ℕ → ℕ) → List ℕ → ℕ
+abbrev pub greatest : (ℕ → ℕ) → List ℕ → ℕ
 greatest r [] = 0
 greatest r (c ∷ cs) = max (r c) (greatest r cs)
 
@@ -75,33 +72,29 @@ module _ (b : List ℕ) (fit : AllFit b) where
   pub reach-bound : (x : ℕ) → x < node_count b → reach (formula_at b x) ≤ longest_window * (x + 1)
   reach-bound x l = bound-within (x + 1) x (omega arith) l
 
--- what code has of node x before it goes down to the children: what the window adds, and the children
-pub record Opened (b : List ℕ) (x own : ℕ) (ch : Children) : Type 0 where
+-- what code has of node x before it goes down to the children
+pub record Opened (b : List ℕ) (x own : ℕ) (n : Node) : Type 0 where
   pub fit : AllFit b
   pub inside : x < node_count b
-  pub adds : own ≡ window_reach (node_at b x)
-  pub children : children_in ch ≡ children_of (node_at b x)
+  pub node : n ≡ node_at b x
+  pub adds : own ≡ window_reach n
 
-module _ (b : List ℕ) (x own : ℕ) (ch : Children) (o : Opened b x own ch) where
-  pub opened_lower : (k : Children) → ch ≡ k → (c : ℕ) → Memᴰ c (children_in k) → (c < x) × (c < node_count b)
-  opened_lower k e c m =
-      let l : c < x = child_below b o.fit x o.inside (children_in k) (ap children_in (sym e) ∙ o.children) c m in
+pub opened : {b : List ℕ} {x own : ℕ} {n : Node} → AllFit b × (x < node_count b) → n ≡ node_at b x → own ≡ window_reach n → Opened b x own n
+opened pre node adds = record { fit = pre.0; inside = pre.1; node = node; adds = adds }
+
+module _ {b : List ℕ} {x own : ℕ} {n : Node} (o : Opened b x own n) {s : List ℕ} (e : s ≡ children_of n) where
+  children : s ≡ children_of (node_at b x)
+  children = e ∙ ap children_of o.node
+
+  pub opened_lower : {c : ℕ} → Memᴰ c s → (c < x) × (c < node_count b)
+  opened_lower {c} m =
+      let l : c < x = child_below b o.fit x o.inside s children c m in
       (l, omega (arith, o.inside))
 
-  opened_reach : (k : Children) → ch ≡ k → reach (formula_at b x) ≡ own + greatest (λ c. reach (formula_at b c)) (children_in k)
-  opened_reach k e =
-      reach_step b o.fit x o.inside (children_in k) (ap children_in (sym e) ∙ o.children)
-      ∙ ap (λ n. n + greatest (λ c. reach (formula_at b c)) (children_in k)) (sym o.adds)
+  -- the reach is what the window adds to the children's greatest
+  pub opened_reach : own + greatest (λ c. reach (formula_at b c)) s ≡ reach (formula_at b x)
+  opened_reach = ap (λ k. k + greatest (λ c. reach (formula_at b c)) s) (o.adds ∙ ap window_reach o.node) ∙ sym (reach_step b o.fit x o.inside s children)
 
-  pub opened_none : ch ≡ None → own ≡ reach (formula_at b x)
-  opened_none e = omega (arith, opened_reach None e)
-
-  pub opened_one : (a r : ℕ) → ch ≡ One a → r ≡ reach (formula_at b a) → own + r ≡ reach (formula_at b x)
-  opened_one a r e h = omega (arith, opened_reach (One a) e)
-
-  pub opened_two : (a c r q m : ℕ) → ch ≡ Two a c → r ≡ reach (formula_at b a) → q ≡ reach (formula_at b c) → m ≡ max r q → own + m ≡ reach (formula_at b x)
-  opened_two a c r q m e h k z = omega (arith, opened_reach (Two a c) e)
-
-  -- so a node's reach fits a word
+  -- and fits a word
   pub opened_small : reach (formula_at b x) ≤ longest_window * 32
   opened_small = omega (arith, reach-bound b o.fit x o.inside, o.inside, o.fit.sized.few)

@@ -13,7 +13,7 @@ ghost use Rattle.rulefile.specs.Weighing.{Sized, AllFit, weighing, NodesWeighed,
 
 use meaning::{Body, Children, Head, MOST_NODES, Node, Times};
 use rulefree::{node_fits, node_mask};
-use rulenodes::{arity_at, body_of, children_of, greater, head_at, node_of, view_of};
+use rulenodes::{arity_at, body_of, children_of, head_at, node_at, node_of, view_of};
 use ruleshape::{range_fits, shape_fits};
 
 // Nodes at most that a rule has, as a byte.
@@ -46,6 +46,7 @@ fn arity_fits(rule: &[u8], relation: u8) -> bool
     (a <= 4) & ((relation < rule[1]) | (a == 0))
 }
 
+#[tactic(auto, unfolding(meaning::specs::RuleFile::sizes_fit))]
 fn sizes_fit(rule: &[u8]) -> bool
     requires { 12 ≤ length rule.now }
     ensures { result ≡ sizes_fit rule.now }
@@ -89,8 +90,7 @@ fn count_child(uses: &mut [u8], c: u8)
     requires { (c < length uses.old) × (get_or uses.old c 0 < 255) }
     ensures { (y : ℕ) → get_or uses.new y 0 ≡ get_or uses.old y 0 + occurrences y (c ∷ []) }
 {
-    let at = c as usize;
-    uses[at] = uses[at] + 1;
+    uses[c as usize] += 1;
 }
 
 // Counts a node's children.
@@ -153,6 +153,7 @@ fn check_nodes(rule: &[u8], masks: &mut [u8]) -> Result<u8, RuleRefusal>
 }
 
 // Everything of "Check a rule" but the reach: any bytes. Where no refusal applies, the lent bytes hold the mask of each node's free variables.
+#[tactic(auto, using(crate::proofs::Answer::sized_from), unfolding(meaning::specs::RuleFile::checking))]
 fn weigh_rule(rule: &[u8], masks: &mut [u8]) -> Result<u8, RuleRefusal>
     requires { 32 ≤ length masks.old }
     ensures { Tells rule.now masks.new (checking rule.now) result }
@@ -189,10 +190,7 @@ fn window_reach(node: Node) -> u32
     let look = view.times;
     let w = view.window;
     match look {
-        Times::Here => 0,
-        Times::Before => 0,
-        Times::After => 0,
-        Times::Past => 0,
+        Times::Here | Times::Before | Times::After | Times::Past => 0,
         Times::Future => w.end,
     }
 }
@@ -202,18 +200,17 @@ fn reach_of(rule: &[u8], x: u8) -> u32
     requires { AllFit rule.now × (x < node_count rule.now) }
     ensures { result ≡ reach (formula_at rule.now x) }
 {
-    let h = head_at(rule, x);
-    let node = node_of(arity_at(rule, h.left), h, body_of(rule, x));
+    let node = node_at(rule, x);
     let own = window_reach(node);
-    let children = children_of(node);
-    match children {
+    match children_of(node) {
         Children::None => own,
         Children::One(a) => own + reach_of(rule, a),
-        Children::Two(a, b) => own + greater(reach_of(rule, a), reach_of(rule, b)),
+        Children::Two(a, b) => own + reach_of(rule, a).max(reach_of(rule, b)),
     }
 }
 
 // Checks a rule: any bytes.
+#[tactic(auto, using(crate::proofs::Accepted::accepted_fit))]
 pub fn check(rule: &[u8]) -> Result<AcceptedRule, RuleRefusal>
     ensures { answer_of result ≡ checking rule.now }
 {

@@ -8,13 +8,13 @@ ghost use Rattle.meaning.specs.RuleFile.{one_if, mask_of};
 ghost use Rattle.rulefree.specs.Mask.{variable_in, either_mask, mask_without, mask_within, sides_within, node_mask, node_fits};
 
 use meaning::{Node, Sides, Term, Terms};
-use rulenodes::{has_bit, one_if};
+use rulenodes::has_bit;
 
 // The mask of the variables whose tests hold.
 fn mask_of(a: bool, b: bool, c: bool, d: bool) -> u8
     ensures { result ≡ one_if a + 2 * one_if b + 4 * one_if c + 8 * one_if d }
 {
-    one_if(a) + 2 * one_if(b) + 4 * one_if(c) + 8 * one_if(d)
+    u8::from(a) + 2 * u8::from(b) + 4 * u8::from(c) + 8 * u8::from(d)
 }
 
 // Whether a term is variable x.
@@ -128,8 +128,7 @@ fn sides_within(s: Sides, m: u8) -> bool
 fn mask_at(masks: &[u8], c: u8) -> u8
     ensures { result ≡ get_or masks.now c 0 }
 {
-    let at = c as usize;
-    if at < masks.len() { masks[at] } else { 0 }
+    masks.get(c as usize).copied().unwrap_or(0)
 }
 
 // The mask of a node's free variables.
@@ -139,18 +138,18 @@ pub fn node_mask(masks: &[u8], node: Node) -> u8
     match node {
         Node::Atom(_, t) => atom_mask(t),
         Node::And(a, b) => either_mask(mask_at(masks, a), mask_at(masks, b)),
-        Node::AndNot(a, _) => mask_at(masks, a),
-        Node::Keep(a, _, _) => mask_at(masks, a),
-        Node::Or(a, _) => mask_at(masks, a),
         Node::Exists(a, v) => mask_without(mask_at(masks, a), v),
-        Node::Previous(a, _) => mask_at(masks, a),
-        Node::Next(a, _) => mask_at(masks, a),
-        Node::Since(_, b, _) => mask_at(masks, b),
-        Node::NotSince(_, b, _) => mask_at(masks, b),
-        Node::Until(_, b, _) => mask_at(masks, b),
-        Node::NotUntil(_, b, _) => mask_at(masks, b),
-        Node::Once(a, _) => mask_at(masks, a),
-        Node::Eventually(a, _) => mask_at(masks, a),
+        Node::AndNot(a, _)
+        | Node::Keep(a, _, _)
+        | Node::Or(a, _)
+        | Node::Previous(a, _)
+        | Node::Next(a, _)
+        | Node::Once(a, _)
+        | Node::Eventually(a, _) => mask_at(masks, a),
+        Node::Since(_, b, _)
+        | Node::NotSince(_, b, _)
+        | Node::Until(_, b, _)
+        | Node::NotUntil(_, b, _) => mask_at(masks, b),
     }
 }
 
@@ -167,15 +166,15 @@ pub fn node_fits(masks: &[u8], node: Node) -> bool
             mask_within(m, n) & mask_within(n, m)
         }
         Node::Exists(a, v) => variable_in(mask_at(masks, a), v),
-        Node::Since(a, b, _) => mask_within(mask_at(masks, a), mask_at(masks, b)),
-        Node::NotSince(a, b, _) => mask_within(mask_at(masks, a), mask_at(masks, b)),
-        Node::Until(a, b, _) => mask_within(mask_at(masks, a), mask_at(masks, b)),
-        Node::NotUntil(a, b, _) => mask_within(mask_at(masks, a), mask_at(masks, b)),
-        Node::Atom(_, _) => true,
-        Node::And(_, _) => true,
-        Node::Previous(_, _) => true,
-        Node::Next(_, _) => true,
-        Node::Once(_, _) => true,
-        Node::Eventually(_, _) => true,
+        Node::Since(a, b, _)
+        | Node::NotSince(a, b, _)
+        | Node::Until(a, b, _)
+        | Node::NotUntil(a, b, _) => mask_within(mask_at(masks, a), mask_at(masks, b)),
+        Node::Atom(_, _)
+        | Node::And(_, _)
+        | Node::Previous(_, _)
+        | Node::Next(_, _)
+        | Node::Once(_, _)
+        | Node::Eventually(_, _) => true,
     }
 }

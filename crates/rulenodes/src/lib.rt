@@ -113,8 +113,7 @@ pub fn body_of(rule: &[u8], x: u8) -> Body
 pub fn arity_at(rule: &[u8], r: u8) -> u8
     ensures { result ≡ arity rule.now r }
 {
-    let at = 4 + (r as usize);
-    if at < rule.len() { rule[at] } else { 0 }
+    rule.get(4 + (r as usize)).copied().unwrap_or(0)
 }
 
 // Bit k of a mask, with p the k-th power of 2.

@@ -8,7 +8,7 @@ pub weigh_nodes-requires : goal.weigh_nodes-requires
 weigh_nodes-requires c = (c.requires.0, c.requires.1, search rules, zeros 32)
 
 pub returns-in-Some : goal.returns-in-Some
-returns-in-Some c = tells_stray c.args.rule.now _ _ _ c.in_ok-mask.ensures c.first_stray.result c.first_stray.ensures c.in-Some.y c.in-Some.is
+returns-in-Some c = tells_stray c.in_ok-mask.ensures c.in-Some.ensures
 
 pub returns-in-None : goal.returns-in-None
-returns-in-None c = tells_free c.args.rule.now _ _ _ c.in_ok-mask.ensures c.first_stray.result c.first_stray.ensures c.in-None.is
+returns-in-None c = tells_free c.in_ok-mask.ensures c.in-None.ensures
