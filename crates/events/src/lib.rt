@@ -93,7 +93,7 @@ fn row_fits(rule: &[u8], event: &[u32], m: u32, k: u32) -> bool
     ensures { result ≡ row_fits rule.now event.now k }
 {
     let relation = event[2 + (k as usize)];
-    if rulenodes::wide(rule[1]) <= relation {
+    if u32::from(rule[1]) <= relation {
         return false;
     }
     let at = 2 + (m as usize) + 4 * (k as usize);

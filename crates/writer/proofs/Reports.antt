@@ -10,7 +10,6 @@ use Rattle.meaning.specs.Lists.{range, select, gather, total}
 use Rattle.meaning.specs.Log.{point, points_from}
 use Rattle.meaning.specs.Formula.{variables}
 use Rattle.meaning.specs.Report.{Reported, triple, row_words, report_words}
-use Rattle.meaning.specs.RuleFile.{one_if}
 use Rattle.meaning.specs.Keeper.{report_row}
 use Rattle.meaning.specs.declared.Point.{Point}
 use Rattle.meaning.specs.declared.Stamp.{Stamp}
@@ -26,33 +25,6 @@ use Rattle.kinds.specs.Kinds.{in_mask}
 use Rattle.writer.specs.declared.Points.{Points}
 use Rattle.writer.specs.declared.Part.TheVariants.{Sizes, Triples, Rows}
 use Rattle.writer.specs.Words.{free_count, points_of, set_of, first_set, end_set, first_row, end_row, triple_at, part_words, reported_from, words, Marked, Reportable}
-
--- one more where the test passed
-select_one : (f : ℕ → Bool) (x : ℕ) (xs : List ℕ) → length (select f (x ∷ xs)) ≡ one_if (f x) + length (select f xs)
-select_one f x xs = by_test (f x)
-  where
-    by_test : (t : Bool) → length (cond t (x ∷ select f xs) (select f xs)) ≡ one_if t + length (select f xs)
-    by_test true = omega arith
-    by_test false = omega arith
-
--- a test that counts one
-counted : {a : ℕ} {p t : Bool} → a ≡ one_if p → p ≡ t → a ≡ one_if t
-counted e f = cc
-
--- four variables, each counted by its test
-pub count_four : (mask : ℕ) {a b c d : ℕ} {p q r t : Bool} → a ≡ one_if p → p ≡ in_mask mask 0 → b ≡ one_if q → q ≡ in_mask mask 1 → c ≡ one_if r → r ≡ in_mask mask 2 → d ≡ one_if t → t ≡ in_mask mask 3 → a + (b + (c + d)) ≡ free_count mask
-count_four mask e0 f0 e1 f1 e2 f2 e3 f3 =
-    omega (
-      arith,
-      counted e0 f0,
-      counted e1 f1,
-      counted e2 f2,
-      counted e3 f3,
-      select_one (in_mask mask) 0 (1 ∷ 2 ∷ 3 ∷ []),
-      select_one (in_mask mask) 1 (2 ∷ 3 ∷ []),
-      select_one (in_mask mask) 2 (3 ∷ []),
-      select_one (in_mask mask) 3 [],
-    )
 
 -- a report's row has a word for each free variable
 row_words_lem : (f : ℕ → Bool) (u xs : List ℕ) → length (gather (λ x. cond (f x) (get_or u x 0 ∷ []) []) xs) ≡ length (select f xs)

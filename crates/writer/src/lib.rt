@@ -13,7 +13,7 @@ ghost use Rattle.writer.specs.Puts.{Put, handed, wrote, written_to};
 use meaning::{Point, Stamp};
 use progress::Retained;
 use rowset::Row;
-use rulenodes::{has_bit, one_if};
+use rulenodes::has_bit;
 
 // What a report is on: `count` points from `from` on, and the mask of the free variables. Set `first` of those lent is that of point `low`, and the first time lent is that of point `base`.
 #[derive(Clone, Copy)]
@@ -44,11 +44,10 @@ pub struct Short {
 fn free_count(mask: u8) -> u32
     ensures { (result ≡ free_count mask) × (result ≤ 4) }
 {
-    let a = one_if(has_bit(mask, 1));
-    let b = one_if(has_bit(mask, 2));
-    let c = one_if(has_bit(mask, 4));
-    let d = one_if(has_bit(mask, 8));
-    rulenodes::wide(a + (b + (c + d)))
+    u32::from(has_bit(mask, 1))
+        + u32::from(has_bit(mask, 2))
+        + u32::from(has_bit(mask, 4))
+        + u32::from(has_bit(mask, 8))
 }
 
 // The set of point i.
