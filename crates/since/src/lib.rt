@@ -96,7 +96,9 @@ fn put_fresh(
     let end = Point(i.0 + 1);
     let mut k = 0;
     for j in (start.0..end.0).rev() {
-        let ok = untils::due(asks.window, retained.time(Point(j)), here);
+        if !untils::due(asks.window, retained.time(Point(j)), here) {
+            continue;
+        }
         let rows = sets.part(&of.right, Point(j));
         let after = Point(j + 1);
         let lead = Lead {
@@ -106,7 +108,7 @@ fn put_fresh(
             from: after,
             end,
         };
-        k = untils::put_if(ok, of.lowest, &lead, rows, out, k);
+        k = untils::put_leading(of.lowest, &lead, rows, out, k);
     }
     k
 }
@@ -268,29 +270,6 @@ fn add_point(
     }
 }
 
-// The same where the age is before the window's end, as it counts.
-fn add_point_below(
-    lowest: u32,
-    w: Window,
-    age: u32,
-    lead: &Lead,
-    rows: Part,
-    ages: &mut [u32],
-    values: &mut [u32],
-    set: Gathered,
-) -> Gathered
-    requires run { Run lead.now.sets.rows.now rows.from rows.to }
-    requires pair_room { PairRoom lowest ages.old values.old set }
-    ensures { PairsAdded lowest ages.old values.old set ages.new values.new result (cond (below_end w age) (map (λ u. counted_age w age ∷ u) (select (leads lead.now.left lead.now.a.now (sets_of lead.now.sets lead.now.a.now) lead.now.from lead.now.end) (rows_from lead.now.sets.rows.now rows.from (rows.to - rows.from)))) []) }
-{
-    let bounds = bounds_of(w);
-    if u64::from(age) < bounds.below {
-        let counted = pairs::at_most(bounds.most, u64::from(age));
-        return add_point(lowest, lead, rows, counted, ages, values, set);
-    }
-    set
-}
-
 // The pairs at point i that right's rows from point start on give, put into none, the last point first.
 fn add_fresh(
     asks: Asks,
@@ -309,9 +288,14 @@ fn add_fresh(
 {
     let here = retained.time(i);
     let end = Point(i.0 + 1);
+    let bounds = bounds_of(asks.window);
     let mut g = Gathered { count: 0, near: 0 };
     for j in (start.0..end.0).rev() {
-        let age = untils::elapsed(retained.time(Point(j)), here);
+        let age = u64::from(untils::elapsed(retained.time(Point(j)), here));
+        if bounds.below <= age {
+            continue;
+        }
+        let counted = pairs::at_most(bounds.most, age);
         let rows = sets.part(&of.right, Point(j));
         let lead = Lead {
             left: asks.left,
@@ -320,7 +304,7 @@ fn add_fresh(
             from: Point(j + 1),
             end,
         };
-        g = add_point_below(of.lowest, asks.window, age, &lead, rows, ages, values, g);
+        g = add_point(of.lowest, &lead, rows, counted, ages, values, g);
     }
     g
 }

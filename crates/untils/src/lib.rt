@@ -116,18 +116,6 @@ pub fn put_leading(lowest: u32, lead: &Lead, rows: Part, out: &mut [u32], n: usi
     set.count
 }
 
-// The same where the test passed.
-pub fn put_if(ok: bool, lowest: u32, lead: &Lead, rows: Part, out: &mut [u32], n: usize) -> usize
-    requires run { Run lead.now.sets.rows.now rows.from rows.to }
-    requires set_room { SetRoom out.old n }
-    ensures { Added lowest out.old n out.new result (cond ok (select (leads lead.now.left lead.now.a.now (sets_of lead.now.sets lead.now.a.now) lead.now.from lead.now.end) (rows_from lead.now.sets.rows.now rows.from (rows.to - rows.from))) []) }
-{
-    if ok {
-        return put_leading(lowest, lead, rows, out, n);
-    }
-    n
-}
-
 // The node's set at point j has a row, and the window holds what has elapsed from a stamp to that point. Most sets are empty, and are passed over by their marks alone.
 fn due_there(rows: Part, retained: Retained, w: Window, start: Stamp, j: Point) -> bool
     ensures { result ≡ cond (eqb rows.from rows.to) false (due_at (stamps_of retained.entry) w start j) }
@@ -155,7 +143,9 @@ pub fn until(
     for j in i.0..m {
         let here = Point(j);
         let rows = sets.part(&of.right, here);
-        let ok = due_there(rows, retained, asks.window, start, here);
+        if !due_there(rows, retained, asks.window, start, here) {
+            continue;
+        }
         let lead = Lead {
             left: asks.left,
             a: &of.left,
@@ -163,7 +153,7 @@ pub fn until(
             from: i,
             end: here,
         };
-        k = put_if(ok, of.lowest, &lead, rows, out, k);
+        k = put_leading(of.lowest, &lead, rows, out, k);
     }
     k
 }
