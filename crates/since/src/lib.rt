@@ -103,7 +103,7 @@ fn put_fresh(
         let after = Point(j + 1);
         let lead = Lead {
             left: asks.left,
-            a: &of.left,
+            a: of.left,
             sets,
             from: after,
             end,
@@ -158,7 +158,7 @@ fn put_aged(lowest: u32, w: Window, by: u32, held: Held, out: &mut [u32], n: usi
 
 // The age is in the window, and left passes for the row.
 fn stays(b: Bounds, age: u64, lead: &Lead, u: Row) -> bool
-    ensures { result ≡ ((leb b.from age && ltb age b.below) && (leads lead.now.left lead.now.a.now (sets_of lead.now.sets lead.now.a.now) lead.now.from lead.now.end) (words_of u)) }
+    ensures { result ≡ ((leb b.from age && ltb age b.below) && (leads lead.now.left lead.now.a (sets_of lead.now.sets lead.now.a) lead.now.from lead.now.end) (words_of u)) }
 {
     within(b, age) && lead.passes(u)
 }
@@ -174,7 +174,7 @@ fn put_older(
     n: usize,
 ) -> usize
     requires { SetRoom out.old n }
-    ensures { RowsPut lowest out.old n out.new result (older_rows w by (leads lead.now.left lead.now.a.now (sets_of lead.now.sets lead.now.a.now) lead.now.from lead.now.end) (held_in held.entry.ages.now held.entry.values.now)) }
+    ensures { RowsPut lowest out.old n out.new result (older_rows w by (leads lead.now.left lead.now.a (sets_of lead.now.sets lead.now.a) lead.now.from lead.now.end) (held_in held.entry.ages.now held.entry.values.now)) }
 {
     let bounds = bounds_of(w);
     let mut set = Gathered { count: n, near: 0 };
@@ -204,17 +204,19 @@ pub fn rows_at(
     ensures { SetMade out.new result (set_of of.now.lowest (rows_in asks.left sets.entry.rows.now sets.entry.at.now retained.entry.times.now retained.entry.base asks.window of.now.left of.now.right (held_in held.entry.ages.now held.entry.values.now) held.entry.start i)) }
 {
     let by = grown_by(retained, held.start, i);
-    let lead = Lead {
-        left: asks.left,
-        a: &of.left,
-        sets,
-        from: held.start,
-        end: Point(i.0 + 1),
-    };
     let n = put_fresh(asks, of, sets, retained, held.start, i, out);
     match asks.left {
         Left::Always => put_aged(of.lowest, asks.window, by, held, out, n),
-        _ => put_older(of.lowest, asks.window, &lead, by, held, out, n),
+        _ => {
+            let lead = Lead {
+                left: asks.left,
+                a: of.left,
+                sets,
+                from: held.start,
+                end: Point(i.0 + 1),
+            };
+            put_older(of.lowest, asks.window, &lead, by, held, out, n)
+        }
     }
 }
 
@@ -230,7 +232,7 @@ fn add_lasting(
 ) -> Gathered
     requires run { Run lead.now.sets.rows.now rows.from rows.to }
     requires pair_room { PairRoom lowest ages.old values.old set }
-    ensures { PairsAdded lowest ages.old values.old set ages.new values.new result (map (λ u. age ∷ u) (select (leads lead.now.left lead.now.a.now (sets_of lead.now.sets lead.now.a.now) lead.now.from lead.now.end) (rows_from lead.now.sets.rows.now rows.from (rows.to - rows.from)))) }
+    ensures { PairsAdded lowest ages.old values.old set ages.new values.new result (map (λ u. age ∷ u) (select (leads lead.now.left lead.now.a (sets_of lead.now.sets lead.now.a) lead.now.from lead.now.end) (rows_from lead.now.sets.rows.now rows.from (rows.to - rows.from)))) }
 {
     let mut g = set;
     for x in rows.from..rows.to {
@@ -253,7 +255,7 @@ fn add_point(
 ) -> Gathered
     requires run { Run lead.now.sets.rows.now rows.from rows.to }
     requires pair_room { PairRoom lowest ages.old values.old set }
-    ensures { PairsAdded lowest ages.old values.old set ages.new values.new result (map (λ u. age ∷ u) (select (leads lead.now.left lead.now.a.now (sets_of lead.now.sets lead.now.a.now) lead.now.from lead.now.end) (rows_from lead.now.sets.rows.now rows.from (rows.to - rows.from)))) }
+    ensures { PairsAdded lowest ages.old values.old set ages.new values.new result (map (λ u. age ∷ u) (select (leads lead.now.left lead.now.a (sets_of lead.now.sets lead.now.a) lead.now.from lead.now.end) (rows_from lead.now.sets.rows.now rows.from (rows.to - rows.from)))) }
 {
     match lead.left {
         Left::Always => pairs::add_young(
@@ -299,7 +301,7 @@ fn add_fresh(
         let rows = sets.part(&of.right, Point(j));
         let lead = Lead {
             left: asks.left,
-            a: &of.left,
+            a: of.left,
             sets,
             from: Point(j + 1),
             end,
@@ -376,7 +378,7 @@ fn add_older(
     set: Gathered,
 ) -> Gathered
     requires { PairRoom lowest ages.old values.old set }
-    ensures { PairsAdded lowest ages.old values.old set ages.new values.new result (cond (ltb age bounds.below && (leads lead.now.left lead.now.a.now (sets_of lead.now.sets lead.now.a.now) lead.now.from lead.now.end) (words_of r)) ((min age bounds.most ∷ words_of r) ∷ []) []) }
+    ensures { PairsAdded lowest ages.old values.old set ages.new values.new result (cond (ltb age bounds.below && (leads lead.now.left lead.now.a (sets_of lead.now.sets lead.now.a) lead.now.from lead.now.end) (words_of r)) ((min age bounds.most ∷ words_of r) ∷ []) []) }
 {
     if lead.passes(r) {
         return add_aged(lowest, bounds, age, r, ages, values, set);
@@ -396,7 +398,7 @@ fn add_all_older(
     set: Gathered,
 ) -> Gathered
     requires { PairRoom lowest ages.old values.old set }
-    ensures { PairsAdded lowest ages.old values.old set ages.new values.new result (older_pairs w by (leads lead.now.left lead.now.a.now (sets_of lead.now.sets lead.now.a.now) lead.now.from lead.now.end) (held_in held.entry.ages.now held.entry.values.now)) }
+    ensures { PairsAdded lowest ages.old values.old set ages.new values.new result (older_pairs w by (leads lead.now.left lead.now.a (sets_of lead.now.sets lead.now.a) lead.now.from lead.now.end) (held_in held.entry.ages.now held.entry.values.now)) }
 {
     let bounds = bounds_of(w);
     let mut g = set;
@@ -426,17 +428,19 @@ pub fn pairs_at(
     ensures { PairsPut ages.old values.old ages.new values.new result (set_of (suc of.now.lowest) (pairs_in asks.left sets.entry.rows.now sets.entry.at.now retained.entry.times.now retained.entry.base asks.window of.now.left of.now.right (held_in held.entry.ages.now held.entry.values.now) held.entry.start i)) }
 {
     let by = grown_by(retained, held.start, i);
-    let lead = Lead {
-        left: asks.left,
-        a: &of.left,
-        sets,
-        from: held.start,
-        end: Point(i.0 + 1),
-    };
     let set = add_fresh(asks, of, sets, retained, held.start, i, ages, values);
     let all = match asks.left {
         Left::Always => add_all_aged(of.lowest, asks.window, by, held, ages, values, set),
-        _ => add_all_older(of.lowest, asks.window, &lead, by, held, ages, values, set),
+        _ => {
+            let lead = Lead {
+                left: asks.left,
+                a: of.left,
+                sets,
+                from: held.start,
+                end: Point(i.0 + 1),
+            };
+            add_all_older(of.lowest, asks.window, &lead, by, held, ages, values, set)
+        }
     };
     all.count
 }

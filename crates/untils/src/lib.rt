@@ -72,20 +72,20 @@ pub fn found_at(sets: CallSets, a: &Child, k: Point, r: Row) -> bool
 #[derive(Clone, Copy)]
 pub struct Lead<'a> {
     pub left: Left,
-    pub a: &'a Child,
+    pub a: Child,
     pub sets: CallSets<'a>,
     pub from: Point,
     pub end: Point,
-    pub ghost stand: { Stands sets a.now from end.0 },
+    pub ghost stand: { Stands sets a from end.0 },
 }
 
 impl Lead<'_> {
     // Left passes at each of the points for a row that is cut down already.
     fn passes_cut(&self, r: Row) -> bool
-        ensures { result ≡ all (passes_at self.now.left self.now.a.now.lowest (sets_of self.now.sets self.now.a.now) (words_of r)) (points_from self.now.from (self.now.end.0 - self.now.from.0)) }
+        ensures { result ≡ all (passes_at self.now.left self.now.a.lowest (sets_of self.now.sets self.now.a) (words_of r)) (points_from self.now.from (self.now.end.0 - self.now.from.0)) }
     {
         for k in self.from.0..self.end.0 {
-            let found = found_at(self.sets, self.a, Point(k), r);
+            let found = found_at(self.sets, &self.a, Point(k), r);
             if !passes(self.left, found) {
                 return false;
             }
@@ -95,7 +95,7 @@ impl Lead<'_> {
 
     // Left passes at each of the points for row u; nothing is looked up where nothing is asked.
     pub fn passes(&self, u: Row) -> bool
-        ensures { result ≡ leads self.now.left self.now.a.now (sets_of self.now.sets self.now.a.now) self.now.from self.now.end (words_of u) }
+        ensures { result ≡ leads self.now.left self.now.a (sets_of self.now.sets self.now.a) self.now.from self.now.end (words_of u) }
     {
         matches!(self.left, Left::Always) || self.passes_cut(kinds::cut(self.a.mask, u))
     }
@@ -105,7 +105,7 @@ impl Lead<'_> {
 pub fn put_leading(lowest: u32, lead: &Lead, rows: Part, out: &mut [u32], n: usize) -> usize
     requires run { Run lead.now.sets.rows.now rows.from rows.to }
     requires set_room { SetRoom out.old n }
-    ensures { Added lowest out.old n out.new result (select (leads lead.now.left lead.now.a.now (sets_of lead.now.sets lead.now.a.now) lead.now.from lead.now.end) (rows_from lead.now.sets.rows.now rows.from (rows.to - rows.from))) }
+    ensures { Added lowest out.old n out.new result (select (leads lead.now.left lead.now.a (sets_of lead.now.sets lead.now.a) lead.now.from lead.now.end) (rows_from lead.now.sets.rows.now rows.from (rows.to - rows.from))) }
 {
     let mut set = Gathered { count: n, near: 0 };
     for x in rows.from..rows.to {
@@ -148,7 +148,7 @@ pub fn until(
         }
         let lead = Lead {
             left: asks.left,
-            a: &of.left,
+            a: of.left,
             sets,
             from: i,
             end: here,

@@ -17,7 +17,7 @@ pub loop-x-preserved : goal.loop-x-preserved
 loop-x-preserved c = let a = c.args in
     let l = a.lead.now in
     let b = c.bounds_of-bounds.ensures in
-    pair_turned a.by (leads l.left l.a.now (sets_of l.sets l.a.now) l.from l.end) a.w a.held.ages.now a.held.values.now (omega arith) b.1 b.2 c.loop-x.invariant c.loop-x-test.true (rw (c.from.ensures, c.from-in-loop-x.ensures) at c.add_older-g.ensures) refl c.row_at-r.ensures
+    pair_turned a.by (leads l.left l.a (sets_of l.sets l.a) l.from l.end) a.w a.held.ages.now a.held.values.now (omega arith) b.1 b.2 c.loop-x.invariant c.loop-x-test.true (rw (c.from.ensures, c.from-in-loop-x.ensures) at c.add_older-g.ensures) refl c.row_at-r.ensures
 
 pub returns : goal.returns
 returns c = ended c.loop-x.invariant refl c.loop-x-test.false

@@ -17,6 +17,6 @@ loop-x-init c = starts c.requires.run.ordered (add_none c.requires.pair_room)
 
 pub loop-x-preserved : goal.loop-x-preserved
 loop-x-preserved c = let l = c.args.lead.now in
-    let p : List ℕ → Bool = (leads l.left l.a.now (sets_of l.sets l.a.now) l.from l.end) in
+    let p : List ℕ → Bool = (leads l.left l.a (sets_of l.sets l.a) l.from l.end) in
     goes_on c.loop-x.invariant (λ u. cond (p u) ((c.args.age ∷ u) ∷ []) []) (map_select_one p (λ u. c.args.age ∷ u)) c.loop-x-test.true (pairs_then c.add_if-g.ensures)
     (chosen p (λ u. c.args.age ∷ u) c.passes-ok.ensures refl c.row_at-r.ensures)

@@ -8,4 +8,4 @@ use Rattle.since.proofs.add_point.Goals as goal
 
 pub returns-in-Always : goal.returns-in-Always
 returns-in-Always c = let l = c.args.lead.now in
-    pairs_as c.add_young.ensures (ap (map (λ u. c.args.age ∷ u)) (every_row c.in-Always.is l.a.now (sets_of l.sets l.a.now) l.from l.end _))
+    pairs_as c.add_young.ensures (ap (map (λ u. c.args.age ∷ u)) (every_row c.in-Always.is l.a (sets_of l.sets l.a) l.from l.end _))

@@ -16,7 +16,7 @@ pub loop-x-preserved : goal.loop-x-preserved
 loop-x-preserved c = let a = c.args in
     let l = a.lead.now in
     let b = c.bounds_of-bounds.ensures in
-    row_turned a.by (leads l.left l.a.now (sets_of l.sets l.a.now) l.from l.end) a.w a.held.ages.now a.held.values.now (omega arith) b.0 b.1 c.loop-x.invariant c.loop-x-test.true c.add_if-set.ensures (rw (c.from.ensures, c.from-in-loop-x.ensures) at c.stays-ok.ensures) c.row_at-r.ensures
+    row_turned a.by (leads l.left l.a (sets_of l.sets l.a) l.from l.end) a.w a.held.ages.now a.held.values.now (omega arith) b.0 b.1 c.loop-x.invariant c.loop-x-test.true c.add_if-set.ensures (rw (c.from.ensures, c.from-in-loop-x.ensures) at c.stays-ok.ensures) c.row_at-r.ensures
 
 pub returns : goal.returns
 returns c = let h = (ended c.loop-x.invariant refl c.loop-x-test.false).added in

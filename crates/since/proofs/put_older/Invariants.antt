@@ -7,5 +7,5 @@ use Rattle.since.proofs.put_older.Given as goal
 
 -- `put_older` meets its contract: the row of each held pair that stays is put in.
 abbrev pub invariant-loop-x : goal.invariant-loop-x
-invariant-loop-x l = Gathering l.lowest (pair_at l.held.ages.now l.held.values.now) (older_rows l.fn.w l.by (leads l.lead.left l.lead.a.now (sets_of l.lead.sets l.lead.a.now) l.lead.from l.lead.end)) l.x-end l.initial.out l.initial.set
-    (older_rows l.fn.w l.by (leads l.lead.left l.lead.a.now (sets_of l.lead.sets l.lead.a.now) l.lead.from l.lead.end) (pairs_from l.held.ages.now l.held.values.now 0 l.x-end)) l.out l.set l.x
+invariant-loop-x l = Gathering l.lowest (pair_at l.held.ages.now l.held.values.now) (older_rows l.fn.w l.by (leads l.lead.left l.lead.a (sets_of l.lead.sets l.lead.a) l.lead.from l.lead.end)) l.x-end l.initial.out l.initial.set
+    (older_rows l.fn.w l.by (leads l.lead.left l.lead.a (sets_of l.lead.sets l.lead.a) l.lead.from l.lead.end) (pairs_from l.held.ages.now l.held.values.now 0 l.x-end)) l.out l.set l.x

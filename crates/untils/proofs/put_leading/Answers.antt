@@ -15,6 +15,6 @@ loop-x-init c = gathers_from c.requires.run.ordered (gather_from c.requires.set_
 
 pub loop-x-preserved : goal.loop-x-preserved
 loop-x-preserved c = let a = c.args.lead.now in
-    let p : List ℕ → Bool = leads a.left a.a.now (sets_of a.sets a.a.now) a.from a.end in
+    let p : List ℕ → Bool = leads a.left a.a (sets_of a.sets a.a) a.from a.end in
     gathers_on c.loop-x.invariant (λ u. cond (p u) (u ∷ []) []) (select_one p) c.loop-x-test.true c.add_if-set.ensures
     (chosen p (λ u. u) c.passes-ok.ensures refl c.row_at-u.ensures)
