@@ -2,6 +2,7 @@
 #![tactic(auto)]
 
 ghost use Rattle.std.specs.Prelude.{◌≡◌, true, ℕ, ◌+◌, ◌≤◌, ◌<◌, length, get_or};
+ghost use Rattle.std.specs.List.{list_all, range_with_len};
 ghost use mathlib.Core.List.{[], ◌∷◌, Memᴰ};
 ghost use Rattle.meaning.specs.Lists.{occurrences};
 ghost use Rattle.meaning.specs.Formula.{reach};
@@ -46,16 +47,24 @@ fn arity_fits(rule: &[u8], relation: u8) -> bool
     (a <= 4) & ((relation < rule[1]) | (a == 0))
 }
 
+fn arities_fit(rule: &[u8]) -> bool
+    requires { 12 ≤ length rule.now }
+    ensures { result ≡ list_all (arity_fits rule.now) (range_with_len 0 8) }
+{
+    (0..8).all(|relation| arity_fits(rule, relation))
+}
+
 #[tactic(auto, unfolding(meaning::specs::RuleFile::sizes_fit))]
 fn sizes_fit(rule: &[u8]) -> bool
     requires { 12 ≤ length rule.now }
     ensures { result ≡ sizes_fit rule.now }
 {
-    let later = arity_fits(rule, 4)
-        & (arity_fits(rule, 5) & (arity_fits(rule, 6) & arity_fits(rule, 7)));
-    let arities = arity_fits(rule, 0)
-        & (arity_fits(rule, 1) & (arity_fits(rule, 2) & (arity_fits(rule, 3) & later)));
-    (1 <= rule[1]) & (rule[1] <= 8) & (1 <= rule[2]) & (rule[2] <= NODES) & (rule[3] == 0) & arities
+    (1 <= rule[1])
+        & (rule[1] <= 8)
+        & (1 <= rule[2])
+        & (rule[2] <= NODES)
+        & (rule[3] == 0)
+        & arities_fit(rule)
 }
 
 // The mask of node x, of this head and body, with the masks of the nodes below it; or refusal 4, 5 or 6.
@@ -70,16 +79,13 @@ fn weigh_node(
     requires { 12 ≤ length rule.now }
     ensures { result ≡ weighing rule.now x h w node masks.now }
 {
-    let shape = shape_fits(rule, x, h, w);
-    let window = range_fits(h, w);
-    let free = node_fits(masks, node);
-    if !shape {
+    if !shape_fits(rule, x, h, w) {
         return Err(RuleRefusal::Misshapen(x));
     }
-    if !window {
+    if !range_fits(h, w) {
         return Err(RuleRefusal::WindowOut(x));
     }
-    if !free {
+    if !node_fits(masks, node) {
         return Err(RuleRefusal::FreeBroken(x));
     }
     Ok(node_mask(masks, node))
