@@ -39,6 +39,7 @@ pub enum RuleRefusal {
     NotOneParent(u8),
 }
 
+// Whether a relation's arity is at most 4, and 0 beyond the relations of the rule.
 fn arity_fits(rule: &[u8], relation: u8) -> bool
     requires { 12 ≤ length rule.now }
     ensures { result ≡ arity_fits rule.now relation }
@@ -47,6 +48,7 @@ fn arity_fits(rule: &[u8], relation: u8) -> bool
     (a <= 4) & ((relation < rule[1]) | (a == 0))
 }
 
+// Whether the eight arities fit.
 fn arities_fit(rule: &[u8]) -> bool
     requires { 12 ≤ length rule.now }
     ensures { result ≡ list_all (arity_fits rule.now) (range_with_len 0 8) }
@@ -54,6 +56,7 @@ fn arities_fit(rule: &[u8]) -> bool
     (0..8).all(|relation| arity_fits(rule, relation))
 }
 
+// Whether the sizes, but for the length, pass 3.
 #[tactic(auto, unfolding(meaning::specs::RuleFile::sizes_fit))]
 fn sizes_fit(rule: &[u8]) -> bool
     requires { 12 ≤ length rule.now }
@@ -128,8 +131,7 @@ fn weigh_nodes(rule: &[u8], masks: &mut [u8], uses: &mut [u8]) -> Result<u8, Rul
         masks[x as usize] = mask;
         count_children(uses, children_of(node));
     }
-    let last = (n - 1) as usize;
-    Ok(masks[last])
+    Ok(masks[n as usize - 1])
 }
 
 // The lowest node below n that isn't a child exactly once.
@@ -193,11 +195,9 @@ fn window_reach(node: Node) -> u32
     ensures { result ≡ window_reach node }
 {
     let view = view_of(node);
-    let look = view.times;
-    let w = view.window;
-    match look {
+    match view.times {
         Times::Here | Times::Before | Times::After | Times::Past => 0,
-        Times::Future => w.end,
+        Times::Future => view.window.end,
     }
 }
 

@@ -32,12 +32,9 @@ fn atom_names(t: Terms, x: u32) -> bool
     ensures { result ≡ any (is_variable x) (terms_of t) }
 {
     let n = t.count;
-    let first = t.first;
-    let second = t.second;
-    let third = t.third;
-    let fourth = t.fourth;
-    let later = ((2 < n) & names(third, x)) | ((3 < n) & names(fourth, x));
-    ((0 < n) & names(first, x)) | (((1 < n) & names(second, x)) | later)
+    ((0 < n) & names(t.first, x))
+        | (((1 < n) & names(t.second, x))
+            | (((2 < n) & names(t.third, x)) | ((3 < n) & names(t.fourth, x))))
 }
 
 // The mask of a term's variable; 0 for a constant.
@@ -47,13 +44,12 @@ fn term_mask(t: Term) -> u8
     mask_of(names(t, 0), names(t, 1), names(t, 2), names(t, 3))
 }
 
-// Most atoms have one term, and are then asked for no other.
+// The mask of an atom's variables. Most atoms have one term, and are then asked for no other.
 fn atom_mask(t: Terms) -> u8
     ensures { result ≡ mask_of (λ x. any (is_variable x) (terms_of t)) }
 {
-    let first = t.first;
     if t.count == 1 {
-        return term_mask(first);
+        return term_mask(t.first);
     }
     mask_of(
         atom_names(t, 0),
@@ -63,6 +59,7 @@ fn atom_mask(t: Terms) -> u8
     )
 }
 
+// The variables of m and those of n.
 fn either_mask(m: u8, n: u8) -> u8
     ensures { result ≡ either_mask m n }
 {
@@ -74,6 +71,7 @@ fn either_mask(m: u8, n: u8) -> u8
     )
 }
 
+// The variables of m but v.
 fn mask_without(m: u8, v: u32) -> u8
     ensures { result ≡ mask_without m v }
 {
@@ -85,6 +83,7 @@ fn mask_without(m: u8, v: u32) -> u8
     )
 }
 
+// Whether variable v, below 4, is among those of m.
 fn variable_in(m: u8, v: u32) -> bool
     ensures { result ≡ variable_in m v }
 {
@@ -107,6 +106,7 @@ fn mask_within(m: u8, n: u8) -> bool
     first & (second & (third & fourth))
 }
 
+// Whether a term's variable, if it has one, is among those of m.
 fn term_within(t: Term, m: u8) -> bool
     ensures { result ≡ term_within t (variable_in m) }
 {
@@ -116,12 +116,11 @@ fn term_within(t: Term, m: u8) -> bool
     }
 }
 
+// Whether the variables of both sides are among those of m.
 fn sides_within(s: Sides, m: u8) -> bool
     ensures { result ≡ sides_within s m }
 {
-    let first = s.first;
-    let second = s.second;
-    term_within(first, m) & term_within(second, m)
+    term_within(s.first, m) & term_within(s.second, m)
 }
 
 // The mask of node c; 0 past the end.

@@ -136,6 +136,7 @@ fn term_of(mask: u8, p: u8, w: u32) -> Term
     }
 }
 
+// The comparison of "keep", by its number.
 fn comparison_of(n: u8) -> Comparison
     ensures { result ≡ comparison_of n }
 {
@@ -154,6 +155,7 @@ fn shifted_by(w: u32) -> Comparison
     Comparison::ShiftedLess(twos_complement(w))
 }
 
+// An atom's terms, as many as its relation's arity.
 fn terms_of(count: u8, mask: u8, w: Body) -> Terms
     ensures { result ≡ terms_of_body count mask w }
 {
@@ -310,8 +312,7 @@ pub fn view_of(node: Node) -> View
 pub fn children_of(node: Node) -> Children
     ensures { children_in result ≡ children_of node }
 {
-    let v = view_of(node);
-    v.children
+    view_of(node).children
 }
 
 // The children by the head alone, whatever its relation's arity and the node's body.

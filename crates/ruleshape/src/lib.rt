@@ -10,7 +10,7 @@ use rulenodes::{Kind, arity_at, has_bit};
 // The longest window, in seconds.
 const LONGEST: u32 = 604800;
 
-// Word k of an atom of arity a, with p the k-th power of 2.
+// Whether word k of an atom of arity a is a term or, past the arity, is 0; with p the k-th power of 2.
 fn atom_word_fits(a: u8, mask: u8, k: u8, p: u8, w: u32) -> bool
     requires { 0 < p }
     ensures { result ≡ atom_word_fits a mask k p w }
@@ -23,6 +23,7 @@ fn atom_word_fits(a: u8, mask: u8, k: u8, p: u8, w: u32) -> bool
     }
 }
 
+// Whether an atom's fields fit.
 fn atom_fits(rule: &[u8], h: Head, w: Body) -> bool
     requires { 12 ≤ length rule.now }
     ensures { result ≡ atom_fits rule.now h w }
@@ -37,6 +38,7 @@ fn atom_fits(rule: &[u8], h: Head, w: Body) -> bool
         & atom_word_fits(a, h.mask, 3, 8, w.word3)
 }
 
+// Whether the fields of a kind with two children and no window fit.
 fn two_fit(x: u8, h: Head, w: Body) -> bool
     ensures { result ≡ two_fit x h w }
 {
@@ -49,7 +51,7 @@ fn two_fit(x: u8, h: Head, w: Body) -> bool
         & (w.word3 == 0)
 }
 
-// The two terms that "keep" and "keep-shifted" compare.
+// Whether the two terms that "keep" and "keep-shifted" compare fit.
 fn sides_fit(h: Head, w: Body) -> bool
     ensures { result ≡ sides_fit h w }
 {
@@ -59,18 +61,21 @@ fn sides_fit(h: Head, w: Body) -> bool
         & (w.word3 == 0)
 }
 
+// Whether the fields of "keep" fit.
 fn keep_fits(x: u8, h: Head, w: Body) -> bool
     ensures { result ≡ keep_fits x h w }
 {
     (h.left < x) & (h.right <= 3) & sides_fit(h, w) & (w.word2 == 0)
 }
 
+// Whether the fields of "keep-shifted" fit.
 fn shifted_fits(x: u8, h: Head, w: Body) -> bool
     ensures { result ≡ shifted_fits x h w }
 {
     (h.left < x) & (h.right == 0) & sides_fit(h, w)
 }
 
+// Whether the fields of "exists" fit.
 fn exists_fits(x: u8, h: Head, w: Body) -> bool
     ensures { result ≡ exists_fits x h w }
 {
@@ -83,12 +88,14 @@ fn exists_fits(x: u8, h: Head, w: Body) -> bool
         & (w.word3 == 0)
 }
 
+// Whether the fields of a kind with one child and a window fit.
 fn one_window_fits(x: u8, h: Head, w: Body) -> bool
     ensures { result ≡ one_window_fits x h w }
 {
     (h.left < x) & (h.right == 0) & (h.mask == 0) & (w.word2 == 0) & (w.word3 == 0)
 }
 
+// Whether the fields of a kind with two children and a window fit.
 fn two_window_fits(x: u8, h: Head, w: Body) -> bool
     ensures { result ≡ two_window_fits x h w }
 {
@@ -113,7 +120,7 @@ pub fn shape_fits(rule: &[u8], x: u8, h: Head, w: Body) -> bool
     }
 }
 
-// The window [c, d), where d = 0 means no end.
+// Whether the window [c, d) is in range, where d = 0 means no end.
 fn window_fits(c: u32, d: u32) -> bool
     ensures { result ≡ window_fits c d }
 {
