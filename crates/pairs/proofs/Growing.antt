@@ -2,13 +2,10 @@
 use Prim.Native.Nat.{ℕ, suc}
 use mathlib.Core.Path.{◌≡◌, refl, subst, ◌∙◌}
 use mathlib.Core.List.{List, ◌++◌}
-use native.Mathlib.Omega.{arith}
-use lib.ListN.{length}
 use Rattle.meaning.specs.Evaluator.{insert, insert_all}
 use Rattle.rowset.proofs.Saturation.{in_turn}
 use Rattle.rowset.specs.declared.Gathered.{Gathered}
-use Rattle.kinds.specs.Kinds.{PairsThere}
-use Rattle.pairs.specs.Pairs.{PairRoom, PairsAdded}
+use Rattle.pairs.specs.Pairs.{PairsAdded}
 
 -- one list of pairs put in after another
 pub pairs_then : {lowest : ℕ} {ages values : List ℕ} {n : Gathered} {ages' values' : List ℕ} {m : Gathered} {ages'' values'' : List ℕ} {k : Gathered} {ys : List (List ℕ)} → PairsAdded lowest ages' values' m ages'' values'' k ys
@@ -24,7 +21,3 @@ pairs_then {lowest} {ys = ys} h xs g =
 -- the pairs put in, written in another way
 pub pairs_as : {lowest : ℕ} {ages values : List ℕ} {n : Gathered} {ages' values' : List ℕ} {k : Gathered} {xs ys : List (List ℕ)} → PairsAdded lowest ages values n ages' values' k xs → xs ≡ ys → PairsAdded lowest ages values n ages' values' k ys
 pairs_as {lowest} {ages} {values} {n} {ages'} {values'} {k} h e = subst (PairsAdded lowest ages values n ages' values' k) e h
-
--- no pairs yet
-pub room_from_none : {lowest : ℕ} {ages values : List ℕ} → PairsThere ages values (length ages) → PairRoom lowest ages values (record { count = 0; near = 0 })
-room_from_none h = record { most = omega arith; values_there = h.values_there; led = λ k l. absurd (omega arith) }

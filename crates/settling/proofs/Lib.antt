@@ -1,4 +1,3 @@
 -- Facts about what stands for a node, and about what it gives.
-pub mod Points
 pub mod Agreeing
 pub mod Gives
