@@ -211,8 +211,9 @@ settled {b} {w} {rows} {at} {times} {base} {old_ages} {old_values} {left} {right
     rw e (record { gives = λ v s. subst (λ us. SetMade out k (set_of lowest us)) (given_same b w rows at times base old_ages old_values left right lowest start i v kind asked_of s) h })
 
 -- the sets of until's children as far as both have settled
-pub both_stand : (s : CallSets) (of : Operands) {start i : Point} → ChildThere s.rows.now s.at.now start i Future of.left → ChildThere s.rows.now s.at.now start i Future of.right → BothStand s of i (min of.left.count of.right.count)
-both_stand s of {start} {i} h k = record {
+pub both_stand : (s : CallSets) (of : Operands) {start i : Point} → of.left.count < 4294967296 → ChildThere s.rows.now s.at.now start i Future of.left → ChildThere s.rows.now s.at.now start i Future of.right → BothStand s of i (min of.left.count of.right.count)
+both_stand s of {start} {i} few h k = record {
   left = stand_part h.sets i (min of.left.count of.right.count) (omega arith) (omega (arith, h.settled, k.settled)) (omega arith);
   right = stand_part k.sets i (min of.left.count of.right.count) (omega arith) (omega (arith, h.settled, k.settled)) (omega arith);
+  word = omega arith;
 }

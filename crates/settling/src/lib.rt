@@ -12,8 +12,9 @@ ghost use Rattle.rowset.specs.Sets.{SetRoom, Added};
 ghost use Rattle.kinds.specs.Kinds.{in_mask, PairsThere};
 ghost use Rattle.room.specs.Room.{sets_of};
 ghost use Rattle.progress.specs.Stamps.{stamps_of};
-ghost use Rattle.untils.specs.Until.{left_test, BothStand};
-ghost use Rattle.settling.specs.Children.{SetStands};
+ghost use Rattle.untils.specs.Until.{BothStand};
+ghost use Rattle.untils.specs.Leads.{test_of};
+ghost use Rattle.settling.specs.Children.{SetThere};
 ghost use Rattle.settling.specs.Inputs.{asked, right_in, PointSettled, PairsSettled};
 
 use meaning::{Children, Comparison, Left, Node, Point, Sides, Times, Window};
@@ -32,7 +33,7 @@ pub struct Given<'a> {
 
 // Puts in a child's set at point j.
 fn copy_at(lowest: u32, c: &Child, sets: CallSets, j: Point, out: &mut [u32], n: usize) -> usize
-    requires set_stands { SetStands sets.rows.now sets.at.now c.now j }
+    requires set_stands { SetThere sets c.now j }
     requires set_room { SetRoom out.old n }
     ensures { Added lowest out.old n out.new result (sets_of sets.entry c.now j) }
 {
@@ -42,7 +43,7 @@ fn copy_at(lowest: u32, c: &Child, sets: CallSets, j: Point, out: &mut [u32], n:
 
 // The same where the test passed, into an empty set.
 fn copy_if(ok: bool, lowest: u32, c: &Child, sets: CallSets, j: Point, out: &mut [u32]) -> usize
-    requires set_stands { SetStands sets.rows.now sets.at.now c.now j }
+    requires set_stands { SetThere sets c.now j }
     requires set_room { SetRoom out.old 0 }
     ensures { Added lowest out.old 0 out.new result (cond ok (sets_of sets.entry c.now j) []) }
 {
@@ -54,8 +55,8 @@ fn copy_if(ok: bool, lowest: u32, c: &Child, sets: CallSets, j: Point, out: &mut
 
 // "and" at point i.
 fn and_at(of: &Operands, sets: CallSets, i: Point, out: &mut [u32]) -> usize
-    requires set_stands { SetStands sets.rows.now sets.at.now of.now.left i }
-    requires set_stands_2 { SetStands sets.rows.now sets.at.now of.now.right i }
+    requires set_stands { SetThere sets of.now.left i }
+    requires set_stands_2 { SetThere sets of.now.right i }
     requires set_room { SetRoom out.old 0 }
     ensures { Added of.now.lowest out.old 0 out.new result (and_rows (in_mask of.now.left.mask) (in_mask of.now.right.mask) (sets_of sets.entry of.now.left i) (sets_of sets.entry of.now.right i)) }
 {
@@ -70,8 +71,8 @@ fn and_at(of: &Operands, sets: CallSets, i: Point, out: &mut [u32]) -> usize
 
 // "and not" at point i.
 fn and_not_at(of: &Operands, sets: CallSets, i: Point, out: &mut [u32]) -> usize
-    requires set_stands { SetStands sets.rows.now sets.at.now of.now.left i }
-    requires set_stands_2 { SetStands sets.rows.now sets.at.now of.now.right i }
+    requires set_stands { SetThere sets of.now.left i }
+    requires set_stands_2 { SetThere sets of.now.right i }
     requires set_room { SetRoom out.old 0 }
     ensures { Added of.now.lowest out.old 0 out.new result (select (λ u. not (is_there (look_up of.now.right.lowest (cut_to (in_mask of.now.right.mask) (valuation_of u)) (sets_of sets.entry of.now.right i)))) (sets_of sets.entry of.now.left i)) }
 {
@@ -93,7 +94,7 @@ fn keep_at(
     i: Point,
     out: &mut [u32],
 ) -> usize
-    requires set_stands { SetStands sets.rows.now sets.at.now of.now.left i }
+    requires set_stands { SetThere sets of.now.left i }
     requires set_room { SetRoom out.old 0 }
     ensures { Added of.now.lowest out.old 0 out.new result (select (λ u. compares c (value (valuation_of u) s.first) (value (valuation_of u) s.second)) (sets_of sets.entry of.now.left i)) }
 {
@@ -105,8 +106,8 @@ fn keep_at(
 
 // "or" at point i.
 fn or_at(of: &Operands, sets: CallSets, i: Point, out: &mut [u32]) -> usize
-    requires set_stands { SetStands sets.rows.now sets.at.now of.now.left i }
-    requires set_stands_2 { SetStands sets.rows.now sets.at.now of.now.right i }
+    requires set_stands { SetThere sets of.now.left i }
+    requires set_stands_2 { SetThere sets of.now.right i }
     requires set_room { SetRoom out.old 0 }
     ensures { Added of.now.lowest out.old 0 out.new result (sets_of sets.entry of.now.left i ++ sets_of sets.entry of.now.right i) }
 {
@@ -116,7 +117,7 @@ fn or_at(of: &Operands, sets: CallSets, i: Point, out: &mut [u32]) -> usize
 
 // "exists" at point i.
 fn exists_at(of: &Operands, x: u32, sets: CallSets, i: Point, out: &mut [u32]) -> usize
-    requires set_stands { SetStands sets.rows.now sets.at.now of.now.left i }
+    requires set_stands { SetThere sets of.now.left i }
     requires set_room { SetRoom out.old 0 }
     ensures { Added of.now.lowest out.old 0 out.new result (map (λ u. cut_to (λ y. not (eqb y x)) (valuation_of u)) (sets_of sets.entry of.now.left i)) }
 {
@@ -133,7 +134,7 @@ fn previous_at(
     i: Point,
     out: &mut [u32],
 ) -> usize
-    requires set_stands { 0 < i.0 → SetStands sets.rows.now sets.at.now of.now.left (point_before i) }
+    requires set_stands { 0 < i.0 → SetThere sets of.now.left (point_before i) }
     requires set_room { SetRoom out.old 0 }
     ensures { Added of.now.lowest out.old 0 out.new result (cond (ltb 0 i.0 && in_window w (elapsed (stamps_of retained.entry (point_before i)) (stamps_of retained.entry i))) (sets_of sets.entry of.now.left (point_before i)) []) }
 {
@@ -156,7 +157,7 @@ fn next_at(
     i: Point,
     out: &mut [u32],
 ) -> usize
-    requires i_bound { (i.0 + 1 < 4294967296) × SetStands sets.rows.now sets.at.now of.now.left (point (i.0 + 1)) }
+    requires i_bound { (i.0 + 1 < 4294967296) × SetThere sets of.now.left (point (i.0 + 1)) }
     requires set_room { SetRoom out.old 0 }
     ensures { Added of.now.lowest out.old 0 out.new result (cond (in_window w (elapsed (stamps_of retained.entry i) (stamps_of retained.entry (point_after i)))) (sets_of sets.entry of.now.left (point_after i)) []) }
 {
@@ -178,7 +179,7 @@ fn until_at(
 ) -> usize
     requires stand { BothStand sets of.now i (min of.now.left.count of.now.right.count) }
     requires set_room { SetRoom out.old 0 }
-    ensures { Added of.now.lowest out.old 0 out.new result (until_rows (stamps_of retained.entry) (min of.now.left.count of.now.right.count) asks.window (left_test asks.left of.now.left (sets_of sets.entry of.now.left)) (sets_of sets.entry of.now.right) i) }
+    ensures { Added of.now.lowest out.old 0 out.new result (until_rows (stamps_of retained.entry) (min of.now.left.count of.now.right.count) asks.window (test_of asks.left of.now sets.entry) (sets_of sets.entry of.now.right) i) }
 {
     let m = of.left.count.min(of.right.count);
     untils::until(asks, of, sets, retained, i, m, out, 0)

@@ -1,5 +1,5 @@
 -- The rows and pairs of since at a point, over the children's sets as they stand in words, and pairs put into words up to a limit.
-use Rattle.std.specs.Prelude.{ℕ, ◌+◌, ◌-◌, ◌≤◌, ◌<◌, min, ◌≢◌, ◌≡◌, true, List, length, get_or}
+use Rattle.std.specs.Prelude.{ℕ, suc, ◌+◌, ◌-◌, ◌≤◌, ◌<◌, min, ◌≢◌, ◌≡◌, true, List, length, get_or}
 use Rattle.meaning.specs.Order.{ascending}
 use Rattle.meaning.specs.Evaluator.{insert_all}
 use Rattle.rowset.specs.Sets.{SetMade}
@@ -12,10 +12,18 @@ use Rattle.meaning.specs.declared.Left.{Left}
 use Rattle.room.specs.Room.{set_at}
 use Rattle.room.specs.declared.Child.{Child}
 use Rattle.untils.specs.Until.{left_test}
+use Rattle.since.specs.declared.held.Held.{Held}
 
 -- the pairs that were held before, as many as there are ages
 abbrev pub held_in : List ℕ → List ℕ → List (List ℕ)
 held_in ages values = pairs_from ages values 0 (length ages)
+
+abbrev pub pairs_held : Held → List (List ℕ)
+pairs_held h = held_in h.ages.now h.values.now
+
+-- they ascend strictly, by the lowest free variable of their node
+abbrev pub Ascends : ℕ → Held → Type 0
+Ascends lowest h = ascending (suc lowest) (pairs_held h) ≡ true
 
 module _ (left : Left) (rows at times : List ℕ) (base : Point) (w : Window) (a b : Child) (held : List (List ℕ)) (start i : Point) where
   -- a is left and b is right

@@ -3,7 +3,6 @@
 
 ghost use Rattle.std.specs.Prelude.{suc, ◌+◌, ◌-◌, ◌≤◌, ◌<◌, min, ◌≡◌, true, cond, ◌&&◌, [], ◌∷◌, map, length, ltb, leb};
 ghost use Rattle.meaning.specs.Lists.{select};
-ghost use Rattle.meaning.specs.Order.{ascending};
 ghost use Rattle.meaning.specs.Evaluator.{set_of};
 ghost use Rattle.meaning.specs.Kept.{below_end, counted_age};
 ghost use Rattle.rowset.specs.Rows.{words_of, rows_from};
@@ -11,25 +10,20 @@ ghost use Rattle.rowset.specs.Sets.{Run, SetRoom, Added, SetMade, from_front};
 ghost use Rattle.kinds.specs.Kinds.{PairsThere};
 ghost use Rattle.room.specs.Room.{sets_of};
 ghost use Rattle.progress.specs.Stamps.{stamps_of};
-ghost use Rattle.untils.specs.Until.{left_test, leads, BothStand};
+ghost use Rattle.untils.specs.Until.{BothStand};
+ghost use Rattle.untils.specs.Leads.{leads_of, test_of};
 ghost use Rattle.pairs.specs.Pairs.{PairRoom, PairsAdded};
 ghost use Rattle.since.specs.Parts.{fresh_rows, fresh_pairs, grown_by, older_rows, older_pairs, below_of, most_of};
-ghost use Rattle.since.specs.Since.{held_in, rows_in, pairs_in, AgeRun, RowsPut, PairsPut};
+ghost use Rattle.since.specs.Since.{pairs_held, Ascends, rows_in, pairs_in, AgeRun, RowsPut, PairsPut};
 
+pub mod held;
+
+pub use held::Held;
 use meaning::{Left, Point, Window};
 use progress::Retained;
 use room::{CallSets, Operands, Part};
 use rowset::{Gathered, Row};
 use untils::{Asks, Lead};
-
-// The pairs that were held at the point before `start`, which is the first newly settled one: their ages, and their rows of four words each.
-#[derive(Clone, Copy)]
-pub struct Held<'a> {
-    pub ages: &'a [u32],
-    pub values: &'a [u32],
-    pub start: Point,
-    pub ghost there: { PairsThere ages.now values.now (length ages.now) },
-}
 
 // A window's bounds: an age is in it from `from` on and below `below`, and counts as at most `most`.
 #[derive(Clone, Copy)]
@@ -87,10 +81,9 @@ fn put_fresh(
     i: Point,
     out: &mut [u32],
 ) -> usize
-    requires i_bound { i.0 + 1 < 4294967296 }
     requires stand { BothStand sets of.now start (i.0 + 1) }
     requires set_room { SetRoom out.old 0 }
-    ensures { Added of.now.lowest out.old 0 out.new result (fresh_rows (stamps_of retained.entry) asks.window (left_test asks.left of.now.left (sets_of sets.entry of.now.left)) (sets_of sets.entry of.now.right) start i) }
+    ensures { Added of.now.lowest out.old 0 out.new result (fresh_rows (stamps_of retained.entry) asks.window (test_of asks.left of.now sets.entry) (sets_of sets.entry of.now.right) start i) }
 {
     let here = retained.time(i);
     let end = Point(i.0 + 1);
@@ -146,9 +139,9 @@ fn put_run(lowest: u32, held: Held, from: usize, to: usize, out: &mut [u32], n: 
 
 // Puts in the rows of the held pairs whose ages are in the window, with what they have grown by: as ages don't fall, these pairs are a run.
 fn put_aged(lowest: u32, w: Window, by: u32, held: Held, out: &mut [u32], n: usize) -> usize
-    requires ascends { ascending (suc lowest) (held_in held.ages.now held.values.now) ≡ true }
+    requires ascends { Ascends lowest held }
     requires set_room { SetRoom out.old n }
-    ensures { RowsPut lowest out.old n out.new result (older_rows w by (λ _. true) (held_in held.entry.ages.now held.entry.values.now)) }
+    ensures { RowsPut lowest out.old n out.new result (older_rows w by (λ _. true) (pairs_held held.entry)) }
 {
     let bounds = bounds_of(w);
     let to = pairs::count_below(held.ages, held.ages.len(), by, bounds.below);
@@ -158,7 +151,7 @@ fn put_aged(lowest: u32, w: Window, by: u32, held: Held, out: &mut [u32], n: usi
 
 // The age is in the window, and left passes for the row.
 fn stays(b: Bounds, age: u64, lead: &Lead, u: Row) -> bool
-    ensures { result ≡ ((leb b.from age && ltb age b.below) && (leads lead.now.left lead.now.a (sets_of lead.now.sets lead.now.a) lead.now.from lead.now.end) (words_of u)) }
+    ensures { result ≡ ((leb b.from age && ltb age b.below) && (leads_of lead.now) (words_of u)) }
 {
     within(b, age) && lead.passes(u)
 }
@@ -174,7 +167,7 @@ fn put_older(
     n: usize,
 ) -> usize
     requires { SetRoom out.old n }
-    ensures { RowsPut lowest out.old n out.new result (older_rows w by (leads lead.now.left lead.now.a (sets_of lead.now.sets lead.now.a) lead.now.from lead.now.end) (held_in held.entry.ages.now held.entry.values.now)) }
+    ensures { RowsPut lowest out.old n out.new result (older_rows w by (leads_of lead.now) (pairs_held held.entry)) }
 {
     let bounds = bounds_of(w);
     let mut set = Gathered { count: n, near: 0 };
@@ -197,11 +190,10 @@ pub fn rows_at(
     i: Point,
     out: &mut [u32],
 ) -> usize
-    requires i_bound { i.0 + 1 < 4294967296 }
     requires stand { BothStand sets of.now held.start (i.0 + 1) }
-    requires ascends { ascending (suc of.now.lowest) (held_in held.ages.now held.values.now) ≡ true }
+    requires ascends { Ascends of.now.lowest held }
     requires set_room { SetRoom out.old 0 }
-    ensures { SetMade out.new result (set_of of.now.lowest (rows_in asks.left sets.entry.rows.now sets.entry.at.now retained.entry.times.now retained.entry.base asks.window of.now.left of.now.right (held_in held.entry.ages.now held.entry.values.now) held.entry.start i)) }
+    ensures { SetMade out.new result (set_of of.now.lowest (rows_in asks.left sets.entry.rows.now sets.entry.at.now retained.entry.times.now retained.entry.base asks.window of.now.left of.now.right (pairs_held held.entry) held.entry.start i)) }
 {
     let by = grown_by(retained, held.start, i);
     let n = put_fresh(asks, of, sets, retained, held.start, i, out);
@@ -232,7 +224,7 @@ fn add_lasting(
 ) -> Gathered
     requires run { Run lead.now.sets.rows.now rows.from rows.to }
     requires pair_room { PairRoom lowest ages.old values.old set }
-    ensures { PairsAdded lowest ages.old values.old set ages.new values.new result (map (λ u. age ∷ u) (select (leads lead.now.left lead.now.a (sets_of lead.now.sets lead.now.a) lead.now.from lead.now.end) (rows_from lead.now.sets.rows.now rows.from (rows.to - rows.from)))) }
+    ensures { PairsAdded lowest ages.old values.old set ages.new values.new result (map (λ u. age ∷ u) (select (leads_of lead.now) (rows_from lead.now.sets.rows.now rows.from (rows.to - rows.from)))) }
 {
     let mut g = set;
     for x in rows.from..rows.to {
@@ -255,7 +247,7 @@ fn add_point(
 ) -> Gathered
     requires run { Run lead.now.sets.rows.now rows.from rows.to }
     requires pair_room { PairRoom lowest ages.old values.old set }
-    ensures { PairsAdded lowest ages.old values.old set ages.new values.new result (map (λ u. age ∷ u) (select (leads lead.now.left lead.now.a (sets_of lead.now.sets lead.now.a) lead.now.from lead.now.end) (rows_from lead.now.sets.rows.now rows.from (rows.to - rows.from)))) }
+    ensures { PairsAdded lowest ages.old values.old set ages.new values.new result (map (λ u. age ∷ u) (select (leads_of lead.now) (rows_from lead.now.sets.rows.now rows.from (rows.to - rows.from)))) }
 {
     match lead.left {
         Left::Always => pairs::add_young(
@@ -283,10 +275,9 @@ fn add_fresh(
     ages: &mut [u32],
     values: &mut [u32],
 ) -> Gathered
-    requires i_bound { i.0 + 1 < 4294967296 }
     requires stand { BothStand sets of.now start (i.0 + 1) }
     requires pair_room { PairRoom of.now.lowest ages.old values.old (from_front 0) }
-    ensures { PairsAdded of.now.lowest ages.old values.old (from_front 0) ages.new values.new result (fresh_pairs (stamps_of retained.entry) asks.window (left_test asks.left of.now.left (sets_of sets.entry of.now.left)) (sets_of sets.entry of.now.right) start i) }
+    ensures { PairsAdded of.now.lowest ages.old values.old (from_front 0) ages.new values.new result (fresh_pairs (stamps_of retained.entry) asks.window (test_of asks.left of.now sets.entry) (sets_of sets.entry of.now.right) start i) }
 {
     let here = retained.time(i);
     let end = Point(i.0 + 1);
@@ -347,9 +338,9 @@ fn add_all_aged(
     values: &mut [u32],
     set: Gathered,
 ) -> Gathered
-    requires ascends { ascending (suc lowest) (held_in held.ages.now held.values.now) ≡ true }
+    requires ascends { Ascends lowest held }
     requires pair_room { PairRoom lowest ages.old values.old set }
-    ensures { PairsAdded lowest ages.old values.old set ages.new values.new result (older_pairs w by (λ _. true) (held_in held.entry.ages.now held.entry.values.now)) }
+    ensures { PairsAdded lowest ages.old values.old set ages.new values.new result (older_pairs w by (λ _. true) (pairs_held held.entry)) }
 {
     let bounds = bounds_of(w);
     let m = pairs::count_below(held.ages, held.ages.len(), by, bounds.below);
@@ -378,7 +369,7 @@ fn add_older(
     set: Gathered,
 ) -> Gathered
     requires { PairRoom lowest ages.old values.old set }
-    ensures { PairsAdded lowest ages.old values.old set ages.new values.new result (cond (ltb age bounds.below && (leads lead.now.left lead.now.a (sets_of lead.now.sets lead.now.a) lead.now.from lead.now.end) (words_of r)) ((min age bounds.most ∷ words_of r) ∷ []) []) }
+    ensures { PairsAdded lowest ages.old values.old set ages.new values.new result (cond (ltb age bounds.below && (leads_of lead.now) (words_of r)) ((min age bounds.most ∷ words_of r) ∷ []) []) }
 {
     if lead.passes(r) {
         return add_aged(lowest, bounds, age, r, ages, values, set);
@@ -398,7 +389,7 @@ fn add_all_older(
     set: Gathered,
 ) -> Gathered
     requires { PairRoom lowest ages.old values.old set }
-    ensures { PairsAdded lowest ages.old values.old set ages.new values.new result (older_pairs w by (leads lead.now.left lead.now.a (sets_of lead.now.sets lead.now.a) lead.now.from lead.now.end) (held_in held.entry.ages.now held.entry.values.now)) }
+    ensures { PairsAdded lowest ages.old values.old set ages.new values.new result (older_pairs w by (leads_of lead.now) (pairs_held held.entry)) }
 {
     let bounds = bounds_of(w);
     let mut g = set;
@@ -421,11 +412,10 @@ pub fn pairs_at(
     ages: &mut [u32],
     values: &mut [u32],
 ) -> usize
-    requires i_bound { i.0 + 1 < 4294967296 }
     requires stand { BothStand sets of.now held.start (i.0 + 1) }
-    requires ascends { ascending (suc of.now.lowest) (held_in held.ages.now held.values.now) ≡ true }
+    requires ascends { Ascends of.now.lowest held }
     requires pairs_there { PairsThere ages.old values.old (length ages.old) }
-    ensures { PairsPut ages.old values.old ages.new values.new result (set_of (suc of.now.lowest) (pairs_in asks.left sets.entry.rows.now sets.entry.at.now retained.entry.times.now retained.entry.base asks.window of.now.left of.now.right (held_in held.entry.ages.now held.entry.values.now) held.entry.start i)) }
+    ensures { PairsPut ages.old values.old ages.new values.new result (set_of (suc of.now.lowest) (pairs_in asks.left sets.entry.rows.now sets.entry.at.now retained.entry.times.now retained.entry.base asks.window of.now.left of.now.right (pairs_held held.entry) held.entry.start i)) }
 {
     let by = grown_by(retained, held.start, i);
     let set = add_fresh(asks, of, sets, retained, held.start, i, ages, values);

@@ -49,7 +49,8 @@ pub record Stand (rows at : List ℕ) (first : ℕ) (low i : Point) (m : ℕ) : 
 abbrev pub Stands : CallSets → Child → Point → ℕ → Type 0
 Stands s c i m = Stand s.rows.now s.at.now c.first c.low i m
 
--- the same of both children's
+-- the same of both children's, where the points are numbers of a word
 pub record BothStand (s : CallSets) (of : Operands) (i : Point) (m : ℕ) : Type 0 where
   pub left : Stands s of.left i m
   pub right : Stands s of.right i m
+  pub word : m < 4294967296

@@ -13,8 +13,12 @@ ghost use Rattle.rowset.specs.Rows.{words_of, rows_from};
 ghost use Rattle.rowset.specs.Sets.{Run, SetRoom, Added};
 ghost use Rattle.room.specs.Room.{sets_of};
 ghost use Rattle.progress.specs.Stamps.{stamps_of};
-ghost use Rattle.untils.specs.Until.{due_at, passes_at, left_test, leads, DueRun, Stands, BothStand};
+ghost use Rattle.untils.specs.Until.{due_at, passes_at, DueRun, Stands, BothStand};
+ghost use Rattle.untils.specs.Leads.{leads_of, test_of};
 
+pub mod lead;
+
+pub use lead::Lead;
 use meaning::{Left, Point, Stamp, Window};
 use progress::Retained;
 use room::{CallSets, Child, Operands, Part};
@@ -68,17 +72,6 @@ pub fn found_at(sets: CallSets, a: &Child, k: Point, r: Row) -> bool
     rowset::contains(a.lowest, sets.rows, set.from, set.to, r)
 }
 
-// What is asked of left at every point from `from` on before `end`, where its sets stand.
-#[derive(Clone, Copy)]
-pub struct Lead<'a> {
-    pub left: Left,
-    pub a: Child,
-    pub sets: CallSets<'a>,
-    pub from: Point,
-    pub end: Point,
-    pub ghost stand: { Stands sets a from end.0 },
-}
-
 impl Lead<'_> {
     // Left passes at each of the points for a row that is cut down already.
     fn passes_cut(&self, r: Row) -> bool
@@ -95,7 +88,7 @@ impl Lead<'_> {
 
     // Left passes at each of the points for row u; nothing is looked up where nothing is asked.
     pub fn passes(&self, u: Row) -> bool
-        ensures { result ≡ leads self.now.left self.now.a (sets_of self.now.sets self.now.a) self.now.from self.now.end (words_of u) }
+        ensures { result ≡ leads_of self.now (words_of u) }
     {
         matches!(self.left, Left::Always) || self.passes_cut(kinds::cut(self.a.mask, u))
     }
@@ -105,7 +98,7 @@ impl Lead<'_> {
 pub fn put_leading(lowest: u32, lead: &Lead, rows: Part, out: &mut [u32], n: usize) -> usize
     requires run { Run lead.now.sets.rows.now rows.from rows.to }
     requires set_room { SetRoom out.old n }
-    ensures { Added lowest out.old n out.new result (select (leads lead.now.left lead.now.a (sets_of lead.now.sets lead.now.a) lead.now.from lead.now.end) (rows_from lead.now.sets.rows.now rows.from (rows.to - rows.from))) }
+    ensures { Added lowest out.old n out.new result (select (leads_of lead.now) (rows_from lead.now.sets.rows.now rows.from (rows.to - rows.from))) }
 {
     let mut set = Gathered { count: n, near: 0 };
     for x in rows.from..rows.to {
@@ -136,7 +129,7 @@ pub fn until(
 ) -> usize
     requires stand { BothStand sets of.now i m }
     requires set_room { SetRoom out.old n }
-    ensures { Added of.now.lowest out.old n out.new result (until_rows (stamps_of retained.entry) m asks.window (left_test asks.left of.now.left (sets_of sets.entry of.now.left)) (sets_of sets.entry of.now.right) i) }
+    ensures { Added of.now.lowest out.old n out.new result (until_rows (stamps_of retained.entry) m asks.window (test_of asks.left of.now sets.entry) (sets_of sets.entry of.now.right) i) }
 {
     let start = retained.time(i);
     let mut k = n;

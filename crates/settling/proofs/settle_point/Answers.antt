@@ -1,4 +1,5 @@
 -- `settle_point` meets its contract, kind by kind: what is asked for the node is asked for its kind, and what the kind gives the node gives.
+use native.Mathlib.Omega.{arith}
 use mathlib.Core.Path.{refl, ap}
 use Rattle.meaning.specs.Formula.{terms_of}
 use Rattle.meaning.specs.Evaluator.{atom_rows}
@@ -8,10 +9,10 @@ use Rattle.settling.proofs.Gives.{settled, both_stand}
 use Rattle.settling.proofs.settle_point.Goals as goal
 
 pub until_at-requires-clause-stand : goal.until_at-requires-clause-stand
-until_at-requires-clause-stand c = let d = rw c.in-Until.is at c.requires.asked in both_stand c.args.sets c.args.of.now d.children.0 d.children.1
+until_at-requires-clause-stand c = let d = rw c.in-Until.is at c.requires.asked in both_stand c.args.sets c.args.of.now (omega arith) d.children.0 d.children.1
 
 pub until_at-requires-in-NotUntil-clause-stand : goal.until_at-requires-in-NotUntil-clause-stand
-until_at-requires-in-NotUntil-clause-stand c = let d = rw c.in-NotUntil.is at c.requires.asked in both_stand c.args.sets c.args.of.now d.children.0 d.children.1
+until_at-requires-in-NotUntil-clause-stand c = let d = rw c.in-NotUntil.is at c.requires.asked in both_stand c.args.sets c.args.of.now (omega arith) d.children.0 d.children.1
 
 pub returns-in-Atom : goal.returns-in-Atom
 returns-in-Atom c = let d = rw c.in-Atom.is at c.requires.asked in

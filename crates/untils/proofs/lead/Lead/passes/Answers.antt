@@ -4,8 +4,8 @@ use mathlib.Core.Path.{sym, ◌∙◌}
 use mathlib.Core.Bool.{true≢false}
 use Rattle.meaning.specs.Log.{points_from}
 use Rattle.untils.proofs.Passing.{all_true}
-use Rattle.untils.proofs.Lead.passes.Goals as goal
-use Rattle.untils.proofs.Lead.passes.Goals.{in-Always, in_default}
+use Rattle.untils.proofs.lead.Lead.passes.Goals as goal
+use Rattle.untils.proofs.lead.Lead.passes.Goals.{in-Always, in_default}
 
 pub returns-then-matches : goal.returns-then-matches
 returns-then-matches c = let a = c.args.self.now in

@@ -3,7 +3,7 @@ use native.Mathlib.Omega.{arith}
 use mathlib.Core.Path.{sym, ◌∙◌}
 use Rattle.untils.proofs.Spans.{stand_part}
 use Rattle.untils.proofs.Passing.{all_more, all_stops, passes_as}
-use Rattle.untils.proofs.Lead.passes_cut.Goals as goal
+use Rattle.untils.proofs.lead.Lead.passes_cut.Goals as goal
 
 pub found_at-found-requires : goal.found_at-found-requires
 found_at-found-requires c = stand_part c.args.self.now.stand _ _ (omega arith) (omega arith) (omega arith)

@@ -5,7 +5,7 @@ use Rattle.meaning.specs.Log.{point, points_from}
 use Rattle.rowset.specs.Rows.{words_of}
 use Rattle.room.specs.Room.{sets_of}
 use Rattle.untils.specs.Until.{passes_at}
-use Rattle.untils.proofs.Lead.passes_cut.Given as goal
+use Rattle.untils.proofs.lead.Lead.passes_cut.Given as goal
 
 -- `Lead::passes_cut` meets its contract: the test from the first point on is the test from point k on, until it fails at one or none is left.
 abbrev pub invariant-loop-k : goal.invariant-loop-k
