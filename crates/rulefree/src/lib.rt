@@ -87,12 +87,7 @@ fn mask_without(m: u8, v: u32) -> u8
 fn variable_in(m: u8, v: u32) -> bool
     ensures { result ≡ variable_in m v }
 {
-    match v {
-        0 => has_bit(m, 1),
-        1 => has_bit(m, 2),
-        2 => has_bit(m, 4),
-        _ => has_bit(m, 8),
-    }
+    has_bit(m, 1 << v.min(3))
 }
 
 // Whether the variables of m lie among those of n.
