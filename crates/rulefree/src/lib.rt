@@ -17,7 +17,7 @@ fn mask_of(a: bool, b: bool, c: bool, d: bool) -> u8
     u8::from(a) + 2 * u8::from(b) + 4 * u8::from(c) + 8 * u8::from(d)
 }
 
-// Whether a term is variable x.
+// Whether a term is variable x. `kinds` has the same test: one for both would stand in `meaning`, which has types and no code, and be no plainer.
 fn names(t: Term, x: u32) -> bool
     ensures { result ≡ is_variable x t }
 {

@@ -136,7 +136,7 @@ fn term_of(mask: u8, p: u8, w: u32) -> Term
     }
 }
 
-// The comparison of "keep", by its number.
+// The comparison of "keep", by its number. A From would stand beside the type, in `meaning`, which has types and no code, and be no plainer.
 fn comparison_of(n: u8) -> Comparison
     ensures { result ≡ comparison_of n }
 {
