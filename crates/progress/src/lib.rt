@@ -71,8 +71,7 @@ pub fn until_count(retained: Retained, log: LogEnd, d: u32, m: u32, from: u32) -
     ensures { result ≡ until_count (stamps_of retained.entry) log d m from }
 {
     let by = bound(retained, log, m);
-    let open = first_open(retained, d, by, Point(from), Point(m));
-    open.0
+    first_open(retained, d, by, Point(from), Point(m)).0
 }
 
 // The count of a child, 0 where there is none.
@@ -120,8 +119,7 @@ fn count_of(rule: &[u8], retained: Retained, log: LogEnd, below: &[u32], from: &
     ensures { result ≡ advance (stamps_of retained.entry) log (λ y. get_or below.now y 0) (get_or from.now x 0) (view_of (node_at rule.now x)) }
 {
     let m = least_of(below, log.points, rulenodes::children_at(rule, x));
-    let look = rulenodes::times_at(rule, x);
-    match look {
+    match rulenodes::times_at(rule, x) {
         Times::Here | Times::Past => m,
         Times::Before => one_more(log.points, m),
         Times::After => m.saturating_sub(1),

@@ -282,8 +282,7 @@ pub fn settle_pairs(
     ensures { PairsSettled sets.entry.rows.now sets.entry.at.now given.now.retained.times.now given.now.retained.base held.entry.ages.now held.entry.values.now of.now.left of.now.right of.now.lowest held.entry.start i node ages.old values.old ages.new values.new result }
 {
     let view = rulenodes::view_of(node);
-    let look = view.times;
-    match look {
+    match view.times {
         Times::Past => {
             let asks = Asks {
                 left: view.left,

@@ -74,7 +74,7 @@ pub fn found_at(sets: CallSets, a: &Child, k: Point, r: Row) -> bool
 
 impl Lead<'_> {
     // Left passes at each of the points for a row that is cut down already.
-    fn passes_cut(&self, r: Row) -> bool
+    pub fn passes_cut(&self, r: Row) -> bool
         ensures { result ≡ all (passes_at self.now.left self.now.a.lowest (sets_of self.now.sets self.now.a) (words_of r)) (points_from self.now.from (self.now.end.0 - self.now.from.0)) }
     {
         for k in self.from.0..self.end.0 {

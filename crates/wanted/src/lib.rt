@@ -17,8 +17,7 @@ fn first_wanted(rule: &[u8], x: u8, p: u32) -> Point
     requires { (12 + 4 * x + 4 ≤ length rule.now) × (p < 4294967295) }
     ensures { result ≡ first_wanted (view_of (node_at rule.now x)).times p }
 {
-    let look = rulenodes::times_at(rule, x);
-    match look {
+    match rulenodes::times_at(rule, x) {
         Times::Before => Point(p.saturating_sub(1)),
         Times::After => Point(p + 1),
         Times::Here | Times::Past | Times::Future => Point(p),
