@@ -29,7 +29,7 @@ last_pairs consulted parent_of point_entries age_entries entries_of entries kept
 reported report admitted weighed crowded_at answer_on step stored_of image_of rule_words""".split()
 OF_FORM = """word_at sizes_fit head_at body_at node_of node_at formula_at shape_fits range_fits times_child weigh_node checking parent_of held held_pairs until_count
 wanted_from counts_stored count_before open_stored own_entries node_fits well_formed image_of rule_words rule_bytes read_in is_image""".split()
-HEAD = """use Rattle.std.specs.Prelude.{ℕ, ◌≡◌, refl, cond, List, [], ◌∷◌, ◌++◌, length, replicate}
+HEAD = """use Rattle.std.specs.Prelude.{ℕ, ◌≡◌, refl, cond, List, [], ◌∷◌, ◌++◌, length, replicate, Result, Ok, Err}
 use Rattle.meaning.specs.Lists.{gather}
 use Rattle.meaning.specs.Outcome.{Outcome, refused, given}
 use Rattle.meaning.specs.Log.{Taken, size, time, rows_at, latest, log_of}
@@ -38,8 +38,6 @@ use Rattle.meaning.specs.Kept.{last_pairs, consulted, parent_of, point_entries, 
 use Rattle.meaning.specs.Event.{is_event, row_fits, point_of}
 use Rattle.meaning.specs.Report.{Reported, report_words, row_words}
 use Rattle.meaning.specs.LookUp.{look_up}
-use Rattle.meaning.specs.declared.Sought.{Sought}
-use Rattle.meaning.specs.declared.Sought.TheVariants.{There, Absent}
 use Rattle.meaning.specs.Keeper.{Fed, event, notice, Taking, newly_settled, reported, report, admitted, weighed, crowded_at, grown, answer_on, answer, step}
 use Rattle.method.specs.Stored.{stored_of, held, held_pairs}
 use Rattle.method.specs.Counts.{until_count}
@@ -61,9 +59,9 @@ abbrev listing : ℕ → List ℕ → List Taken → List Fed → List ℕ
 listing room b es [] = 3 ∷ open_points b (log_of es) ∷ kept b (log_of es) ∷ (latest (log_of es)).0 ∷ image_of (stored_of b (log_of es))
 listing room b es (f ∷ fs) = said (answer b es (taking room f)) (reported (log_of es) (log_of (grown b es f)) (pattern b)) ++ listing room b (step b es (taking room f)) fs
 
-abbrev looked : Sought → List ℕ
-looked (There p) = 1 ∷ p ∷ []
-looked (Absent p) = 0 ∷ p ∷ []
+abbrev looked : Result ℕ ℕ → List ℕ
+looked (Ok p) = 1 ∷ p ∷ []
+looked (Err p) = 0 ∷ p ∷ []
 
 -- whether words are in form, and the image of what is read in from them
 abbrev again : List ℕ → List ℕ

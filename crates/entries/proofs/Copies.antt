@@ -46,42 +46,39 @@ word_before ws k r j l =
     let n3 : j ≢ k * 4 + 3 = omega arith in
     simp get_or-set_other
 
--- the rows up to i of the run from from are copied to row end and on, and k is the next
-pub record Copying (values : List ℕ) (from to : ℕ) (old : List ℕ) (end : ℕ) (new : List ℕ) (k i : ℕ) : Type 0 where
+-- the rows up to i of the run from from are copied to row end and on
+pub record Copying (values : List ℕ) (from to : ℕ) (old : List ℕ) (end : ℕ) (new : List ℕ) (i : ℕ) : Type 0 where
   pub begun : from ≤ i
   pub reached : i ≤ to
-  pub next : k ≡ end + (i - from)
   pub done : Copied old end new (i - from) (rows_from values from (i - from))
 
-pub copied_none : (values : List ℕ) (from to : ℕ) (old : List ℕ) (end : ℕ) → from ≤ to → Copying values from to old end old end from
+pub copied_none : (values : List ℕ) (from to : ℕ) (old : List ℕ) (end : ℕ) → from ≤ to → Copying values from to old end old from
 copied_none values from to old end l =
     let e : from - from ≡ 0 = omega arith in
     record {
       begun = omega arith;
       reached = l;
-      next = omega arith;
       done = record { long = refl; below = λ j m. refl; there = rw e (no_rows old values end from) };
     }
 
-module _ {values : List ℕ} {from to : ℕ} {old : List ℕ} {end : ℕ} {new : List ℕ} {k i : ℕ} (t : Copying values from to old end new k i) where
-  pub copied_more : i < to → (end + (to - from)) * 4 ≤ length old → (r : Row) → words_of r ≡ row_at values i → {new' : List ℕ} → new' ≡ set_row new k r → Copying values from to old end new' (k + 1) (i + 1)
+module _ {values : List ℕ} {from to : ℕ} {old : List ℕ} {end : ℕ} {new : List ℕ} {i : ℕ} (t : Copying values from to old end new i) where
+  pub copied_more : i < to → (end + (to - from)) * 4 ≤ length old → (r : Row) → words_of r ≡ row_at values i → {new' : List ℕ} → new' ≡ set_row new (end + (i - from)) r → Copying values from to old end new' (i + 1)
   copied_more l room r is {new'} e =
+      let k : ℕ = end + (i - from) in
       let h : Copied old end new (i - from) (rows_from values from (i - from)) = t.done in
       let f : i + 1 - from ≡ i - from + 1 = omega (arith, t.begun) in
       let g : from + (i - from) ≡ i = omega (arith, t.begun) in
-      let n : k ≡ end + (i - from) = t.next in
       let same : rows_from (set_row new k r) end (i - from) ≡ rows_from values from (i - from)
       = rows_same (set_row new k r) new end (i - from) (λ j a b. put_other new k r j (omega arith)) ∙ h.there in
       let put : row_at (set_row new k r) k ≡ row_at values i = put_same new k r (omega (arith, h.long)) ∙ is in
       let there : rows_from (set_row new k r) end (i - from + 1) ≡ rows_from values from (i - from + 1)
       = rows_more (set_row new k r) end (i - from)
-      ∙ ap₂ (λ us u. us ++ u ∷ []) same (ap (row_at (set_row new k r)) (sym n) ∙ put ∙ ap (row_at values) (sym g))
+      ∙ ap₂ (λ us u. us ++ u ∷ []) same (put ∙ ap (row_at values) (sym g))
       ∙ sym (rows_more values from (i - from)) in
       rw e
       (record {
         begun = omega arith;
         reached = omega arith;
-        next = omega arith;
         done = rw f (record { long = put_long new k r ∙ h.long; below = λ j a. word_before new k r j (omega arith) ∙ h.below j a; there = there });
       })
 

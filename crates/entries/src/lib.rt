@@ -12,14 +12,12 @@ pub fn run_end(words: &[u32], cursor: usize, count: usize, word: u32) -> usize
     requires { count ≤ length words.now }
     ensures { result ≡ cursor + run_of words.now cursor count word }
 {
-    let mut k = cursor;
-    while k < count {
+    for k in cursor..count {
         if words[k] != word {
             return k;
         }
-        k += 1;
     }
-    k
+    cursor.max(count)
 }
 
 // Copies rows from..to to row end and on.
@@ -27,13 +25,9 @@ pub fn copy_rows(values: &[u32], from: usize, to: usize, rows: &mut [u32], end: 
     requires { Run values.now from to × ((end + (to - from)) * 4 ≤ length rows.old) }
     ensures { Copied rows.old end rows.new (to - from) (rows_from values.now from (to - from)) }
 {
-    let mut k = end;
-    let mut i = from;
-    while i < to {
-        let row = rowset::row_at(values, i);
-        rowset::put_row(rows, k, row);
-        k += 1;
-        i += 1;
+    // Not as words, since they are mostly few, and a call for each run of them takes more: a fiftieth more instructions for an event of 32 nodes.
+    for i in from..to {
+        rowset::put_row(rows, end + (i - from), rowset::row_at(values, i));
     }
 }
 
@@ -52,11 +46,7 @@ pub fn fill(word: u32, n: usize, words: &mut [u32], end: usize)
     requires { end + n ≤ length words.old }
     ensures { WordsPut words.old end words.new n (λ _. word) }
 {
-    let mut k = 0;
-    while k < n {
-        words[end + k] = word;
-        k += 1;
-    }
+    words[end..end + n].fill(word);
 }
 
 // Copies the first n words to word `end` and on.
@@ -64,9 +54,5 @@ pub fn copy_words(from: &[u32], n: usize, words: &mut [u32], end: usize)
     requires { (n ≤ length from.now) × (end + n ≤ length words.old) }
     ensures { WordsPut words.old end words.new n (λ k. get_or from.now k 0) }
 {
-    let mut k = 0;
-    while k < n {
-        words[end + k] = from[k];
-        k += 1;
-    }
+    words[end..end + n].copy_from_slice(&from[..n]);
 }

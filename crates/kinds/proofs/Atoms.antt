@@ -4,10 +4,9 @@ use Prim.Native.Nat.{ℕ, zero, suc, ◌+◌, ◌≤◌, ◌<◌}
 use mathlib.Core.Path.{◌≡◌, refl, sym, ap, ap₂, ◌∙◌}
 use mathlib.Core.Bool.{Bool, true, false, cond, ◌&&◌}
 use mathlib.Core.List.{List, [], ◌∷◌, ◌++◌, map}
-use native.Mathlib.Numerals.{add-one, add-two, add-three}
 use native.Mathlib.Omega.{arith}
-use lib.ListN.{length, get_or, take, drop}
-use lib.Seq.{drop-cons, take-nil}
+use lib.ListN.{get_or, take}
+use lib.Seq.{take-nil}
 use lib.Dec.{ltb, eqb}
 use borrow.Author.Tests.{lt-ltb, ltb-true, ltb-false, eq-eqb, eqb-true}
 use Rattle.meaning.specs.Lists.{range, select, same_row}
@@ -35,10 +34,6 @@ term_at ts k = get_or (ts.first ∷ ts.second ∷ ts.third ∷ []) k ts.fourth
 abbrev pub column_at : Words → ℕ → ℕ
 column_at c k = get_or (c.v0 ∷ c.v1 ∷ c.v2 ∷ []) k c.v3
 
--- four words with the column's value at the variable that the term is
-abbrev pub put_in : Term → ℕ → List ℕ → List ℕ
-put_in t a us = map (λ x. cond (is_variable x t) a (get_or us x 0)) variables
-
 -- the value of a variable, column by column
 pub bound-four : (ts : Terms) (c : Words) (n x : ℕ)
     → bound (take n (all_terms ts)) (take n (words_of c)) x
@@ -50,13 +45,6 @@ bound-four ts c (suc (suc (suc zero))) x = refl
 bound-four ts c (suc (suc (suc (suc n)))) x =
     let m : ℕ = suc (suc (suc (suc n))) in
     rw (lt-ltb 0 m (omega arith), lt-ltb 1 m (omega arith), lt-ltb 2 m (omega arith), lt-ltb 3 m (omega arith), take-nil {A = Term} n)
-
--- the values of the four variables, where all four terms are used
-pub bound_all : (ts : Terms) (c : Words) (n : ℕ) → 4 ≤ n
-    → put_in ts.first c.v0 (put_in ts.second c.v1 (put_in ts.third c.v2 (put_in ts.fourth c.v3 (0 ∷ 0 ∷ 0 ∷ 0 ∷ []))))
-    ≡ map (bound (take n (all_terms ts)) (take n (words_of c))) variables
-bound_all ts c n l =
-    rw (bound-four ts c n 0, bound-four ts c n 1, bound-four ts c n 2, bound-four ts c n 3, lt-ltb 0 n (omega arith), lt-ltb 1 n (omega arith), lt-ltb 2 n (omega arith), lt-ltb 3 n (omega arith))
 
 -- where the terms' values are the columns, they are so at each place
 module _ (ts : Terms) (c : Words) (v : Term → ℕ) where
@@ -98,10 +86,6 @@ module _ {ts : Terms} {c : Words} {v : Term → ℕ} where
 
   pub matching_ends : {n k : ℕ} → Matching ts c v k → k < n → (v (term_at ts k) ≡ column_at c k → ⊥) → same_row (map v (take n (all_terms ts))) (take n (words_of c)) ≡ false
   matching_ends {n} {k} h l d = apart _ _ (λ e. d (equal_at ts c v n k l e))
-
-pub four_words : (w : List ℕ) (a : ℕ) → a + 4 ≤ length w → take 4 (drop a w) ≡ get_or w a 0 ∷ get_or w (a + 1) 0 ∷ get_or w (a + 2) 0 ∷ get_or w (a + 3) 0 ∷ []
-four_words w a l =
-    rw (add-one a, add-two a, add-three a, drop-cons w a 0 (omega arith), drop-cons w (suc a) 0 (omega arith), drop-cons w (suc (suc a)) 0 (omega arith), drop-cons w (suc (suc (suc a))) 0 (omega arith))
 
 -- one row more: where it is of the relation and matches, it is put in as the values of its variables
 pub atom_more : (r : ℕ) (ts : List Term) (row : Row) (rows : List Row)

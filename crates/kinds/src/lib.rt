@@ -40,10 +40,7 @@ fn vars_of(mask: u8) -> Vars
 fn pick(t: bool, a: u32, b: u32) -> u32
     ensures { result ≡ cond t a b }
 {
-    if t {
-        return a;
-    }
-    b
+    if t { a } else { b }
 }
 
 // The row cut down to the variables of the mask.
@@ -105,16 +102,7 @@ fn join(f: u8, u: Row, w: Row) -> Row
 fn word_agrees(f: bool, g: bool, a: u32, b: u32, rest: bool) -> bool
     ensures { result ≡ ((not (f && g) || eqb a b) && rest) }
 {
-    if f {
-        if g {
-            if a == b {
-                return rest;
-            }
-            return false;
-        }
-        return rest;
-    }
-    rest
+    (!(f && g) || a == b) && rest
 }
 
 fn agree(f: u8, g: u8, u: Row, w: Row) -> bool
@@ -132,19 +120,13 @@ fn agree(f: u8, g: u8, u: Row, w: Row) -> bool
 fn column(u: Row, x: u32) -> u32
     ensures { result ≡ get_or (words_of u) x 0 }
 {
-    if x == 0 {
-        return u.v0;
+    match x {
+        0 => u.v0,
+        1 => u.v1,
+        2 => u.v2,
+        3 => u.v3,
+        _ => 0,
     }
-    if x == 1 {
-        return u.v1;
-    }
-    if x == 2 {
-        return u.v2;
-    }
-    if x == 3 {
-        return u.v3;
-    }
-    0
 }
 
 fn term_value(u: Row, t: Term) -> u32
@@ -195,13 +177,11 @@ fn and_row(
     ensures { Added lowest out.old n out.new result (map (joined (in_mask f) (words_of u)) (select (agrees (in_mask f) (in_mask g) (words_of u)) (rows_from rows.now from (to - from)))) }
 {
     let mut set = Gathered { count: n, near: 0 };
-    let mut i = from;
-    while i < to {
+    for i in from..to {
         let w = rowset::row_at(rows, i);
         let ok = agree(f, g, u, w);
         let row = join(f, u, w);
         set = rowset::add_if(ok, lowest, out, set, row);
-        i += 1;
     }
     set.count
 }
@@ -225,11 +205,9 @@ pub fn and(
     ensures { Added lowest out.old n out.new result (and_rows (in_mask f) (in_mask g) (rows_from rows.now from (to - from)) (rows_from rows.now start (end - start))) }
 {
     let mut k = n;
-    let mut i = from;
-    while i < to {
+    for i in from..to {
         let u = rowset::row_at(rows, i);
         k = and_row(lowest, f, g, u, rows, start, end, out, k);
-        i += 1;
     }
     k
 }
@@ -253,12 +231,10 @@ pub fn and_not(
     ensures { Added lowest out.old n out.new result (select (λ u. not (is_there (look_up inner (cut_to (in_mask g) (valuation_of u)) (rows_from rows.now start (end - start))))) (rows_from rows.now from (to - from))) }
 {
     let mut set = Gathered { count: n, near: 0 };
-    let mut i = from;
-    while i < to {
+    for i in from..to {
         let u = rowset::row_at(rows, i);
         let found = rowset::contains(inner, rows, start, end, cut(g, u));
         set = rowset::add_if(!found, lowest, out, set, u);
-        i += 1;
     }
     set.count
 }
@@ -280,14 +256,12 @@ pub fn keep(
     ensures { Added lowest out.old n out.new result (select (λ u. compares c (value (valuation_of u) s) (value (valuation_of u) t)) (rows_from rows.now from (to - from))) }
 {
     let mut set = Gathered { count: n, near: 0 };
-    let mut i = from;
-    while i < to {
+    for i in from..to {
         let u = rowset::row_at(rows, i);
         let a = term_value(u, s);
         let b = term_value(u, t);
         let ok = compare(c, a, b);
         set = rowset::add_if(ok, lowest, out, set, u);
-        i += 1;
     }
     set.count
 }
@@ -307,11 +281,9 @@ pub fn exists(
     ensures { Added lowest out.old n out.new result (map (λ u. cut_to (λ y. not (eqb y x)) (valuation_of u)) (rows_from rows.now from (to - from))) }
 {
     let mut set = Gathered { count: n, near: 0 };
-    let mut i = from;
-    while i < to {
+    for i in from..to {
         let u = without(x, rowset::row_at(rows, i));
         set = rowset::add(lowest, out, set, u);
-        i += 1;
     }
     set.count
 }
@@ -319,40 +291,49 @@ pub fn exists(
 fn is_variable(x: u32, t: Term) -> bool
     ensures { result ≡ is_variable x t }
 {
-    match t {
-        Term::Variable(y) => x == y,
-        Term::Constant(_) => false,
+    matches!(t, Term::Variable(y) if x == y)
+}
+
+// The one of four at place k; the fourth for every place after it.
+fn at_place<T: Copy>(k: u8, first: T, second: T, third: T, fourth: T) -> T
+    ensures { result ≡ get_or (first ∷ second ∷ third ∷ []) k fourth }
+{
+    match k {
+        0 => first,
+        1 => second,
+        2 => third,
+        _ => fourth,
     }
+}
+
+fn term_at(ts: Terms, k: u8) -> Term
+    ensures { result ≡ get_or (ts.first ∷ ts.second ∷ ts.third ∷ []) k ts.fourth }
+{
+    at_place(k, ts.first, ts.second, ts.third, ts.fourth)
+}
+
+fn column_at(c: Row, k: u8) -> u32
+    ensures { result ≡ get_or (c.v0 ∷ c.v1 ∷ c.v2 ∷ []) k c.v3 }
+{
+    at_place(k, c.v0, c.v1, c.v2, c.v3)
 }
 
 // The value that the columns give to variable x.
 fn bound_of(ts: Terms, c: Row, x: u32) -> u32
     ensures { result ≡ bound (terms_of ts) (take ts.count (words_of c)) x }
 {
-    let count = ts.count;
-    let t0 = ts.first;
-    let t1 = ts.second;
-    let t2 = ts.third;
-    let t3 = ts.fourth;
-    if 0 < count {
-        if is_variable(x, t0) {
-            return c.v0;
-        }
+    // No loop, which takes more instructions here and in `bound_row`: a sixteenth more for an event with 32 rows in each set.
+    if 0 < ts.count && is_variable(x, ts.first) {
+        return c.v0;
     }
-    if 1 < count {
-        if is_variable(x, t1) {
-            return c.v1;
-        }
+    if 1 < ts.count && is_variable(x, ts.second) {
+        return c.v1;
     }
-    if 2 < count {
-        if is_variable(x, t2) {
-            return c.v2;
-        }
+    if 2 < ts.count && is_variable(x, ts.third) {
+        return c.v2;
     }
-    if 3 < count {
-        if is_variable(x, t3) {
-            return c.v3;
-        }
+    if 3 < ts.count && is_variable(x, ts.fourth) {
+        return c.v3;
     }
     0
 }
@@ -366,49 +347,14 @@ fn term_bound(ts: Terms, c: Row, t: Term) -> u32
     }
 }
 
-// The term at place k; the fourth for every place after it.
-fn term_at(ts: Terms, k: u8) -> Term
-    ensures { result ≡ get_or (ts.first ∷ ts.second ∷ ts.third ∷ []) k ts.fourth }
-{
-    if k == 0 {
-        return ts.first;
-    }
-    if k == 1 {
-        return ts.second;
-    }
-    if k == 2 {
-        return ts.third;
-    }
-    ts.fourth
-}
-
-// The column at place k; the fourth for every place after it.
-fn column_at(c: Row, k: u8) -> u32
-    ensures { result ≡ get_or (c.v0 ∷ c.v1 ∷ c.v2 ∷ []) k c.v3 }
-{
-    if k == 0 {
-        return c.v0;
-    }
-    if k == 1 {
-        return c.v1;
-    }
-    if k == 2 {
-        return c.v2;
-    }
-    c.v3
-}
-
 // The columns are the terms' values. It is a loop since tests of four terms would be made ahead, for a node of any kind.
 fn columns_match(ts: Terms, c: Row) -> bool
     ensures { result ≡ same_row (map (value (bound (terms_of ts) (take ts.count (words_of c)))) (terms_of ts)) (take ts.count (words_of c)) }
 {
-    let count = ts.count;
-    let mut k: u8 = 0;
-    while k < count {
+    for k in 0..ts.count {
         if term_bound(ts, c, term_at(ts, k)) != column_at(c, k) {
             return false;
         }
-        k += 1;
     }
     true
 }
@@ -417,39 +363,13 @@ fn columns_match(ts: Terms, c: Row) -> bool
 fn with_value(x: u32, c: u32, r: Row) -> Row
     ensures { words_of result ≡ map (λ y. cond (eqb y x) c (valuation_of (words_of r) y)) variables }
 {
-    if x == 0 {
-        return Row {
-            v0: c,
-            v1: r.v1,
-            v2: r.v2,
-            v3: r.v3,
-        };
+    match x {
+        0 => Row { v0: c, ..r },
+        1 => Row { v1: c, ..r },
+        2 => Row { v2: c, ..r },
+        3 => Row { v3: c, ..r },
+        _ => r,
     }
-    if x == 1 {
-        return Row {
-            v0: r.v0,
-            v1: c,
-            v2: r.v2,
-            v3: r.v3,
-        };
-    }
-    if x == 2 {
-        return Row {
-            v0: r.v0,
-            v1: r.v1,
-            v2: c,
-            v3: r.v3,
-        };
-    }
-    if x == 3 {
-        return Row {
-            v0: r.v0,
-            v1: r.v1,
-            v2: r.v2,
-            v3: c,
-        };
-    }
-    r
 }
 
 // The row with the column's value at the variable that the term is; the row itself where it is a constant.
@@ -472,30 +392,25 @@ fn bound_row(ts: Terms, c: Row) -> Row
         v2: 0,
         v3: 0,
     };
-    let t0 = ts.first;
-    let t1 = ts.second;
-    let t2 = ts.third;
-    let t3 = ts.fourth;
-    let count = ts.count;
-    if count == 0 {
-        return none;
+    match ts.count {
+        0 => none,
+        1 => with_column(ts.first, c.v0, none),
+        2 => {
+            let last = with_column(ts.second, c.v1, none);
+            with_column(ts.first, c.v0, last)
+        }
+        3 => {
+            let last = with_column(ts.third, c.v2, none);
+            let second = with_column(ts.second, c.v1, last);
+            with_column(ts.first, c.v0, second)
+        }
+        _ => {
+            let last = with_column(ts.fourth, c.v3, none);
+            let third = with_column(ts.third, c.v2, last);
+            let second = with_column(ts.second, c.v1, third);
+            with_column(ts.first, c.v0, second)
+        }
     }
-    if count == 1 {
-        return with_column(t0, c.v0, none);
-    }
-    if count == 2 {
-        let last = with_column(t1, c.v1, none);
-        return with_column(t0, c.v0, last);
-    }
-    if count == 3 {
-        let last = with_column(t2, c.v2, none);
-        let second = with_column(t1, c.v1, last);
-        return with_column(t0, c.v0, second);
-    }
-    let last = with_column(t3, c.v3, none);
-    let third = with_column(t2, c.v2, last);
-    let second = with_column(t1, c.v1, third);
-    with_column(t0, c.v0, second)
 }
 
 // The columns of row k of an event of m rows.
@@ -528,19 +443,17 @@ fn atom_row(
     if found == relation {
         let ok = columns_match(ts, c);
         let row = bound_row(ts, c);
-        return rowset::add_if(ok, lowest, out, set, row);
+        rowset::add_if(ok, lowest, out, set, row)
+    } else {
+        set
     }
-    set
 }
 
 // How many rows an event has; a notice, which is one word, has none.
 pub fn row_total(event: &[u32]) -> usize
     ensures { result ≡ row_count event.now }
 {
-    if 1 < event.len() {
-        return event[1] as usize;
-    }
-    0
+    event.get(1).map_or(0, |m| *m as usize)
 }
 
 // "atom": a row of the event has as many values as the atom has terms.
@@ -558,11 +471,9 @@ pub fn atom(
 {
     let m = row_total(event);
     let mut set = Gathered { count: n, near: 0 };
-    let mut i = 0;
-    while i < m {
+    for i in 0..m {
         let c = columns_at(event, m, i);
         set = atom_row(lowest, relation, event[2 + i], ts, c, out, set);
-        i += 1;
     }
     set.count
 }

@@ -151,10 +151,3 @@ pub struct Body {
     pub word2: u32,
     pub word3: u32,
 }
-
-// What looking for a valuation among rows gives: the place where it stands; or that it isn't there, and the place of the first larger one, or how many rows there are.
-#[derive(Clone, Copy)]
-pub enum Sought {
-    There(usize),
-    Absent(usize),
-}

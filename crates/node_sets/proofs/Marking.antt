@@ -1,13 +1,12 @@
--- Marks where each point's rows end, entry after entry, and marks raised one after the other: none yet, one more, and all.
-use Prim.Native.Nat.{ℕ, ◌+◌, ◌-◌, ◌≤◌, ◌<◌}
-use mathlib.Core.Logic.{◌≢◌}
-use mathlib.Core.Path.{◌≡◌, refl, sym, ap, ◌∙◌}
+-- Marks where each point's rows end, entry after entry; and marks raised one after the other: none yet, one more, and all.
+use Prim.Native.Nat.{ℕ, ◌+◌, ◌≤◌, ◌<◌}
+use mathlib.Core.Path.{◌≡◌, refl, ap, ◌∙◌}
 use mathlib.Core.List.{List}
 use native.Mathlib.Omega.{arith}
 use lib.ListN.{length, get_or, set, length-set}
 use lib.Seq.{get_or-set_same, get_or-set_other}
-use lib.Dec.{eqb, ltb}
-use borrow.Author.Tests.{eqb-true, eqb-false, ltb-true, ltb-false}
+use lib.Dec.{ltb}
+use borrow.Author.Tests.{ltb-true, ltb-false}
 use Rattle.meaning.proofs.Points.{Tested, passed, failed, tested}
 use Rattle.node_sets.specs.Parts.{EndsMarked, MarksRaised}
 
@@ -16,58 +15,6 @@ pub record Marking (ns : List ℕ) (cursor count low : ℕ) (old new : List ℕ)
   pub begun : cursor ≤ i
   pub reached : i ≤ count
   pub done : EndsMarked ns cursor i low old new sets end
-
-pub marked_none : (ns : List ℕ) (cursor count low : ℕ) (at : List ℕ) (sets end : ℕ) → cursor ≤ count → Marking ns cursor count low at at sets end cursor
-marked_none ns cursor count low at sets end l =
-    record {
-      begun = omega arith;
-      reached = l;
-      done = record { long = refl; below = λ q m. refl; over = λ i k a b e. absurd (omega arith); most = λ k b h f. h };
-    }
-
-module _ {ns : List ℕ} {cursor count low : ℕ} {old new : List ℕ} {sets end i : ℕ} (t : Marking ns cursor count low old new sets end i) where
-  module _ (l : i < count) (p : ℕ) (is : get_or ns i 0 ≡ low + p) (room : sets + p + 1 < length old) {new' : List ℕ} (e : new' ≡ set new (sets + p + 1) (end + (i + 1 - cursor))) where
-    here : get_or new' (sets + p + 1) 0 ≡ end + (i + 1 - cursor)
-    here = ap (λ ms. get_or ms (sets + p + 1) 0) e ∙ get_or-set_same new (sets + p + 1) (end + (i + 1 - cursor)) 0 (omega (arith, t.done.long))
-
-    elsewhere : (q : ℕ) → (q ≡ sets + p + 1 → ⊥) → get_or new' q 0 ≡ get_or new q 0
-    elsewhere q d = ap (λ ms. get_or ms q 0) e ∙ get_or-set_other new (sets + p + 1) q (end + (i + 1 - cursor)) 0 d
-
-    over_more : (j k : ℕ) → cursor ≤ j → j < i + 1 → get_or ns j 0 ≡ low + k → Tested (eqb k p) → end + (j + 1 - cursor) ≤ get_or new' (sets + k + 1) 0
-    over_more j k a b f (passed u) =
-        let d : k ≡ p = eqb-true k p u in
-        rw d (omega (arith, here, t.begun))
-    over_more j k a b f (failed u) =
-        let d : k ≡ p → ⊥ = eqb-false k p u in
-        let o : j ≢ i = λ g. d (omega (arith, is, f, ap (λ m. get_or ns m 0) g)) in
-        rw (elsewhere (sets + k + 1) (λ g. d (omega arith))) (t.done.over j k a (omega arith) f)
-
-    most_more : (k b : ℕ) → get_or old (sets + k + 1) 0 ≤ b → ((j : ℕ) → cursor ≤ j → j < i + 1 → get_or ns j 0 ≡ low + k → end + (j + 1 - cursor) ≤ b) → Tested (eqb k p) → get_or new' (sets + k + 1) 0 ≤ b
-    most_more k b h f (passed u) =
-        let d : k ≡ p = eqb-true k p u in
-        let g : get_or ns i 0 ≡ low + k = is ∙ ap (λ m. low + m) (sym d) in
-        rw d (omega (arith, here, f i t.begun (omega arith) g))
-    most_more k b h f (failed u) =
-        let d : k ≡ p → ⊥ = eqb-false k p u in
-        rw (elsewhere (sets + k + 1) (λ g. d (omega arith))) (t.done.most k b h (λ j a c. f j a (omega arith)))
-
-    pub marked_more : Marking ns cursor count low old new' sets end (i + 1)
-    marked_more =
-        record {
-          begun = omega (arith, t.begun);
-          reached = omega arith;
-          done = record {
-            long = ap length e ∙ length-set new (sets + p + 1) (end + (i + 1 - cursor)) ∙ t.done.long;
-            below = λ q m. elsewhere q (omega arith) ∙ t.done.below q m;
-            over = λ j k a b f. over_more j k a b f (tested (eqb k p));
-            most = λ k b h f. most_more k b h f (tested (eqb k p));
-          };
-        }
-
-  pub marked_all : count ≤ i → EndsMarked ns cursor count low old new sets end
-  marked_all l =
-      let e : i ≡ count = omega (arith, t.reached) in
-      rw e at t.done
 
 -- k of the marks are raised, m is the last of them, and those behind it are as they were
 pub record Raising (old new : List ℕ) (sets n m k : ℕ) : Type 0 where

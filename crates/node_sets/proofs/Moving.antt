@@ -1,75 +1,45 @@
 -- Rows copied to lower rows of one slice, marks lowered, and sets put in the place of others.
 use Prim.Native.Nat.{ℕ, ◌+◌, ◌-◌, ◌*◌, ◌≤◌, ◌<◌}
-use mathlib.Core.Path.{◌≡◌, refl, sym, ap, ap₂, ◌∙◌}
-use mathlib.Core.List.{List, [], ◌∷◌, ◌++◌}
+use mathlib.Core.Path.{◌≡◌, refl, ap, ap₂, ◌∙◌}
+use mathlib.Core.List.{List, [], ◌∷◌}
+use native.Mathlib.Nat.{add-zero}
 use native.Mathlib.Omega.{arith}
+use Rattle.std.specs.List.{CopiedTo, SameBelow}
 use lib.ListN.{length, get_or, set, length-set}
 use lib.Seq.{get_or-set_same, get_or-set_other}
 use lib.Dec.{ltb}
 use borrow.Author.Tests.{ltb-true, ltb-false}
 use Rattle.meaning.proofs.Points.{Tested, passed, failed, tested}
-use Rattle.rowset.specs.declared.Row.{Row}
-use Rattle.rowset.specs.Rows.{words_of, row_at, set_row, rows_from}
+use Rattle.rowset.specs.Rows.{row_at, rows_from}
 use Rattle.rowset.specs.Sets.{Run}
-use Rattle.rowset.proofs.Runs.{rows_same, put_long, put_same, put_other}
+use Rattle.rowset.proofs.Runs.{rows_same}
 use Rattle.room.specs.Room.{set_in, SetsInOrder}
 use Rattle.room.proofs.SetsInOrder.{marks_rise}
-use Rattle.entries.proofs.Copies.{rows_each, rows_moved, rows_more, no_rows, word_before}
+use Rattle.entries.proofs.Copies.{rows_each, rows_moved}
 use Rattle.entries.proofs.Growth.{row_below}
 use Rattle.node_sets.specs.Blocks.{MovedDown}
 use Rattle.node_sets.specs.Parts.{Moved, MarksLowered}
-
--- the rows up to i are copied, k is the next; those from k on are as they were
-pub record Moving (old : List ℕ) (from to end : ℕ) (new : List ℕ) (k i : ℕ) : Type 0 where
-  pub begun : from ≤ i
-  pub reached : i ≤ to
-  pub next : k ≡ end + (i - from)
-  pub above : (q : ℕ) → k ≤ q → row_at new q ≡ row_at old q
-  pub done : Moved old end new from (i - from)
 
 -- rows that stay where they are
 pub moved_onto : (old : List ℕ) (from count end : ℕ) → end ≡ from → Moved old end old from count
 moved_onto old from count end e = record { long = refl; below = λ j l. refl; there = ap (λ a. rows_from old a count) e }
 
-pub moved_none : (old : List ℕ) (from to end : ℕ) → from ≤ to → Moving old from to end old end from
-moved_none old from to end l =
-    let e : from - from ≡ 0 = omega arith in
-    record {
-      begun = omega arith;
-      reached = l;
-      next = omega arith;
-      above = λ q h. refl;
-      done = record { long = refl; below = λ q h. refl; there = rw e (no_rows old old end from) };
-    }
+-- words copied within one slice are rows copied, four to a row
+pub moved_words : (old new : List ℕ) (from to end : ℕ) → from ≤ to → length new ≡ length old → CopiedTo old new (from * 4) (end * 4) (to * 4 - from * 4) → SameBelow old new (end * 4) → Moved old end new from (to - from)
+moved_words old new from to end o long copied below = record { long = long; below = λ j l. below j 0 l; there = rows_moved new old end from (to - from) rows }
+  where
+    word : (k i : ℕ) → k < to - from → i < 4 → get_or new ((end + k) * 4 + i) 0 ≡ get_or old ((from + k) * 4 + i) 0
+    word k i l v =
+        let e : from * 4 + ((end + k) * 4 + i - end * 4) ≡ (from + k) * 4 + i = omega arith in
+        rw e at (copied ((end + k) * 4 + i) 0 (omega arith) (omega arith))
 
-module _ {old : List ℕ} {from to end : ℕ} {new : List ℕ} {k i : ℕ} (t : Moving old from to end new k i) where
-  pub moved_more : end ≤ from → i < to → to * 4 ≤ length old → (r : Row) → words_of r ≡ row_at new i → {new' : List ℕ} → new' ≡ set_row new k r → Moving old from to end new' (k + 1) (i + 1)
-  moved_more lower l room r is {new'} e =
-      let h : Moved old end new from (i - from) = t.done in
-      let b : from ≤ i = t.begun in
-      let f : i + 1 - from ≡ i - from + 1 = omega arith in
-      let s : from + (i - from) ≡ i = omega arith in
-      let n : k ≡ end + (i - from) = t.next in
-      let same : rows_from (set_row new k r) end (i - from) ≡ rows_from old from (i - from)
-      = rows_same (set_row new k r) new end (i - from) (λ j a b. put_other new k r j (omega arith)) ∙ h.there in
-      let put : row_at (set_row new k r) k ≡ row_at old i = put_same new k r (omega (arith, h.long)) ∙ is ∙ t.above i (omega arith) in
-      let there : rows_from (set_row new k r) end (i - from + 1) ≡ rows_from old from (i - from + 1)
-      = rows_more (set_row new k r) end (i - from)
-      ∙ ap₂ (λ us u. us ++ u ∷ []) same (ap (row_at (set_row new k r)) (sym n) ∙ put ∙ ap (row_at old) (sym s))
-      ∙ sym (rows_more old from (i - from)) in
-      rw e
-      (record {
-        begun = omega arith;
-        reached = omega arith;
-        next = omega arith;
-        above = λ q a. put_other new k r q (omega arith) ∙ t.above q (omega arith);
-        done = rw f (record { long = put_long new k r ∙ h.long; below = λ j a. word_before new k r j (omega arith) ∙ h.below j a; there = there });
-      })
-
-  pub moved_all : to ≤ i → Moved old end new from (to - from)
-  moved_all l =
-      let e : i ≡ to = omega (arith, t.reached) in
-      rw e at t.done
+    rows : (k : ℕ) → k < to - from → row_at new (end + k) ≡ row_at old (from + k)
+    rows k l =
+        let w0 : get_or new ((end + k) * 4) 0 ≡ get_or old ((from + k) * 4) 0 = rw (add-zero ((end + k) * 4), add-zero ((from + k) * 4)) at (word k 0 l (omega arith)) in
+        let w1 = word k 1 l (omega arith) in
+        let w2 = word k 2 l (omega arith) in
+        let w3 = word k 3 l (omega arith) in
+        λ t. w0 t ∷ w1 t ∷ w2 t ∷ w3 t ∷ []
 
 -- the marks of the first k of m sets are lowered, and those behind them are as they were
 pub record Lowering (old new : List ℕ) (n d m by k : ℕ) : Type 0 where

@@ -24,11 +24,9 @@ fn mark_ends(
     requires { (cursor ≤ count) × (count ≤ length numbers.now) × NumbersWithin numbers.now cursor count low.0 (length at.old - 1 - sets) × (end + (count - cursor) < 4294967296) }
     ensures { EndsMarked numbers.now cursor count low.0 at.old at.new sets end }
 {
-    let mut i = cursor;
-    while i < count {
+    for i in cursor..count {
         let p = (numbers[i] - low.0) as usize;
-        i += 1;
-        at[sets + p + 1] = (end + (i - cursor)) as u32;
+        at[sets + p + 1] = (end + (i + 1 - cursor)) as u32;
     }
 }
 
@@ -38,12 +36,9 @@ fn raise_marks(at: &mut [u32], sets: usize, n: usize)
     ensures { MarksRaised at.old at.new sets n }
 {
     let mut m = at[sets];
-    let mut k = 0;
-    while k < n {
-        k += 1;
-        let a = at[sets + k];
-        m = if m < a { a } else { m };
-        at[sets + k] = m;
+    for k in 0..n {
+        m = m.max(at[sets + k + 1]);
+        at[sets + k + 1] = m;
     }
 }
 
@@ -80,14 +75,7 @@ fn copy_down(rows: &mut [u32], from: usize, to: usize, end: usize)
     if end == from {
         return;
     }
-    let mut k = end;
-    let mut i = from;
-    while i < to {
-        let row = rowset::row_at(rows, i);
-        rowset::put_row(rows, k, row);
-        k += 1;
-        i += 1;
-    }
+    rows.copy_within(from * 4..to * 4, end * 4);
 }
 
 // Lowers the marks of m sets from set n + d on to set n.
@@ -96,10 +84,8 @@ fn lower_marks(at: &mut [u32], n: usize, d: usize, m: usize)
     ensures { MarksLowered at.old at.new n d m }
 {
     let by = at[n + d] - at[n];
-    let mut k = 0;
-    while k < m {
-        k += 1;
-        at[n + k] = at[n + d + k] - by;
+    for k in 0..m {
+        at[n + k + 1] = at[n + d + k + 1] - by;
     }
 }
 
@@ -124,12 +110,10 @@ fn put_points(at: &[u32], q: usize, n: usize, from: Point, numbers: &mut [u32], 
         return;
     }
     let mut next = end;
-    let mut k = 0;
-    while k < n {
+    for k in 0..n {
         let count = (at[q + k + 1] - at[q + k]) as usize;
         entries::fill(from.0 + k as u32, count, numbers, next);
         next += count;
-        k += 1;
     }
 }
 

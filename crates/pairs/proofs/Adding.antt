@@ -6,7 +6,7 @@ use native.Mathlib.Omega.{arith}
 use lib.ListN.{length, length-append}
 use Rattle.meaning.specs.Evaluator.{insert}
 use Rattle.meaning.specs.LookUp.{look_up}
-use Rattle.meaning.specs.declared.Sought.TheVariants.{There, Absent}
+use Rattle.std.specs.Prelude.{Ok, Err}
 use Rattle.meaning.proofs.LookUp.{insert_there}
 use Rattle.rowset.specs.Rows.{words_of}
 use Rattle.rowset.specs.Sets.{Led}
@@ -33,7 +33,7 @@ add_beyond {lowest} x room l =
 
 module _ {lowest : ℕ} (ages values : List ℕ) (set : Gathered) (age : ℕ) (r : Row) (p : ℕ) (room : PairRoom lowest ages values set) where
   -- the pair is there, and the set stays
-  module _ (e : look_up (suc lowest) (age ∷ words_of r) (pairs_from ages values 0 set.count) ≡ There p) where
+  module _ (e : look_up (suc lowest) (age ∷ words_of r) (pairs_from ages values 0 set.count) ≡ Ok p) where
     led_there : Led (suc lowest) (pair_at ages values) p
     unfolding pairs_from
     led_there = there_led (suc lowest) (pair_at ages values) (age ∷ words_of r) (λ k. refl) set.count p e
@@ -47,7 +47,7 @@ module _ {lowest : ℕ} (ages values : List ℕ) (set : Gathered) (age : ℕ) (r
           put = λ s h. subst (PairsStand ages values set.count) (sym (h.set f) ∙ sym (insert_there (suc lowest) (age ∷ words_of r) (pairs_from ages values 0 set.count) p e) ∙ ap (insert (suc lowest) (age ∷ words_of r)) (h.set f)) h;
         }
 
-  module _ (e : look_up (suc lowest) (age ∷ words_of r) (pairs_from ages values 0 set.count) ≡ Absent p) where
+  module _ (e : look_up (suc lowest) (age ∷ words_of r) (pairs_from ages values 0 set.count) ≡ Err p) where
     pub place-within : p ≤ set.count
     unfolding pairs_from
     place-within = absent_within (suc lowest) (pair_at ages values) (age ∷ words_of r) (λ k. refl) set.count p e

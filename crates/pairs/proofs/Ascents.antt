@@ -1,15 +1,18 @@
--- A run ascends where each item stands before the next; the ages of pairs that ascend don't fall, and how many of them are below a bound is found by halving.
+-- A run ascends where each item stands before the next; the ages of pairs that ascend don't fall, so that they are parted at a bound.
 use Prim.Native.Nat.{ℕ, zero, suc, ◌+◌, ◌-◌, ◌≤◌, ◌<◌}
 use native.Mathlib.Nat.{eq-or-lt_of_le}
 use native.Mathlib.Numerals.{add-one}
 use native.Mathlib.Omega.{arith}
 use mathlib.Core.Path.{◌≡◌, refl}
-use mathlib.Core.Bool.{true, ◌&&◌}
+use mathlib.Core.Bool.{true, false, ◌&&◌}
 use mathlib.Core.Logic.{◌⊎◌, inl, inr}
 use mathlib.Core.List.{List, ◌∷◌, map}
-use lib.ListN.{get_or}
+use lib.ListN.{length, get_or, take}
+use Rattle.std.specs.List.Sorted.{IsNonDecreasingBy, IsPartitionPoint}
 use lib.Dec.{ltb, eqb}
-use borrow.Author.Tests.{ltb-true, lt-ltb, le-ltb, eqb-true, eq-eqb}
+use Rattle.std.proofs.lemmas.List.{get_or-take, length-take-le}
+use Rattle.std.proofs.lemmas.Grind.{get_or_default_zero}
+use borrow.Author.Tests.{ltb-true, ltb-false, lt-ltb, le-ltb, eqb-true, eq-eqb}
 use Rattle.meaning.specs.Lists.{range}
 use Rattle.meaning.specs.Order.{before, ascending}
 use Rattle.meaning.proofs.Points.{first, second}
@@ -77,24 +80,19 @@ module _ (lowest : ℕ) (ages values : List ℕ) (n : ℕ) (up : ascending (suc 
   unfolding pairs_from
   fewer_ascend m l = ascends_run (suc lowest) (pair_at ages values) 0 m (λ k a b. next_before k (omega arith))
 
--- the ages up to low are below the bound, and those from high on aren't
-pub record Halving (ages : List ℕ) (n by bound low high : ℕ) : Type 0 where
-  pub ordered : low ≤ high
-  pub within : high ≤ n
-  pub below : (k : ℕ) → k < low → get_or ages k 0 + by < bound
-  pub others : (k : ℕ) → high ≤ k → k < n → bound ≤ get_or ages k 0 + by
+-- the first n ages don't fall, and so they are parted at a bound
+module _ (ages : List ℕ) (n by : ℕ) (l : n ≤ length ages) where
+  pub first_rise : Rising ages n → IsNonDecreasingBy (λ age. age + by) (take n ages)
+  first_rise up j k d h m =
+      let e = length-take-le n ages l in
+      let v : k < n = omega arith in
+      rw (get_or-take n ages j d (omega arith), get_or-take n ages k d v, get_or_default_zero ages j d (omega arith), get_or_default_zero ages k d (omega arith)) (omega (arith, up j k h v))
 
-module _ {ages : List ℕ} {n by bound : ℕ} where
-  pub halving_none : Halving ages n by bound 0 n
-  halving_none = record { ordered = omega arith; within = omega arith; below = λ k l. absurd (omega arith); others = λ k l m. absurd (omega arith) }
-
-  module _ {low high : ℕ} (h : Halving ages n by bound low high) where
-    pub halving_up : (middle : ℕ) → Rising ages n → middle < high → get_or ages middle 0 + by < bound → Halving ages n by bound (middle + 1) high
-    halving_up middle r l m =
-        record { ordered = omega arith; within = h.within; below = λ k u. omega (arith, r k middle (omega arith) (omega (arith, h.within))); others = h.others }
-
-    pub halving_down : (middle : ℕ) → Rising ages n → low ≤ middle → middle < high → bound ≤ get_or ages middle 0 + by → Halving ages n by bound low middle
-    halving_down middle r l u m = record { ordered = l; within = omega (arith, h.within); below = h.below; others = λ k a b. omega (arith, r middle k a b) }
-
-    pub halving_all : high ≤ low → Below ages n by bound low
-    halving_all l = record { most = omega (arith, h.ordered, h.within); below = h.below; others = λ k a b. h.others k (omega arith) b }
+  pub below_parted : (bound m : ℕ) → m ≤ length (take n ages) → IsPartitionPoint (λ age. ltb (age + by) bound ≡ true) (λ age. ltb (age + by) bound ≡ false) (take n ages) m → Below ages n by bound m
+  below_parted bound m h p =
+      let e = length-take-le n ages l in
+      record {
+        most = omega arith;
+        below = λ k v. ltb-true (get_or ages k 0 + by) bound (rw (get_or-take n ages k 0 (omega arith)) at (p.0 k 0 (omega arith) v));
+        others = λ k v w. ltb-false (get_or ages k 0 + by) bound (rw (get_or-take n ages k 0 w) at (p.1 k 0 v (omega arith)));
+      }

@@ -1,5 +1,4 @@
 -- Facts about pairs in words.
-pub mod Order
 pub mod Runs
 pub mod Adding
 pub mod Growing

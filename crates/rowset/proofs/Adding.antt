@@ -1,4 +1,5 @@
 -- A row that was looked for in a set: it is there already, is put in, or the set is full; then where the next may be looked for.
+use Rattle.std.specs.Prelude.{Ok, Err}
 use Prim.Native.Nat.{ℕ, ◌+◌, ◌-◌, ◌≤◌, ◌<◌}
 use mathlib.Core.Path.{◌≡◌, refl, sym, ◌∙◌}
 use mathlib.Core.Bool.{Bool, true, false, cond}
@@ -8,7 +9,6 @@ use lib.ListN.{length}
 use lib.Dec.{ltb}
 use Rattle.meaning.specs.Evaluator.{insert}
 use Rattle.meaning.specs.LookUp.{look_up}
-use Rattle.meaning.specs.declared.Sought.TheVariants.{There, Absent}
 use Rattle.meaning.proofs.LookUp.{insert_there}
 use Rattle.rowset.specs.declared.Row.{Row}
 use Rattle.rowset.specs.Rows.{words_of, row_at, rows_from, most_held}
@@ -23,7 +23,7 @@ add_full lowest ws r n m l =
     record { most = m; long = refl; set = sym (when_full lowest (rows_from ws 0 n) r (omega arith)) }
 
 module _ (lowest : ℕ) (ws : List ℕ) (r : Row) (n p : ℕ) where
-  module _ (e : look_up lowest (words_of r) (rows_from ws 0 n) ≡ There p) where
+  module _ (e : look_up lowest (words_of r) (rows_from ws 0 n) ≡ Ok p) where
     pub add_there : n ≤ most_held → Added lowest ws n ws n (words_of r ∷ [])
     add_there m = record { most = m; long = refl; set = stays (ltb (length (rows_from ws 0 n)) most_held) }
       where
@@ -35,7 +35,7 @@ module _ (lowest : ℕ) (ws : List ℕ) (r : Row) (n p : ℕ) where
     unfolding rows_from
     led_there = there_led lowest (row_at ws) (words_of r) (λ k. refl) n p e
 
-  module _ (e : look_up lowest (words_of r) (rows_from ws 0 n) ≡ Absent p) where
+  module _ (e : look_up lowest (words_of r) (rows_from ws 0 n) ≡ Err p) where
     pub place-within : p ≤ n
     unfolding rows_from
     place-within = absent_within lowest (row_at ws) (words_of r) (λ k. refl) n p e

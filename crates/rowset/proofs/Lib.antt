@@ -1,5 +1,4 @@
 -- Facts about sets of rows.
-pub mod Words
 pub mod Saturation
 pub mod Runs
 pub mod Searching

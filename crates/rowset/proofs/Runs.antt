@@ -1,15 +1,16 @@
--- Runs of what an accessor gives: taken from the front, in two parts, after an item was put in place of another, and one pass of an item through the rest.
+-- Runs of what an accessor gives: taken from the front, in two parts, after an item was put in place of another, and after one was put in among others.
 -- Then runs of rows in words.
 use Prim.Native.Nat.{ℕ, zero, suc, ◌+◌, ◌-◌, ◌*◌, ◌≤◌, ◌<◌}
 use mathlib.Core.Logic.{◌≢◌}
-use mathlib.Core.Path.{◌≡◌, refl, sym, ap, ap₂, ◌∙◌}
+use mathlib.Core.Path.{◌≡◌, refl, ap, ap₂, ◌∙◌}
 use mathlib.Core.List.Memᴰ
 use mathlib.Core.List.{List, [], ◌∷◌, ◌++◌, map}
 use native.Mathlib.Nat.{zero-add, add-zero}
 use native.Mathlib.Numerals.{add-one}
 use native.Mathlib.Omega.{arith}
 use lib.ListN.{length, get_or, set, take, drop, length-set}
-use lib.Seq.{get_or-set_same, get_or-set_other, take_at, drop_at, append_snoc}
+use lib.Seq.{get_or-set_same, get_or-set_other, take_at, drop_at}
+use Rattle.std.specs.List.{CopiedTo, SameBelow}
 use Rattle.meaning.specs.Lists.{range}
 use Rattle.meaning.specs.Order.{OfLength}
 use Rattle.rowset.specs.declared.Row.{Row}
@@ -58,52 +59,48 @@ module _ {A : Type 0} (at : ℕ → A) where
   pub run_drop : (n p : ℕ) → p ≤ n → drop p (map at (range 0 n)) ≡ map at (range p (n - p))
   run_drop n p l = ap (drop p) (run_split n p l) ∙ drop_at (map at (range 0 p)) (map at (range p (n - p))) p (run_length 0 p)
 
-  run_last : (n : ℕ) → map at (range 0 (n + 1)) ≡ map at (range 0 n) ++ at n ∷ []
-  run_last n =
-      let e : n + 1 - n ≡ 1 = omega arith in
-      run_split (n + 1) n (omega arith) ∙ ap (λ m. map at (range 0 n) ++ map at (range n m)) e
-
 -- two runs with the same items
 pub run_same : {A : Type 0} (at bt : ℕ → A) (a n : ℕ) → ((k : ℕ) → a ≤ k → k < a + n → at k ≡ bt k) → map at (range a n) ≡ map bt (range a n)
 run_same at bt a zero h = refl
 run_same at bt a (suc n) h =
     ap₂ (λ x y. x ∷ y) (h a (omega arith) (omega arith)) (run_same at bt (suc a) n (λ k l m. h k (omega arith) (omega arith)))
 
+-- the same, of another accessor's items from another on
+pub run_moved : {A : Type 0} (at bt : ℕ → A) (a b n : ℕ) → ((k : ℕ) → k < n → at (a + k) ≡ bt (b + k)) → map at (range a n) ≡ map bt (range b n)
+run_moved at bt a b zero h = refl
+run_moved at bt a b (suc n) h =
+    let e : a + 0 ≡ a = omega arith in
+    let d : b + 0 ≡ b = omega arith in
+    ap₂ (λ x xs. x ∷ xs) (rw (e, d) at (h 0 (omega arith))) (run_moved at bt (suc a) (suc b) n next)
+  where
+    next : (k : ℕ) → k < n → at (suc a + k) ≡ bt (suc b + k)
+    next k l =
+        let e : suc a + k ≡ a + suc k = omega arith in
+        let d : suc b + k ≡ b + suc k = omega arith in
+        rw (e, d) (h (suc k) (omega arith))
+
 -- an accessor with x in place of item k
 pub record Replaced {A : Type 0} (at at' : ℕ → A) (k : ℕ) (x : A) : Type 0 where
   pub here : at' k ≡ x
   pub others : (j : ℕ) → j ≢ k → at' j ≡ at j
 
--- one pass of an item through the rest of a run leaves it in place p: the first items up to i, the item held and the rest stay as they are
-pub record Passing {A : Type 0} (at₀ : ℕ → A) (n p : ℕ) (x : A) (at : ℕ → A) (held : A) (i : ℕ) : Type 0 where
-  pub reached : i ≤ n
-  pub whole : map at (range 0 i) ++ held ∷ map at (range i (n - i)) ≡ map at₀ (range 0 p) ++ x ∷ map at₀ (range p (n - p))
+-- an item put in place p among the first n, where those from there on have moved up by one
+pub record Shifted {A : Type 0} (at at' : ℕ → A) (n p : ℕ) (x : A) : Type 0 where
+  pub below : (k : ℕ) → k < p → at' k ≡ at k
+  pub here : at' p ≡ x
+  pub above : (k : ℕ) → p ≤ k → k < n → at' (k + 1) ≡ at k
 
-pub passing : {A : Type 0} (at : ℕ → A) (n p : ℕ) (x : A) → p ≤ n → Passing at n p x at x p
-passing at n p x l = record { reached = l; whole = refl }
-
-module _ {A : Type 0} {at at' : ℕ → A} {k : ℕ} {x : A} (r : Replaced at at' k x) where
-  -- an item put after the first k
-  put_last : map at' (range 0 (k + 1)) ≡ map at (range 0 k) ++ x ∷ []
-  put_last = run_last at' k ∙ ap₂ (λ us u. us ++ u ∷ []) (run_same at' at 0 k (λ j a b. r.others j (omega arith))) r.here
-
-  put_below : (a n : ℕ) → k < a → map at' (range a n) ≡ map at (range a n)
-  put_below a n l = run_same at' at a n (λ j p q. r.others j (omega arith))
-
-module _ {A : Type 0} {at₀ : ℕ → A} {n p : ℕ} {x : A} {at : ℕ → A} {held : A} {i : ℕ} (t : Passing at₀ n p x at held i) where
-  -- the held item is put at i, and the one that stood there is held
-  pub passed_on : i < n → {at' : ℕ → A} → Replaced at at' i held → {next : A} → next ≡ at i → Passing at₀ n p x at' next (i + 1)
-  passed_on l {at'} r {next} f =
-      let g : map at' (range 0 (i + 1)) ++ next ∷ map at' (range (i + 1) (n - (i + 1))) ≡ map at (range 0 i) ++ held ∷ map at (range i (n - i))
-      = rw (f, put_last r, put_below r (i + 1) (n - (i + 1)) (omega arith), run_first at n i l) (append_snoc (map at (range 0 i)) held _) in
-      record { reached = omega arith; whole = g ∙ t.whole }
-
-  pub passed_all : n ≤ i → {at' : ℕ → A} → Replaced at at' n held → map at' (range 0 (n + 1)) ≡ map at₀ (range 0 p) ++ x ∷ map at₀ (range p (n - p))
-  passed_all l r =
-      let b = t.reached in
-      let f : i ≡ n = omega arith in
-      let g : map at (range 0 n) ++ held ∷ map at (range n (n - n)) ≡ map at₀ (range 0 p) ++ x ∷ map at₀ (range p (n - p)) = rw f at t.whole in
-      put_last r ∙ ap (λ us. map at (range 0 n) ++ held ∷ us) (sym (run_end at n n (omega arith))) ∙ g
+pub run_shifted : {A : Type 0} {at at' : ℕ → A} {n p : ℕ} {x : A} → p ≤ n → Shifted at at' n p x → map at' (range 0 (n + 1)) ≡ map at (range 0 p) ++ x ∷ map at (range p (n - p))
+run_shifted {A} {at} {at'} {n} {p} {x} l s =
+    let e : n + 1 ≡ p + suc (n - p) = omega arith in
+    let z : 0 + p ≡ p = omega arith in
+    rw e (rw z at (run_append at' 0 p (suc (n - p))))
+    ∙ ap₂ (λ us vs. us ++ vs) (run_same at' at 0 p (λ k a b. s.below k (omega arith))) (ap₂ (λ u us. u ∷ us) s.here (run_moved at' at (suc p) p (n - p) up))
+  where
+    up : (k : ℕ) → k < n - p → at' (suc p + k) ≡ at (p + k)
+    up k m =
+        let e : suc p + k ≡ p + k + 1 = omega arith in
+        rw e (s.above (p + k) (omega arith) (omega arith))
 
 -- a run of lists of one length
 pub run_of_length : (at : ℕ → List ℕ) (m : ℕ) → ((k : ℕ) → length (at k) ≡ m) → (a n : ℕ) → OfLength m (map at (range a n))
@@ -144,6 +141,28 @@ module _ (ws : List ℕ) where
 pub rows_same : (ws us : List ℕ) (a n : ℕ) → ((k : ℕ) → a ≤ k → k < a + n → row_at ws k ≡ row_at us k) → rows_from ws a n ≡ rows_from us a n
 unfolding rows_from
 rows_same ws us a n h = run_same (row_at ws) (row_at us) a n h
+
+-- after the words of rows p..n were copied up by a row
+module _ (old new : List ℕ) (n p : ℕ) (copied : CopiedTo old new (p * 4) ((p + 1) * 4) (n * 4 - p * 4)) (same : SameBelow old new ((p + 1) * 4)) where
+  pub rows_below : (k : ℕ) → k < p + 1 → row_at new k ≡ row_at old k
+  rows_below k l =
+      let w0 = same (k * 4) 0 (omega arith) in
+      let w1 = same (k * 4 + 1) 0 (omega arith) in
+      let w2 = same (k * 4 + 2) 0 (omega arith) in
+      let w3 = same (k * 4 + 3) 0 (omega arith) in
+      λ t. w0 t ∷ w1 t ∷ w2 t ∷ w3 t ∷ []
+
+  pub rows_above : (k : ℕ) → p ≤ k → k < n → row_at new (k + 1) ≡ row_at old k
+  rows_above k l m =
+      let e0 : p * 4 + ((k + 1) * 4 - (p + 1) * 4) ≡ k * 4 = omega arith in
+      let e1 : p * 4 + ((k + 1) * 4 + 1 - (p + 1) * 4) ≡ k * 4 + 1 = omega arith in
+      let e2 : p * 4 + ((k + 1) * 4 + 2 - (p + 1) * 4) ≡ k * 4 + 2 = omega arith in
+      let e3 : p * 4 + ((k + 1) * 4 + 3 - (p + 1) * 4) ≡ k * 4 + 3 = omega arith in
+      let w0 = rw e0 at (copied ((k + 1) * 4) 0 (omega arith) (omega arith)) in
+      let w1 = rw e1 at (copied ((k + 1) * 4 + 1) 0 (omega arith) (omega arith)) in
+      let w2 = rw e2 at (copied ((k + 1) * 4 + 2) 0 (omega arith) (omega arith)) in
+      let w3 = rw e3 at (copied ((k + 1) * 4 + 3) 0 (omega arith) (omega arith)) in
+      λ t. w0 t ∷ w1 t ∷ w2 t ∷ w3 t ∷ []
 
 -- after a row was put in place of row k
 module _ (ws : List ℕ) (k : ℕ) (r : Row) where

@@ -1,12 +1,12 @@
 -- Sets of valuations as they stand in words: rows of four words, put in up to a limit.
 use Rattle.std.specs.Prelude.{ℕ, ◌+◌, ◌*◌, Bool, cond, List, [], ◌∷◌, map, length, get_or, set, ltb}
+use Rattle.std.specs.declared.cmp.Ordering.{Ordering}
+use Rattle.std.specs.declared.cmp.Ordering.TheVariants.{Less, Equal, Greater}
 use Rattle.meaning.specs.Outcome.{most_rows}
 use Rattle.meaning.specs.Lists.{range, same_row}
 use Rattle.meaning.specs.Order.{before}
 use Rattle.meaning.specs.Evaluator.{insert}
 use Rattle.rowset.specs.declared.Row.{Row}
-use Rattle.rowset.specs.declared.Compared.{Compared}
-use Rattle.rowset.specs.declared.Compared.TheVariants.{Before, Same, After}
 
 abbrev pub words_of : Row → List ℕ
 words_of r = r.v0 ∷ r.v1 ∷ r.v2 ∷ r.v3 ∷ []
@@ -24,10 +24,10 @@ unfoldable pub rows_from : List ℕ → ℕ → ℕ → List (List ℕ)
 rows_from ws from count = map (row_at ws) (range from count)
 
 -- how two rows stand to each other, where it is known whether the first is before the second and whether they are the same
-abbrev pub compared_by : Bool → Bool → Compared
-compared_by less same = cond less Before (cond same Same After)
+abbrev pub compared_by : Bool → Bool → Ordering
+compared_by less same = cond less Less (cond same Equal Greater)
 
-abbrev pub compared : ℕ → List ℕ → List ℕ → Compared
+abbrev pub compared : ℕ → List ℕ → List ℕ → Ordering
 compared lowest x y = compared_by (before lowest x y) (same_row x y)
 
 -- rows at most that a set takes: one more than a node may have, so that too many shows

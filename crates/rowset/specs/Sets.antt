@@ -1,13 +1,12 @@
 -- What functions over sets ask and ensure: a run of rows that is read, where a search in a set may begin, room for a set, and rows put into it.
-use Rattle.std.specs.Prelude.{ℕ, ◌-◌, ◌*◌, ◌≤◌, ◌<◌, ◌≡◌, true, List, map, length}
+use Rattle.std.specs.Prelude.{ℕ, ◌-◌, ◌*◌, ◌≤◌, ◌<◌, ◌≡◌, true, List, map, length, Result, Ok, Err}
+use Rattle.std.specs.declared.cmp.Ordering.{Ordering}
 use Rattle.meaning.specs.Outcome.{most_rows}
 use Rattle.meaning.specs.Lists.{range}
 use Rattle.meaning.specs.Order.{before}
 use Rattle.meaning.specs.LookUp.{look_up}
-use Rattle.meaning.specs.declared.Sought.{Sought}
-use Rattle.meaning.specs.declared.Sought.TheVariants.{There, Absent}
 use Rattle.rowset.specs.declared.Gathered.{Gathered}
-use Rattle.rowset.specs.Rows.{row_at, rows_from, most_held, add_all_capped}
+use Rattle.rowset.specs.Rows.{row_at, rows_from, compared, most_held, add_all_capped}
 
 -- rows from..to, without the last, stand in the words
 pub record Run (ws : List ℕ) (from to : ℕ) : Type 0 where
@@ -28,10 +27,14 @@ AllBefore lowest at n x = (k : ℕ) → k < n → before lowest (at k) x ≡ tru
 abbrev pub Led : ℕ → (ℕ → List ℕ) → ℕ → Type 0
 Led lowest at p = AllBefore lowest at p (at p)
 
+-- it is told how each of the first n items stands to x, which is as long as they are
+abbrev pub Tells : (ℕ → Ordering → Type 0) → ℕ → (ℕ → List ℕ) → ℕ → List ℕ → Type 0
+Tells told lowest at n x = ((k : ℕ) → length (at k) ≡ length x) × ((i : ℕ) (stands : Ordering) → i < n → told i stands → stands ≡ compared lowest (at i) x)
+
 -- where a search for x among the first n items begins: x is found at item p, as from the front, or the first s items all stand before it
-abbrev pub Begins : ℕ → (ℕ → List ℕ) → ℕ → List ℕ → Sought → Type 0
-Begins lowest at n x (There p) = look_up lowest x (map at (range 0 n)) ≡ There p
-Begins lowest at n x (Absent s) = (s ≤ n) × AllBefore lowest at s x
+abbrev pub Begins : ℕ → (ℕ → List ℕ) → ℕ → List ℕ → Result ℕ ℕ → Type 0
+Begins lowest at n x (Ok p) = look_up lowest x (map at (range 0 n)) ≡ Ok p
+Begins lowest at n x (Err s) = (s ≤ n) × AllBefore lowest at s x
 
 -- a set of n rows at the front of the words, which have room for the most that a set holds
 pub record SetRoom (ws : List ℕ) (n : ℕ) : Type 0 where

@@ -8,7 +8,7 @@ loop-i-init c = let a = c.args in
 
 pub loop-i-preserved : goal.loop-i-preserved
 loop-i-preserved c = copied_more c.loop-i.invariant c.loop-i-test.true
-    c.requires.1 c.row_at-row.result c.row_at-row.ensures c.put_row.ensures
+    c.requires.1 c.row_at.result c.row_at.ensures c.put_row.ensures
 
 pub shape_of-rows : goal.shape_of-rows
 shape_of-rows c = c.loop-i.invariant.done.long

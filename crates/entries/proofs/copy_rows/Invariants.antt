@@ -1,10 +1,6 @@
-use Prim.Native.Nat.{◌-◌}
 use Rattle.entries.proofs.Copies.{Copying}
 use Rattle.entries.proofs.copy_rows.Given as goal
 
 -- `copy_rows` meets its contract. The loop's invariant: the rows before i are copied.
 abbrev pub invariant-loop-i : goal.invariant-loop-i
-invariant-loop-i l = Copying l.values l.from l.to l.initial.rows l.end l.rows l.k l.i
-
-abbrev pub decreases-loop-i : goal.decreases-loop-i
-decreases-loop-i l = l.to - l.i
+invariant-loop-i l = Copying l.values l.from l.to l.initial.rows l.end l.rows l.i

@@ -6,7 +6,7 @@ use Rattle.meaning.specs.Lists.{select}
 use Rattle.meaning.specs.Evaluator.{agrees, joined}
 use Rattle.kinds.specs.Kinds.{in_mask}
 use Rattle.rowset.specs.Rows.{rows_from}
-use Rattle.rowset.proofs.Growing.{begun, turned, ended}
+use Rattle.rowset.proofs.Growing.{begun, turned}
 use Rattle.kinds.proofs.and.Goals as goal
 
 pub loop-i-init : goal.loop-i-init
@@ -19,9 +19,3 @@ loop-i-preserved c = let a = c.args in
     let one : List ℕ → List (List ℕ) = λ u. map (joined (in_mask a.f) u) (select (agrees (in_mask a.f) (in_mask a.g) u) rights) in
     turned c.loop-i.invariant (one) (λ x xs. refl) c.loop-i-test.true c.and_row-k.ensures
     (ap one c.row_at-u.ensures)
-
-pub shape_of-out : goal.shape_of-out
-shape_of-out c = c.loop-i.invariant.put.long
-
-pub returns : goal.returns
-returns c = ended c.loop-i.invariant refl c.loop-i-test.false

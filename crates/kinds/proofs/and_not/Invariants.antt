@@ -11,6 +11,3 @@ use Rattle.kinds.proofs.and_not.Given as goal
 -- `and_not` meets its contract: each row of the left run that has none in the right run is put in.
 abbrev pub invariant-loop-i : goal.invariant-loop-i
 invariant-loop-i l = Gathering l.lowest (row_at l.rows) (select (λ u. not (is_there (look_up l.inner (cut_to (in_mask l.g) (valuation_of u)) (rows_from l.rows l.start (l.end - l.start)))))) l.to l.initial.out l.initial.set (select (λ u. not (is_there (look_up l.inner (cut_to (in_mask l.g) (valuation_of u)) (rows_from l.rows l.start (l.end - l.start))))) (rows_from l.rows l.from (l.to - l.from))) l.out l.set l.i
-
-abbrev pub decreases-loop-i : goal.decreases-loop-i
-decreases-loop-i l = l.to - l.i

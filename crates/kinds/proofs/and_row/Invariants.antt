@@ -10,6 +10,3 @@ use Rattle.kinds.proofs.and_row.Given as goal
 -- `and_row` meets its contract: each row of the run that agrees is put in, joined.
 abbrev pub invariant-loop-i : goal.invariant-loop-i
 invariant-loop-i l = Gathering l.lowest (row_at l.rows) (λ us. map (joined (in_mask l.f) (words_of l.u)) (select (agrees (in_mask l.f) (in_mask l.g) (words_of l.u)) us)) l.to l.initial.out l.initial.set (map (joined (in_mask l.f) (words_of l.u)) (select (agrees (in_mask l.f) (in_mask l.g) (words_of l.u)) (rows_from l.rows l.from (l.to - l.from)))) l.out l.set l.i
-
-abbrev pub decreases-loop-i : goal.decreases-loop-i
-decreases-loop-i l = l.to - l.i

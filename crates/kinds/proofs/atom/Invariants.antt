@@ -1,4 +1,3 @@
-use Prim.Native.Nat.{◌-◌}
 use Rattle.meaning.specs.Log.{relation_in}
 use Rattle.meaning.specs.Formula.{terms_of}
 use Rattle.meaning.specs.Evaluator.{atom_rows}
@@ -9,6 +8,3 @@ use Rattle.kinds.proofs.atom.Given as goal
 -- `atom` meets its contract: each row of the event that matches is put in, as the values of its variables.
 abbrev pub invariant-loop-i : goal.invariant-loop-i
 invariant-loop-i l = Gathering l.lowest (row_with l.ts.count l.event) (λ rows. atom_rows (terms_of l.ts) (relation_in l.relation rows)) l.m l.initial.out l.initial.set (atom_rows (terms_of l.ts) (relation_in l.relation (rows_with l.ts.count l.event))) l.out l.set l.i
-
-abbrev pub decreases-loop-i : goal.decreases-loop-i
-decreases-loop-i l = l.m - l.i

@@ -6,17 +6,11 @@ use Rattle.meaning.specs.Formula.{terms_of}
 use Rattle.meaning.specs.Definition2.{value}
 use Rattle.meaning.specs.Evaluator.{bound}
 use Rattle.rowset.specs.Rows.{words_of}
-use Rattle.kinds.proofs.Atoms.{term_at, matching_none, matching_more, matching_all, matching_ends}
+use Rattle.kinds.proofs.Atoms.{term_at, matching_all, matching_ends}
 use Rattle.kinds.proofs.columns_match.Goals as goal
-
-pub loop-k-init : goal.loop-k-init
-loop-k-init c = matching_none
 
 pub returns-then-term_bound-column_at : goal.returns-then-term_bound-column_at
 returns-then-term_bound-column_at c = sym (matching_ends c.loop-k.invariant c.loop-k-test.true (λ e. c.if-term_bound-column_at.true ((let it : let a = c.args in c.term_bound.result ≡ value (bound (terms_of a.ts) (take a.ts.count (words_of a.c))) (term_at a.ts c.loop-k.k) = let a = c.args in c.term_bound.ensures ∙ ap (value (bound (terms_of a.ts) (take a.ts.count (words_of a.c)))) c.term_at.ensures in it) ∙ e ∙ sym c.column_at.ensures)))
-
-pub loop-k-preserved : goal.loop-k-preserved
-loop-k-preserved c = matching_more c.loop-k.invariant (sym ((let it : let a = c.args in c.term_bound.result ≡ value (bound (terms_of a.ts) (take a.ts.count (words_of a.c))) (term_at a.ts c.loop-k.k) = let a = c.args in c.term_bound.ensures ∙ ap (value (bound (terms_of a.ts) (take a.ts.count (words_of a.c)))) c.term_at.ensures in it)) ∙ c.if-term_bound-column_at.false ∙ c.column_at.ensures)
 
 pub returns : goal.returns
 returns c = sym (matching_all c.args.ts.count c.loop-k.invariant (omega (arith, c.loop-k-test.false)))

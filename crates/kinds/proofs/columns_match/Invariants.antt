@@ -1,4 +1,3 @@
-use Prim.Native.Nat.{◌-◌}
 use lib.ListN.{take}
 use Rattle.meaning.specs.Formula.{terms_of}
 use Rattle.meaning.specs.Definition2.{value}
@@ -10,6 +9,3 @@ use Rattle.kinds.proofs.columns_match.Given as goal
 -- `columns_match` meets its contract. The loop keeps `Matching`: the columns before place k are their terms' values.
 abbrev pub invariant-loop-k : goal.invariant-loop-k
 invariant-loop-k l = Matching l.ts l.c (value (bound (terms_of l.ts) (take l.ts.count (words_of l.c)))) l.k
-
-abbrev pub decreases-loop-k : goal.decreases-loop-k
-decreases-loop-k l = l.count - l.k

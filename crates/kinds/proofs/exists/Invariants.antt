@@ -10,6 +10,3 @@ use Rattle.kinds.proofs.exists.Given as goal
 -- `exists` meets its contract: each row of the run is put in with the variable at 0.
 abbrev pub invariant-loop-i : goal.invariant-loop-i
 invariant-loop-i l = Gathering l.lowest (row_at l.rows) (map (λ u. cut_to (λ y. not (eqb y l.x)) (valuation_of u))) l.to l.initial.out l.initial.set (map (λ u. cut_to (λ y. not (eqb y l.x)) (valuation_of u)) (rows_from l.rows l.from (l.to - l.from))) l.out l.set l.i
-
-abbrev pub decreases-loop-i : goal.decreases-loop-i
-decreases-loop-i l = l.to - l.i

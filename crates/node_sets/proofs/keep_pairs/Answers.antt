@@ -10,9 +10,6 @@ pub returns-then-most-kept : goal.returns-then-most-kept
 returns-then-most-kept c = let a = c.args in
     pairs_full a.out_numbers.now a.out_values.now a.kept (length a.ages.now) a.ages.now a.values.now c.if-most-kept.true
 
-pub copy_rows-requires : goal.copy_rows-requires
-copy_rows-requires c = (record { ordered = omega arith; there = c.requires.0 }, omega (arith, c.requires.1.rows))
-
 pub returns : goal.returns
 returns c = let a = c.args in
     let e : length a.ages.now - 0 ≡ length a.ages.now = omega arith in

@@ -1,15 +1,6 @@
 -- `move_down` meets its contract: rows moved and marks lowered together are sets moved.
-use Prim.Native.Nat.{◌+◌}
-use native.Mathlib.Omega.{arith}
 use Rattle.node_sets.proofs.Moving.{down, down_rows, down_marks}
 use Rattle.node_sets.proofs.move_down.Goals as goal
-
-pub overflow_cast-end : goal.overflow_cast-end
-overflow_cast-end c = omega (arith, c.slice_known-3-1.given c.args.n)
-
-pub overflow_cast-from : goal.overflow_cast-from
-overflow_cast-from c = let a = c.args in
-    omega (arith, c.slice_known-4-1.given (a.n + a.d))
 
 pub copy_down-requires : goal.copy_down-requires
 copy_down-requires c = down_rows _ _ _ c.requires

@@ -1,46 +1,16 @@
 -- `put_numbers` meets its contract: points copied from the numbers that stand, and those of the other sets put behind them.
 use Prim.Native.Nat.{◌+◌, ◌-◌}
 use native.Mathlib.Omega.{arith}
-use mathlib.Core.Path.{◌≡◌, ◌∙◌}
+use mathlib.Core.Path.{◌≡◌}
 use lib.ListN.{length, length-take, length-drop}
 use Rattle.node_sets.proofs.Keeping.{Spans, spans, part_word, points_copied}
 use Rattle.node_sets.proofs.put_numbers.Goals as goal
 
-pub put_points-requires : goal.put_points-requires
-put_points-requires c = (c.requires.1, c.requires.2, c.requires.3, c.requires.4)
-
-pub shape_of-out_numbers-then-before-from : goal.shape_of-out_numbers-then-before-from
-shape_of-out_numbers-then-before-from c = c.put_points.ensures.long
-
-pub returns-then-before-from : goal.returns-then-before-from
-returns-then-before-from c = c.put_points.ensures
-
 pub overflow_sub-count : goal.overflow_sub-count
 overflow_sub-count c = ((let it : Spans c.args.at.now c.args.first (c.args.first + (c.args.from.0 - c.args.low.0)) (c.args.before.0 - c.args.from.0) c.args.n c.args.begin (length c.args.numbers.now) = let a = c.args in spans a.at.now a.first a.low.0 a.from.0 a.n a.before.0 a.begin a.end a.numbers.now c.requires.0 c.requires.2 c.requires.6 ((c.if-before-from.false)) c.requires.5 in it)).rise
 
-pub overflow_cast-count : goal.overflow_cast-count
-overflow_cast-count c = omega (arith, c.shared_slice_known-3-1.given (c.args.first + (c.args.from.0 - c.args.low.0) + (c.args.before.0 - c.args.from.0)))
-
 pub overflow_sub-start : goal.overflow_sub-start
 overflow_sub-start c = ((let it : Spans c.args.at.now c.args.first (c.args.first + (c.args.from.0 - c.args.low.0)) (c.args.before.0 - c.args.from.0) c.args.n c.args.begin (length c.args.numbers.now) = let a = c.args in spans a.at.now a.first a.low.0 a.from.0 a.n a.before.0 a.begin a.end a.numbers.now c.requires.0 c.requires.2 c.requires.6 ((c.if-before-from.false)) c.requires.5 in it)).up_to
-
-pub overflow_cast-start : goal.overflow_cast-start
-overflow_cast-start c = omega (arith, c.shared_slice_known-5-1.given (c.args.first + (c.args.from.0 - c.args.low.0)))
-
-pub overflow_add-start : goal.overflow_add-start
-overflow_add-start c = omega (arith, (let it : Spans c.args.at.now c.args.first (c.args.first + (c.args.from.0 - c.args.low.0)) (c.args.before.0 - c.args.from.0) c.args.n c.args.begin (length c.args.numbers.now) = let a = c.args in spans a.at.now a.first a.low.0 a.from.0 a.n a.before.0 a.begin a.end a.numbers.now c.requires.0 c.requires.2 c.requires.6 ((c.if-before-from.false)) c.requires.5 in it))
-
-pub overflow_add-stop : goal.overflow_add-stop
-overflow_add-stop c = omega (arith, (let it : Spans c.args.at.now c.args.first (c.args.first + (c.args.from.0 - c.args.low.0)) (c.args.before.0 - c.args.from.0) c.args.n c.args.begin (length c.args.numbers.now) = let a = c.args in spans a.at.now a.first a.low.0 a.from.0 a.n a.before.0 a.begin a.end a.numbers.now c.requires.0 c.requires.2 c.requires.6 ((c.if-before-from.false)) c.requires.5 in it))
-
-pub offset_bounds-numbers-start : goal.offset_bounds-numbers-start
-offset_bounds-numbers-start c = omega (arith, (let it : Spans c.args.at.now c.args.first (c.args.first + (c.args.from.0 - c.args.low.0)) (c.args.before.0 - c.args.from.0) c.args.n c.args.begin (length c.args.numbers.now) = let a = c.args in spans a.at.now a.first a.low.0 a.from.0 a.n a.before.0 a.begin a.end a.numbers.now c.requires.0 c.requires.2 c.requires.6 ((c.if-before-from.false)) c.requires.5 in it))
-
-pub slice_bounds-copy_words-count : goal.slice_bounds-copy_words-count
-slice_bounds-copy_words-count c = omega (arith, (let it : Spans c.args.at.now c.args.first (c.args.first + (c.args.from.0 - c.args.low.0)) (c.args.before.0 - c.args.from.0) c.args.n c.args.begin (length c.args.numbers.now) = let a = c.args in spans a.at.now a.first a.low.0 a.from.0 a.n a.before.0 a.begin a.end a.numbers.now c.requires.0 c.requires.2 c.requires.6 ((c.if-before-from.false)) c.requires.5 in it))
-
-pub slice_bounds-copy_words-start : goal.slice_bounds-copy_words-start
-slice_bounds-copy_words-start c = omega (arith, (let it : Spans c.args.at.now c.args.first (c.args.first + (c.args.from.0 - c.args.low.0)) (c.args.before.0 - c.args.from.0) c.args.n c.args.begin (length c.args.numbers.now) = let a = c.args in spans a.at.now a.first a.low.0 a.from.0 a.n a.before.0 a.begin a.end a.numbers.now c.requires.0 c.requires.2 c.requires.6 ((c.if-before-from.false)) c.requires.5 in it))
 
 pub slice_bounds-copy_words-end : goal.slice_bounds-copy_words-end
 slice_bounds-copy_words-end c = omega (arith, (let it : Spans c.args.at.now c.args.first (c.args.first + (c.args.from.0 - c.args.low.0)) (c.args.before.0 - c.args.from.0) c.args.n c.args.begin (length c.args.numbers.now) = let a = c.args in spans a.at.now a.first a.low.0 a.from.0 a.n a.before.0 a.begin a.end a.numbers.now c.requires.0 c.requires.2 c.requires.6 ((c.if-before-from.false)) c.requires.5 in it))
@@ -49,18 +19,12 @@ pub copy_words-requires : goal.copy_words-requires
 copy_words-requires c = let w = (let it : Spans c.args.at.now c.args.first (c.args.first + (c.args.from.0 - c.args.low.0)) (c.args.before.0 - c.args.from.0) c.args.n c.args.begin (length c.args.numbers.now) = let a = c.args in spans a.at.now a.first a.low.0 a.from.0 a.n a.before.0 a.begin a.end a.numbers.now c.requires.0 c.requires.2 c.requires.6 ((c.if-before-from.false)) c.requires.5 in it) in
     (simp (length-take, length-drop) (omega (arith, w)), omega (arith, w, c.requires.3))
 
-pub overflow_add-end : goal.overflow_add-end
-overflow_add-end c = omega (arith, (let it : Spans c.args.at.now c.args.first (c.args.first + (c.args.from.0 - c.args.low.0)) (c.args.before.0 - c.args.from.0) c.args.n c.args.begin (length c.args.numbers.now) = let a = c.args in spans a.at.now a.first a.low.0 a.from.0 a.n a.before.0 a.begin a.end a.numbers.now c.requires.0 c.requires.2 c.requires.6 ((c.if-before-from.false)) c.requires.5 in it), c.requires.3)
-
 pub put_points-requires-2 : goal.put_points-requires-2
 put_points-requires-2 c = let a = c.args in
     let w = (let it : Spans c.args.at.now c.args.first (c.args.first + (c.args.from.0 - c.args.low.0)) (c.args.before.0 - c.args.from.0) c.args.n c.args.begin (length c.args.numbers.now) = let a = c.args in spans a.at.now a.first a.low.0 a.from.0 a.n a.before.0 a.begin a.end a.numbers.now c.requires.0 c.requires.2 c.requires.6 ((c.if-before-from.false)) c.requires.5 in it) in
     let l = (c.if-before-from.false) in
     let e : a.first + (a.from.0 - a.low.0) + (a.before.0 - a.from.0) + (a.n - (a.before.0 - a.from.0)) ≡ a.first + (a.from.0 - a.low.0) + a.n = omega (arith, c.requires.5) in
     (rw e c.requires.1, rw e c.requires.2, rw e (omega (arith, w, c.requires.3, c.copy_words.ensures.long)), omega (arith, c.requires.4, c.requires.5))
-
-pub shape_of-out_numbers : goal.shape_of-out_numbers
-shape_of-out_numbers c = c.put_points-2.ensures.long ∙ c.copy_words.ensures.long
 
 pub returns : goal.returns
 returns c = let a = c.args in

@@ -5,7 +5,7 @@ use mathlib.Core.Path.{◌≡◌, sym, ◌∙◌}
 use mathlib.Core.List.{◌∷◌}
 use lib.ListN.{length}
 use Rattle.meaning.specs.LookUp.{look_up}
-use Rattle.meaning.specs.declared.Sought.TheVariants.{There, Absent}
+use Rattle.std.specs.Prelude.{Ok, Err}
 use Rattle.rowset.specs.Rows.{words_of}
 use Rattle.kinds.specs.Kinds.{pairs_from}
 use Rattle.pairs.proofs.Adding.{place-within, add_there, add_absent, add_over, add_beyond}
@@ -14,24 +14,20 @@ use Rattle.pairs.proofs.add.Goals as goal
 pub returns-then-ages-n : goal.returns-then-ages-n
 returns-then-ages-n c = add_beyond (c.args.age ∷ words_of c.args.r) c.requires c.if-ages-n.true
 
-pub seek_near-sought-requires : goal.seek_near-sought-requires
-seek_near-sought-requires c = let l : c.args.set.count ≤ length c.args.ages.now = omega (arith, c.if-ages-n.false) in
-    (record { ages_there = l; values_there = omega (arith, c.requires.values_there) }, c.requires.led)
-
 pub returns-then-n-ages : goal.returns-then-n-ages
 returns-then-n-ages c = let a = c.args in
-    add_over a.ages.now a.values.now a.set a.age a.r c.in-Absent.p c.requires ((let it : let a = c.args in look_up (suc a.lowest) (a.age ∷ words_of a.r) (pairs_from a.ages.now a.values.now 0 a.set.count) ≡ Absent c.in-Absent.p = sym c.seek_near-sought.ensures ∙ c.in-Absent.is in it)) c.if-n-ages.true
+    add_over a.ages.now a.values.now a.set a.age a.r c.in-Err.p c.requires ((let it : let a = c.args in look_up (suc a.lowest) (a.age ∷ words_of a.r) (pairs_from a.ages.now a.values.now 0 a.set.count) ≡ Err c.in-Err.p = sym c.seek_near.ensures ∙ c.in-Err.is in it)) c.if-n-ages.true
 
 pub put_in-requires : goal.put_in-requires
 put_in-requires c = let a = c.args in
     let l : a.set.count + 1 ≤ length a.ages.now = omega (arith, c.if-ages-n.false, c.if-n-ages.false) in
-    (place-within a.ages.now a.values.now a.set a.age a.r c.in-Absent.p c.requires ((let it : let a = c.args in look_up (suc a.lowest) (a.age ∷ words_of a.r) (pairs_from a.ages.now a.values.now 0 a.set.count) ≡ Absent c.in-Absent.p = sym c.seek_near-sought.ensures ∙ c.in-Absent.is in it)), l, omega (arith, c.requires.values_there))
+    (place-within a.ages.now a.values.now a.set a.age a.r c.in-Err.p c.requires ((let it : let a = c.args in look_up (suc a.lowest) (a.age ∷ words_of a.r) (pairs_from a.ages.now a.values.now 0 a.set.count) ≡ Err c.in-Err.p = sym c.seek_near.ensures ∙ c.in-Err.is in it)), l, omega (arith, c.requires.values_there))
 
-pub returns-in-There : goal.returns-in-There
-returns-in-There c = let a = c.args in
-    add_there a.ages.now a.values.now a.set a.age a.r c.in-There.p c.requires ((let it : let a = c.args in look_up (suc a.lowest) (a.age ∷ words_of a.r) (pairs_from a.ages.now a.values.now 0 a.set.count) ≡ There c.in-There.p = sym c.seek_near-sought.ensures ∙ c.in-There.is in it)) (omega (arith, c.if-ages-n.false))
+pub returns-in-Ok : goal.returns-in-Ok
+returns-in-Ok c = let a = c.args in
+    add_there a.ages.now a.values.now a.set a.age a.r c.in-Ok.p c.requires ((let it : let a = c.args in look_up (suc a.lowest) (a.age ∷ words_of a.r) (pairs_from a.ages.now a.values.now 0 a.set.count) ≡ Ok c.in-Ok.p = sym c.seek_near.ensures ∙ c.in-Ok.is in it)) (omega (arith, c.if-ages-n.false))
 
 pub returns-else-n-ages : goal.returns-else-n-ages
 returns-else-n-ages c = let a = c.args in
-    add_absent a.ages.now a.values.now a.set a.age a.r c.in-Absent.p c.requires ((let it : let a = c.args in look_up (suc a.lowest) (a.age ∷ words_of a.r) (pairs_from a.ages.now a.values.now 0 a.set.count) ≡ Absent c.in-Absent.p = sym c.seek_near-sought.ensures ∙ c.in-Absent.is in it)) c.put_in.new.ages c.put_in.new.values c.put_in.ensures
+    add_absent a.ages.now a.values.now a.set a.age a.r c.in-Err.p c.requires ((let it : let a = c.args in look_up (suc a.lowest) (a.age ∷ words_of a.r) (pairs_from a.ages.now a.values.now 0 a.set.count) ≡ Err c.in-Err.p = sym c.seek_near.ensures ∙ c.in-Err.is in it)) c.put_in.new.ages c.put_in.new.values c.put_in.ensures
     (omega (arith, c.if-ages-n.false, c.if-n-ages.false)) c.put_in.auto.ages c.put_in.auto.values

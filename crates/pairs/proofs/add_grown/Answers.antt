@@ -10,10 +10,6 @@ put_grown-requires c = let a = c.args in
     let small : a.most < 4294967296 = omega arith in
     record { m_in_bounds = (c.requires.pairs_there.0.ages_there, b.room); by_index = λ k l. omega (arith, ages_small a.lowest a.old_ages.now a.old_values.now a.m a.by a.most c.requires.pairs_there.1 b.some b.uncut k l) }
 
-pub copy_words-requires : goal.copy_words-requires
-copy_words-requires c = let b = c.fits_behind.ensures c.if-fits_behind.true in
-    (c.requires.pairs_there.0.values_there, omega (arith, b.room, c.requires.pair_room.values_there))
-
 pub returns-then-fits_behind : goal.returns-then-fits_behind
 returns-then-fits_behind c = let a = c.args in
     add_behind a.lowest a.old_ages.now a.old_values.now a.m a.by a.most c.requires.pairs_there.1 (c.fits_behind.ensures c.if-fits_behind.true) c.requires.pair_room c.put_grown.ensures c.copy_words.ensures

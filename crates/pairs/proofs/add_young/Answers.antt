@@ -3,7 +3,7 @@ use Prim.Native.Nat.{ℕ}
 use mathlib.Core.Path.{refl, ap}
 use mathlib.Core.List.{[], ◌∷◌}
 use Rattle.rowset.specs.Rows.{rows_from}
-use Rattle.rowset.proofs.Growing.{starts, goes_on, ended}
+use Rattle.rowset.proofs.Growing.{starts, goes_on}
 use Rattle.pairs.proofs.Adding.{add_none}
 use Rattle.pairs.proofs.Growing.{pairs_then}
 use Rattle.pairs.proofs.add_young.Goals as goal
@@ -12,18 +12,6 @@ pub loop-x-init : goal.loop-x-init
 unfolding rows_from
 loop-x-init c = starts c.requires.run.ordered (add_none c.requires.pair_room)
 
-pub add-g-requires : goal.add-g-requires
-add-g-requires c = c.loop-x.invariant.put.room
-
 pub loop-x-preserved : goal.loop-x-preserved
 loop-x-preserved c = let age : ℕ = c.args.age in
     goes_on c.loop-x.invariant (λ u. (age ∷ u) ∷ []) (λ x xs. refl) c.loop-x-test.true (pairs_then c.add-g.ensures) (ap (λ u. (age ∷ u) ∷ []) c.row_at-r.ensures)
-
-pub shape_of-ages : goal.shape_of-ages
-shape_of-ages c = c.loop-x.invariant.put.ages_long
-
-pub shape_of-values : goal.shape_of-values
-shape_of-values c = c.loop-x.invariant.put.values_long
-
-pub returns : goal.returns
-returns c = ended c.loop-x.invariant refl c.loop-x-test.false

@@ -1,4 +1,4 @@
-use Prim.Native.Nat.{◌+◌, ◌-◌, ◌≤◌}
+use Prim.Native.Nat.{◌+◌, ◌≤◌}
 use lib.ListN.{get_or}
 use Rattle.entries.specs.Appended.{WordsPut}
 use Rattle.pairs.proofs.put_grown.Given as goal
@@ -6,6 +6,3 @@ use Rattle.pairs.proofs.put_grown.Given as goal
 -- `put_grown` meets its contract. The loop's invariant: the first k ages are put, each grown.
 abbrev pub invariant-loop-k : goal.invariant-loop-k
 invariant-loop-k l = (l.k ≤ l.m) × WordsPut l.initial.ages l.n l.ages l.k (λ j. get_or l.old_ages j 0 + l.by)
-
-abbrev pub decreases-loop-k : goal.decreases-loop-k
-decreases-loop-k l = l.m - l.k

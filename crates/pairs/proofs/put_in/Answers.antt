@@ -1,33 +1,24 @@
--- `put_in` meets its contract. The loop's invariant: the pairs up to i, the pair held and the rest are the pairs with the new one in place p.
+-- `put_in` meets its contract: the pairs behind the place have moved up, and the pair is put there.
+use Prim.Native.Nat.{◌+◌, ◌-◌}
 use native.Mathlib.Omega.{arith}
-use mathlib.Core.Path.{refl, ap, ◌∙◌}
+use mathlib.Core.Path.{◌≡◌, ap₂, ◌∙◌}
 use mathlib.Core.List.{◌∷◌}
-use lib.ListN.{get_or, length-set}
-use Rattle.rowset.specs.Rows.{words_of}
-use Rattle.rowset.proofs.Runs.{passing, passed_on, passed_all}
-use Rattle.kinds.specs.Kinds.{pair_at, pairs_from}
+use Rattle.rowset.proofs.Runs.{run_shifted, rows_below, rows_above}
+use Rattle.kinds.specs.Kinds.{pairs_from}
 use Rattle.pairs.proofs.Runs.{pair_replaced}
 use Rattle.pairs.proofs.put_in.Goals as goal
-
-pub loop-i-init : goal.loop-i-init
-loop-i-init c = let a = c.args in
-    (passing (pair_at a.ages.now a.values.now) a.n a.p (a.age ∷ words_of a.r) c.requires.0, refl, refl)
-
-pub loop-i-preserved : goal.loop-i-preserved
-loop-i-preserved c = let l = c.loop-i in (
-  passed_on l.invariant.0 c.loop-i-test.true (pair_replaced l.ages l.values l.i l.held_age l.held (omega arith) (omega arith) c.put_row.ensures) (ap (λ r. get_or l.ages l.i 0 ∷ r) c.row_at-next.ensures),
-  length-set l.ages l.i l.held_age ∙ l.invariant.1,
-  c.put_row.auto.ws ∙ l.invariant.2,
-)
-
-pub shape_of-ages : goal.shape_of-ages
-shape_of-ages c = simp length-set c.loop-i.invariant.1
-
-pub shape_of-values : goal.shape_of-values
-shape_of-values c = c.put_row-2.auto.ws ∙ c.loop-i.invariant.2
 
 pub returns : goal.returns
 unfolding pairs_from
 returns c = let a = c.args in
-    let l = c.loop-i in
-    passed_all l.invariant.0 c.loop-i-test.false (pair_replaced l.ages l.values a.n l.held_age l.held (omega arith) (omega arith) c.put_row-2.ensures)
+    let f = c.copy_within.ensures in
+    let h = c.copy_within-2.ensures in
+    let put = pair_replaced c.copy_within.new.self c.copy_within-2.new.self a.p a.age a.r (omega arith) (omega arith) c.put_row.ensures in
+    run_shifted c.requires.0
+    (record {
+      below = λ k l. put.others k (omega arith) ∙ ap₂ (λ x y. x ∷ y) (f.by_index.1 k 0 (omega arith)) (rows_below a.values.now c.copy_within-2.new.self a.n a.p h.by_index.0 h.by_index.1 k (omega arith));
+      here = put.here;
+      above = λ k l m.
+          let e : a.p + (k + 1 - (a.p + 1)) ≡ k = omega arith in
+          put.others (k + 1) (omega arith) ∙ ap₂ (λ x y. x ∷ y) (rw e at (f.by_index.0 (k + 1) 0 (omega arith) (omega arith))) (rows_above a.values.now c.copy_within-2.new.self a.n a.p h.by_index.0 h.by_index.1 k l m);
+    })

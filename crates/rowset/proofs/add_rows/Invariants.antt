@@ -6,6 +6,3 @@ use Rattle.rowset.proofs.add_rows.Given as goal
 -- `add_rows` meets its contract: each row of the run is put in.
 abbrev pub invariant-loop-i : goal.invariant-loop-i
 invariant-loop-i l = Gathering l.lowest (row_at l.rows) (λ us. us) l.to l.initial.out l.initial.g (rows_from l.rows l.from (l.to - l.from)) l.out l.g l.i
-
-abbrev pub decreases-loop-i : goal.decreases-loop-i
-decreases-loop-i l = l.to - l.i

@@ -1,13 +1,15 @@
--- `contains` meets its contract: each answer of the search says whether the row is there.
+-- `contains` meets its contract: the search tells whether the row is there.
 use Prim.Native.Nat.{◌-◌}
-use mathlib.Core.Path.{◌≡◌, sym, ap, ◌∙◌}
+use mathlib.Core.Path.{◌≡◌, refl, ap, ◌∙◌}
+use Rattle.std.proofs.Common.{rules}
 use Rattle.meaning.specs.LookUp.{look_up, is_there}
 use Rattle.meaning.proofs.LookUp.{is_onward}
-use Rattle.rowset.specs.Rows.{words_of, rows_from}
+use Rattle.rowset.specs.Rows.{words_of, row_at, rows_from}
 use Rattle.rowset.proofs.contains.Goals as goal
 
-pub returns-in-There : goal.returns-in-There
-returns-in-There c = sym (ap is_there c.in-There.is) ∙ (let it : let a = c.args in is_there c.seek-sought.result ≡ is_there (look_up a.lowest (words_of a.r) (rows_from a.ws.now a.from (a.to - a.from))) = let a = c.args in ap is_there c.seek-sought.ensures ∙ is_onward a.from (look_up a.lowest (words_of a.r) (rows_from a.ws.now a.from (a.to - a.from))) in it)
-
-pub returns-in-Absent : goal.returns-in-Absent
-returns-in-Absent c = sym (ap is_there c.in-Absent.is) ∙ (let it : let a = c.args in is_there c.seek-sought.result ≡ is_there (look_up a.lowest (words_of a.r) (rows_from a.ws.now a.from (a.to - a.from))) = let a = c.args in ap is_there c.seek-sought.ensures ∙ is_onward a.from (look_up a.lowest (words_of a.r) (rows_from a.ws.now a.from (a.to - a.from))) in it)
+pub returns : goal.returns
+unfolding rows_from
+returns c = let a = c.args in
+    let told = c.seek.ensures a.lowest (row_at a.ws.now) (words_of a.r) (λ k. refl, λ i stands l p. search rules) in
+    let e : is_there c.seek.result ≡ is_there (look_up a.lowest (words_of a.r) (rows_from a.ws.now a.from (a.to - a.from))) = ap is_there told ∙ is_onward a.from _ in
+    search rules

@@ -1,17 +1,10 @@
 -- `is_before` meets its contract: the comparison tells.
-use mathlib.Core.Path.{sym, ◌∙◌}
+use mathlib.Core.Path.{ap, ◌∙◌}
+use Rattle.std.specs.Ordering.{is_lt}
 use Rattle.rowset.specs.Rows.{words_of}
-use Rattle.rowset.proofs.Searching.{by_before, by_same, by_after}
+use Rattle.rowset.proofs.Searching.{by_less}
 use Rattle.rowset.proofs.is_before.Goals as goal
 
-pub returns-in-Before : goal.returns-in-Before
-returns-in-Before c = let a = c.args in
-    sym (by_before a.lowest (words_of a.x) (words_of a.y) (sym c.compare-told.ensures ∙ c.in-Before.is))
-
-pub returns-in-Same : goal.returns-in-Same
-returns-in-Same c = let a = c.args in
-    sym (by_same a.lowest (words_of a.x) (words_of a.y) (sym c.compare-told.ensures ∙ c.in-Same.is)).0
-
-pub returns-in-After : goal.returns-in-After
-returns-in-After c = let a = c.args in
-    sym (by_after a.lowest (words_of a.x) (words_of a.y) (sym c.compare-told.ensures ∙ c.in-After.is)).0
+pub returns : goal.returns
+returns c = let a = c.args in
+    c.is_lt.ensures ∙ ap is_lt c.compare.ensures ∙ by_less a.lowest (words_of a.x) (words_of a.y)

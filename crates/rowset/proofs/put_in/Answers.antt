@@ -1,23 +1,19 @@
--- `put_in` meets its contract. The loop's invariant: the rows up to i, the row held and the rest are the set with the row in place p.
+-- `put_in` meets its contract: the rows behind the place have moved up, and the row is put there.
+use Prim.Native.Nat.{◌+◌}
 use native.Mathlib.Omega.{arith}
-use mathlib.Core.Path.{refl, ◌∙◌}
-use Rattle.rowset.specs.Rows.{words_of, row_at, rows_from}
-use Rattle.rowset.proofs.Runs.{passing, passed_on, passed_all, row-replaced}
+use mathlib.Core.Path.{◌∙◌}
+use Rattle.rowset.specs.Rows.{rows_from}
+use Rattle.rowset.proofs.Runs.{run_shifted, rows_below, rows_above, row-replaced}
 use Rattle.rowset.proofs.put_in.Goals as goal
-
-pub loop-i-init : goal.loop-i-init
-loop-i-init c = (passing (row_at c.args.out.now) c.args.n c.args.p (words_of c.args.r) c.requires.0, refl)
-
-pub loop-i-preserved : goal.loop-i-preserved
-loop-i-preserved c = let l = c.loop-i in (
-  passed_on l.invariant.0 c.loop-i-test.true (row-replaced l.out l.i l.held (omega arith) c.put_row.ensures) c.row_at-next.ensures,
-  c.put_row.auto.ws ∙ l.invariant.1,
-)
-
-pub shape_of-out : goal.shape_of-out
-shape_of-out c = c.put_row-2.auto.ws ∙ c.loop-i.invariant.1
 
 pub returns : goal.returns
 unfolding rows_from
-returns c = let l = c.loop-i in
-    passed_all l.invariant.0 c.loop-i-test.false (row-replaced l.out c.args.n l.held (omega arith) c.put_row-2.ensures)
+returns c = let a = c.args in
+    let h = c.copy_within.ensures in
+    let put = row-replaced c.copy_within.new.self a.p a.r (omega arith) c.put_row.ensures in
+    run_shifted c.requires.0
+    (record {
+      below = λ k l. put.others k (omega arith) ∙ rows_below a.out.now c.copy_within.new.self a.n a.p h.by_index.0 h.by_index.1 k (omega arith);
+      here = put.here;
+      above = λ k l m. put.others (k + 1) (omega arith) ∙ rows_above a.out.now c.copy_within.new.self a.n a.p h.by_index.0 h.by_index.1 k l m;
+    })

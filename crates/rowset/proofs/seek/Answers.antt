@@ -1,36 +1,23 @@
--- `seek` meets its contract. The loop's invariant: the run's answer is that of the rest of it.
+-- `seek` meets its contract. The loop's invariant: the answer is that of the items from i on.
 use native.Mathlib.Omega.{arith}
-use mathlib.Core.Path.{refl, sym, ap, ◌∙◌}
-use Rattle.rowset.specs.Rows.{words_of, row_at, rows_from, compared}
-use Rattle.rowset.proofs.Searching.{seek_on, seek_there, seek_absent, seek_end}
+use mathlib.Core.Path.{sym, ◌∙◌}
+use Rattle.rowset.proofs.Searching.{seek_on, seek_there, seek_absent}
 use Rattle.rowset.proofs.seek.Goals as goal
 
-pub loop-i-init : goal.loop-i-init
-loop-i-init c = (c.requires.ordered, refl)
-
 pub loop-i-preserved : goal.loop-i-preserved
-unfolding rows_from
-loop-i-preserved c = let a = c.args in
-    let l = c.loop-i in
-    let e = sym (c.compare-told.ensures ∙ ap (λ u. compared a.lowest u (words_of a.r)) c.row_at.ensures) ∙ c.in-Before.is in
-    (omega arith, l.invariant.1 ∙ seek_on a.lowest (row_at a.ws.now) (words_of a.r) (λ k. refl) a.to l.i c.loop-i-test.true e)
+loop-i-preserved g c = let to = c.args.to in
+    let i = c.loop-i.i in
+    let l = c.loop-i-test.true in
+    (omega arith, λ lowest at x t. c.loop-i.invariant.1 lowest at x t ∙ seek_on lowest at x t.0 to i l (sym (t.1 i c.stands.result l c.stands.ensures) ∙ c.in-Less.is))
 
-pub returns-in-Same : goal.returns-in-Same
-unfolding rows_from
-returns-in-Same c = let a = c.args in
-    let l = c.loop-i in
-    let e = sym (c.compare-told.ensures ∙ ap (λ u. compared a.lowest u (words_of a.r)) c.row_at.ensures) ∙ c.in-Same.is in
-    sym (l.invariant.1 ∙ seek_there a.lowest (row_at a.ws.now) (words_of a.r) (λ k. refl) a.to l.i c.loop-i-test.true e)
+pub returns-in-Equal : goal.returns-in-Equal
+returns-in-Equal g c = let to = c.args.to in
+    let i = c.loop-i.i in
+    let l = c.loop-i-test.true in
+    λ lowest at x t. sym (c.loop-i.invariant.1 lowest at x t ∙ seek_there lowest at x t.0 to i l (sym (t.1 i c.stands.result l c.stands.ensures) ∙ c.in-Equal.is))
 
-pub returns-in-After : goal.returns-in-After
-unfolding rows_from
-returns-in-After c = let a = c.args in
-    let l = c.loop-i in
-    let e = sym (c.compare-told.ensures ∙ ap (λ u. compared a.lowest u (words_of a.r)) c.row_at.ensures) ∙ c.in-After.is in
-    sym (l.invariant.1 ∙ seek_absent a.lowest (row_at a.ws.now) (words_of a.r) (λ k. refl) a.to l.i c.loop-i-test.true e)
-
-pub returns : goal.returns
-unfolding rows_from
-returns c = let a = c.args in
-    let l = c.loop-i in
-    sym (l.invariant.1 ∙ seek_end a.lowest (row_at a.ws.now) (words_of a.r) (λ k. refl) a.to l.i c.loop-i-test.false)
+pub returns-in-Greater : goal.returns-in-Greater
+returns-in-Greater g c = let to = c.args.to in
+    let i = c.loop-i.i in
+    let l = c.loop-i-test.true in
+    λ lowest at x t. sym (c.loop-i.invariant.1 lowest at x t ∙ seek_absent lowest at x t.0 to i l (sym (t.1 i c.stands.result l c.stands.ensures) ∙ c.in-Greater.is))
