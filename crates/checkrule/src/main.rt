@@ -24,8 +24,5 @@ fn main(rt: HostRuntime) {
     let n = read_full(&mut rt.stdin(), &mut file);
     let mut line = [0u8; 64];
     let end = put_file(&mut line, &file, n);
-    match rt.stdout().write_all(&line[0..end]) {
-        Ok(_) => (),
-        Err(_) => (),
-    }
+    let _ = rt.stdout().write_all(&line[..end]);
 }

@@ -1,29 +1,25 @@
 -- The columns of a row one by one, the test of a row, and the rows one by one.
-use Prim.Native.Nat.{ℕ, suc, ◌+◌, ◌-◌, ◌*◌, ◌≤◌, ◌<◌}
-use mathlib.Core.Path.{◌≡◌, sym}
+use Prim.Native.Nat.{ℕ, zero, suc, ◌+◌, ◌-◌, ◌*◌, ◌≤◌, ◌<◌}
+use mathlib.Core.Path.{◌≡◌, refl}
 use mathlib.Core.Bool.{true, false}
-use mathlib.Core.List.{List}
+use mathlib.Core.List.{List, [], ◌∷◌}
 use native.Mathlib.Numerals.{add-one}
 use native.Mathlib.Omega.{arith}
-use lib.ListN.{length, get_or, take, drop, drop_of_length-le}
-use lib.Seq.{drop-cons}
+use lib.ListN.{take, drop}
 use lib.Dec.{eqb}
 use borrow.Author.Tests.{lt-ltb, le-ltb, ne_eqb}
 use Rattle.meaning.specs.Lists.{all, range}
 use Rattle.meaning.specs.RuleFile.{relation_count, arity}
 use Rattle.meaning.specs.Event.{row_count, relation_of, row_fits}
-use Rattle.events.specs.declared.Rows.TheVariants.{Fit, Out}
+use Rattle.std.specs.Prelude.{Ok, Err}
+use Rattle.std.specs.List.{list_all}
 use Rattle.events.specs.Answers.{rows_of}
 
-module _ (s : List ℕ) (j : ℕ) where
-  pub zeros_more : j < length s → get_or s j 0 ≡ 0 → all (eqb 0) (drop j s) ≡ all (eqb 0) (drop (j + 1) s)
-  zeros_more h e = rw (add-one j, drop-cons s j 0 h, e)
-
-  pub zeros_broken : j < length s → (get_or s j 0 ≡ 0 → ⊥) → all (eqb 0) (drop j s) ≡ false
-  zeros_broken h e = rw (drop-cons s j 0 h, ne_eqb 0 (get_or s j 0) (λ z. e (sym z)))
-
-  pub zeros_end : length s ≤ j → all (eqb 0) (drop j s) ≡ true
-  zeros_end h = rw (drop_of_length-le s h)
+-- the test of a column, as code has it
+zeros : (s : List ℕ) → list_all (λ x. eqb x 0) s ≡ all (eqb 0) s
+zeros [] = refl
+zeros (zero ∷ s) = zeros s
+zeros (suc x ∷ s) = rw (ne_eqb (suc x) 0 (λ e. omega arith), ne_eqb 0 (suc x) (λ e. omega arith))
 
 module _ (b w : List ℕ) (k : ℕ) where
   -- a relation that isn't the rule's
@@ -32,11 +28,11 @@ module _ (b w : List ℕ) (k : ℕ) where
   fits_not h = rw (le-ltb (relation_of w k) (relation_count b) h)
 
   -- the part of the words that holds the row's columns, as code cuts it out
-  pub fits_columns : {m : ℕ} → m ≡ row_count w → relation_of w k < relation_count b → row_fits b w k ≡ all (eqb 0) (drop (arity b (relation_of w k)) (take ((2 + m + 4 * k) + 4 - (2 + m + 4 * k)) (drop (2 + m + 4 * k) w)))
+  pub fits_columns : {m : ℕ} → m ≡ row_count w → relation_of w k < relation_count b → row_fits b w k ≡ list_all (λ x. eqb x 0) (drop (arity b (relation_of w k)) (take ((2 + m + 4 * k) + 4 - (2 + m + 4 * k)) (drop (2 + m + 4 * k) w)))
   unfolding row_fits
   fits_columns {m} e h =
       let four : (2 + m + 4 * k) + 4 - (2 + m + 4 * k) ≡ 4 = omega arith in
-      rw (four, e, lt-ltb (relation_of w k) (relation_count b) h)
+      rw (four, e, lt-ltb (relation_of w k) (relation_count b) h, zeros)
 
 pub rows_start : (b w : List ℕ) (m : ℕ) → rows_of b w (range 0 m) ≡ rows_of b w (range 0 (m - 0))
 rows_start b w m =
@@ -49,12 +45,12 @@ module _ (b w : List ℕ) (m k : ℕ) where
       let s : m - k ≡ suc (m - (k + 1)) = omega arith in
       rw (s, e, add-one k)
 
-  pub rows_out : k < m → row_fits b w k ≡ false → rows_of b w (range k (m - k)) ≡ Out k
+  pub rows_out : k < m → row_fits b w k ≡ false → rows_of b w (range k (m - k)) ≡ Err k
   rows_out h e =
       let s : m - k ≡ suc (m - (k + 1)) = omega arith in
       rw (s, e)
 
-  pub rows_end : m ≤ k → rows_of b w (range k (m - k)) ≡ Fit
+  pub rows_end : m ≤ k → rows_of b w (range k (m - k)) ≡ Ok tt
   rows_end h =
       let s : m - k ≡ 0 = omega arith in
       rw s

@@ -1,6 +1,5 @@
 -- Words that may be an image: the bytes of the rule file's words, the sizes, the owners one by one, and that what is read off the words is what the image stores.
-use Prim.Native.Nat.{ℕ, ◌+◌, ◌-◌, ◌*◌, ◌/◌, ◌%◌, ◌≤◌, ◌<◌}
-use native.Mathlib.Nat.{eq-or-lt_of_le}
+use Prim.Native.Nat.{ℕ, ◌+◌, ◌-◌, ◌*◌, ◌≤◌, ◌<◌}
 use native.Mathlib.Omega.{arith}
 use mathlib.Core.Path.{◌≡◌, refl, sym, ap, ap₂, ◌∙◌}
 use mathlib.Core.Bool.{Bool, true, false, false≢true}
@@ -8,6 +7,7 @@ use mathlib.Core.Logic.{◌⊎◌, inl, inr}
 use mathlib.Core.List.{List, [], map, Memᴰ}
 use lib.ListN.{length, get_or, set, take, drop, length-drop}
 use lib.Seq.{take_all, take-take, take_at, length-take-le, get_or-take, get_or-set_same, get_or-set_other}
+use borrow.Author.Count.{below_more}
 use borrow.Author.Tests.{ltb-true, leb-true, eqb-true, lt-ltb, le-leb, eq-eqb}
 use Rattle.meaning.specs.Lists.{range, gather}
 use Rattle.meaning.specs.Log.{stamp, points_from}
@@ -28,7 +28,6 @@ use Rattle.method.proofs.Lists.{gather_length, gather_map, gather_more}
 use Rattle.rowset.specs.Rows.{row_at}
 use Rattle.entries.specs.Entries.{entry_at, entries_from}
 use Rattle.entries.specs.Appended.{WordsPut, at_front}
-use Rattle.entries.proofs.Putting.{put_none, put_more}
 use Rattle.entries.proofs.Listed.{listed_same, map_twice}
 use Rattle.entries.proofs.Entries.{owned_by_lem}
 use Rattle.formed.specs.StateFigures.{stored_in}
@@ -49,16 +48,6 @@ rest_is : (ws : List ℕ) (n : ℕ) → take (length ws - n) (drop n ws) ≡ dro
 rest_is ws n = take_all (length ws - n) (drop n ws) (omega (arith, length-drop n ws))
 
 -- ---- the bytes of words
-
-pub four-put : (old : List ℕ) (at w : ℕ) → at + 4 ≤ length old
-    → ListPut old at (set (set (set (set old at (w % 256)) (at + 1) (w / 256 % 256)) (at + 2) (w / 65536 % 256)) (at + 3) (w / 16777216 % 256)) (bytes_of w)
-four-put old at w l =
-    let f : ℕ → ℕ = λ i. get_or (bytes_of w) i 0 in
-    let z : at + 0 ≡ at = omega arith in
-    let a : WordsPut old at (set old at (w % 256)) 1 f = rw z at (put_more f (put_none old at f) (w % 256) refl (omega arith)) in
-    let b : WordsPut old at (set (set old at (w % 256)) (at + 1) (w / 256 % 256)) 2 f = put_more f a (w / 256 % 256) refl (omega (arith, a.long)) in
-    let c : WordsPut old at (set (set (set old at (w % 256)) (at + 1) (w / 256 % 256)) (at + 2) (w / 65536 % 256)) 3 f = put_more f b (w / 65536 % 256) refl (omega (arith, b.long)) in
-    put_more f c (w / 16777216 % 256) refl (omega (arith, c.long))
 
 -- the bytes of the first k words
 abbrev pub bytes_to : List ℕ → ℕ → List ℕ
@@ -83,17 +72,6 @@ bytes_all words old {new} k e l h =
 
 -- ---- the owners, one by one
 
--- what holds below k and at k holds below k + 1
-up_to : (P : ℕ → Type 0) (k : ℕ) → ((j : ℕ) → j < k → P j) → P k → (j : ℕ) → j < k + 1 → P j
-up_to P k below here j u = go (eq-or-lt_of_le v)
-  where
-    v : j ≤ k
-    v = omega arith
-
-    go : (j ≡ k) ⊎ (j < k) → P j
-    go (inl e) = rw e here
-    go (inr o) = below j o
-
 pub owner_small : (ws : List ℕ) (k : ℕ) → owner_fits ws k ≡ true → (get_or ws (5 + k * 3) 0 < most_nodes) × (get_or ws (5 + k * 3 + 1) 0 < 2)
 owner_small ws k t = (ltb-true (get_or ws (5 + k * 3) 0) most_nodes (search first), ltb-true (get_or ws (5 + k * 3 + 1) 0) 2 (search second))
 
@@ -106,9 +84,9 @@ owners_more {ws} {os} {ns} {k} h f lo ln =
     let o : ℕ = get_or ws (5 + k * 3) 0 * 2 + get_or ws (5 + k * 3 + 1) 0 in
     let n : ℕ = get_or ws (5 + k * 3 + 2) 0 in
     record {
-      fit = up_to (λ j. owner_fits ws j ≡ true) k h.fit f;
-      owners = up_to (λ j. get_or (set os k o) j 0 ≡ get_or ws (5 + j * 3) 0 * 2 + get_or ws (5 + j * 3 + 1) 0) k (λ j u. get_or-set_other os k j o 0 (omega arith) ∙ h.owners j u) (get_or-set_same os k o 0 lo);
-      numbers = up_to (λ j. get_or (set ns k n) j 0 ≡ get_or ws (5 + j * 3 + 2) 0) k (λ j u. get_or-set_other ns k j n 0 (omega arith) ∙ h.numbers j u) (get_or-set_same ns k n 0 ln);
+      fit = below_more (λ j. owner_fits ws j ≡ true) k h.fit f;
+      owners = below_more (λ j. get_or (set os k o) j 0 ≡ get_or ws (5 + j * 3) 0 * 2 + get_or ws (5 + j * 3 + 1) 0) k (λ j u. get_or-set_other os k j o 0 (omega arith) ∙ h.owners j u) (get_or-set_same os k o 0 lo);
+      numbers = below_more (λ j. get_or (set ns k n) j 0 ≡ get_or ws (5 + j * 3 + 2) 0) k (λ j u. get_or-set_other ns k j n 0 (omega arith) ∙ h.numbers j u) (get_or-set_same ns k n 0 ln);
     }
 
 -- ---- an entry of what is well formed has a node's number

@@ -20,7 +20,8 @@ use Rattle.image.specs.ImageLaws.{Words}
 use Rattle.image.proofs.ImageLaws.{is_in_form, image_laws}
 use Rattle.image_words.specs.Promises.{saved_in, saving, saving_in, reading, reading_in, ruled_by, read_of, ReadsLent}
 use Rattle.image_words.specs.RestoredState.{RestoredState}
-use Rattle.image_words.specs.declared.Read.{Read}
+use Rattle.image_words.specs.declared.NotAnImage.{NotAnImage}
+use Rattle.std.specs.Prelude.{Result}
 
 module _ (b : List ℕ) (m : Lent) where
   ruled_fits : length b ≤ 652 → fitting m ≡ true → fitting (ruled_by b m) ≡ true
@@ -58,7 +59,7 @@ read_given m ws n e = go (tested (fitting m)) (tested (is_image ws))
     go (passed f) (failed t) = absurd (none (rw (f, t) at e))
     go (failed f) t = absurd (none (rw f at e))
 
-pub restored_holds : (m : Lent) (ws : List ℕ) (r : Read) (m' : Lent) → ReadsLent m ws r m' → (n : ℕ) → read_of r ≡ given n → Holds (read_in ws) m'
+pub restored_holds : (m : Lent) (ws : List ℕ) (r : Result ℕ NotAnImage) (m' : Lent) → ReadsLent m ws r m' → (n : ℕ) → read_of r ≡ given n → Holds (read_in ws) m'
 restored_holds m ws r m' h n e =
     let g : reading_in m ws ≡ given n = sym h.answered ∙ e in
     let (f, t) = read_given m ws n g in
@@ -69,7 +70,7 @@ unfolding saving_in saving
 saves_back m ws f w i room = rw (f, w, i)
 
 -- words of a machine, read in
-pub restored : (m : Lent) (ws : List ℕ) → Words ws → (r : Read) (m' : Lent) → ReadsLent m ws r m' → (n : ℕ) → read_of r ≡ given n → RestoredState ws m'
+pub restored : (m : Lent) (ws : List ℕ) → Words ws → (r : Result ℕ NotAnImage) (m' : Lent) → ReadsLent m ws r m' → (n : ℕ) → read_of r ≡ given n → RestoredState ws m'
 restored m ws words r m' h n e =
     let k : Holds (read_in ws) m' = restored_holds m ws r m' h n e in
     let (f, t) = read_given m ws n (sym h.answered ∙ e) in

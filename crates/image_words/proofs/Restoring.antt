@@ -1,6 +1,6 @@
 -- What is lent once words are read in, or once they are refused.
 use Prim.Native.Nat.{ℕ, ◌+◌, ◌-◌, ◌*◌}
-use mathlib.Core.Path.{◌≡◌, sym, ◌∙◌, ap, ap₂, subst}
+use mathlib.Core.Path.{◌≡◌, sym, ◌∙◌, ap, ap₂}
 use mathlib.Core.Bool.{true, false}
 use mathlib.Core.List.{List, map}
 use lib.ListN.{length, get_or, take, drop}
@@ -10,31 +10,23 @@ use Rattle.entries.specs.Appended.{at_front}
 use Rattle.call.specs.Stores.{owner_of}
 use Rattle.lent_state.specs.Lent.{Lent, lent, fitting, lent_with}
 use Rattle.image.specs.Image.{times_at, read_in, is_image}
-use Rattle.image_words.specs.Parts.{SizesFit, LaidOut, EntriesRead, PartsStored}
+use Rattle.image_words.specs.Parts.{SizesFit, EntriesRead, PartsStored}
 use Rattle.image_words.specs.Promises.{reading, reading_in, ruled_by, ReadsLent}
-use Rattle.image_words.specs.declared.Layout.{Layout}
-use Rattle.image_words.specs.declared.Layout.TheVariants.{Within, Out}
-use Rattle.image_words.specs.declared.Read.TheVariants.{Words, NotAnImage}
+use Rattle.image_words.specs.declared.NotAnImage.{NotAnImage}
+use Rattle.std.specs.Prelude.{Ok, Err}
 use Rattle.image.proofs.Images.{entries_many, times_many}
 use Rattle.image_words.proofs.Reading.{rule_long, values_are}
 
--- the sizes fit, or the words are no image
-pub laid_within : (ws : List ℕ) (r : Layout) {kept retained : ℕ} → LaidOut ws r → r ≡ Within kept retained → SizesFit ws kept retained
-laid_within ws r h e = subst (LaidOut ws) e h
-
-pub laid_out : (ws : List ℕ) (r : Layout) → LaidOut ws r → r ≡ Out → is_image ws ≡ false
-laid_out ws r h e = subst (LaidOut ws) e h
-
 module _ (m : Lent) (ws : List ℕ) where
   -- a length isn't a state's
-  pub unfit_stays : fitting m ≡ false → ReadsLent m ws NotAnImage m
+  pub unfit_stays : fitting m ≡ false → (r : NotAnImage) → ReadsLent m ws (Err r) m
   unfolding reading_in
-  unfit_stays unfit = record { answered = rw unfit; moved = rw unfit }
+  unfit_stays unfit r = record { answered = rw unfit; moved = rw unfit }
 
   -- the words are no image
-  pub other_stays : fitting m ≡ true → is_image ws ≡ false → ReadsLent m ws NotAnImage m
+  pub other_stays : fitting m ≡ true → is_image ws ≡ false → (r : NotAnImage) → ReadsLent m ws (Err r) m
   unfolding reading_in reading
-  other_stays fit out = record { answered = rw (fit, out); moved = rw (fit, out) }
+  other_stays fit out r = record { answered = rw (fit, out); moved = rw (fit, out) }
 
   -- they are one
   module _ {kept retained : ℕ} {os ns rule' times' owners' numbers' values' : List ℕ} (z : SizesFit ws kept retained) (es : EntriesRead ws os ns kept)
@@ -54,6 +46,6 @@ module _ (m : Lent) (ws : List ℕ) where
         let c : kept ≡ length (read_in ws).entries = z.kept_are ∙ sym (entries_many ws) in
         λ i. lent (p.rule_stored i) (b i) (record { points = get_or ws 1 0; latest = stamp (get_or ws 2 0) }) (t i) (k i) (o i) (n i) (v i) (c i)
 
-    pub image_read : fitting m ≡ true → is_image ws ≡ true → ReadsLent m ws (Words (length ws)) left
+    pub image_read : fitting m ≡ true → is_image ws ≡ true → ReadsLent m ws (Ok (length ws)) left
     unfolding reading_in reading
     image_read fit ok = record { answered = rw (fit, ok); moved = rw (fit, ok) left_is }

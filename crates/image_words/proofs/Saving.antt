@@ -5,7 +5,7 @@ use mathlib.Core.Path.{◌≡◌, refl, sym, ap, subst, ◌∙◌}
 use mathlib.Core.Bool.{true, false}
 use mathlib.Core.List.Memᴰ
 use mathlib.Core.List.{List, [], ◌∷◌, ◌++◌, Memᴰ}
-use lib.ListN.{length, get_or, set, take, length-set}
+use lib.ListN.{length, get_or, take}
 use lib.Seq.{length-take-le, get_or-take}
 use lib.Dec.{ltb}
 use borrow.Author.Tests.{lt-ltb, le-ltb}
@@ -22,39 +22,28 @@ use Rattle.method.proofs.Rowed.{Rowed}
 use Rattle.method.proofs.Lists.{gather_length, gather_map, gather_more}
 use Rattle.entries.specs.Entries.{EntriesWithin, entry_at, entries_from}
 use Rattle.entries.specs.Appended.{WordsPut, at_front}
-use Rattle.entries.proofs.Putting.{put_none, put_more}
+use Rattle.entries.proofs.Putting.{put_none}
 use Rattle.formed.specs.StateFigures.{stored_in}
-use Rattle.figures.proofs.Slices.{run_many}
+use Rattle.figures.proofs.Slices.{run_many, figures_in}
 use Rattle.call.specs.Blocks.{ListPut}
 use Rattle.call.proofs.Fronts.{listed_at, list_put, put_two, front_more}
 use Rattle.lent_state.specs.Lent.{Lent, fitting, stored}
+use Rattle.lent_state.proofs.Ready.{standing}
+use Rattle.lent_state.proofs.Memory.{fit_words, fit_bytes, fit_times}
+use Rattle.figures.specs.Fronts.{figures_fit}
+use Rattle.meaning.specs.Outcome.{most_bytes, most_kept}
+use Rattle.method.specs.WellFormed.{most_times}
 use Rattle.image.specs.Image.{image_version, sizes, owner_words, rule_words, image_of}
 use Rattle.image_words.specs.Parts.{owners_from, image_needs}
 use Rattle.image_words.specs.Promises.{saving, saving_in, SavesStored, SavesLent}
-use Rattle.image_words.specs.declared.Saved.{Saved}
-use Rattle.image_words.specs.declared.Saved.TheVariants.{Written, NotWellFormed, Short}
+use Rattle.image_words.specs.declared.Unsaved.{Unsaved}
+use Rattle.image_words.specs.declared.Unsaved.TheVariants.{NotWellFormed, Short}
+use Rattle.std.specs.Prelude.{Result, Ok, Err}
 use Rattle.image.proofs.Flat.{rows_flat}
 use Rattle.image.proofs.RuleWords.{words_many}
 use Rattle.image.proofs.Images.{sized_long, entered_long, timed_long, image_long as long-image}
 
 -- ---- words put one behind the other
-
-pub one_put : (ws : List ℕ) (k x : ℕ) → k < length ws → ListPut ws k (set ws k x) (x ∷ [])
-one_put ws k x l =
-    let z : k + 0 ≡ k = omega arith in
-    rw z at (put_more (λ i. get_or (x ∷ []) i 0) (put_none ws k (λ i. get_or (x ∷ []) i 0)) x refl (omega arith))
-
-two_put : (ws : List ℕ) (k a b : ℕ) → k + 2 ≤ length ws → ListPut ws k (set (set ws k a) (k + 1) b) (a ∷ b ∷ [])
-two_put ws k a b l = put_two (a ∷ []) (b ∷ []) (one_put ws k a (omega arith)) (one_put (set ws k a) (k + 1) b (omega (arith, length-set ws k a)))
-
-pub three_put : (ws : List ℕ) (k a b c : ℕ) → k + 3 ≤ length ws → ListPut ws k (set (set (set ws k a) (k + 1) b) (k + 2) c) (a ∷ b ∷ c ∷ [])
-three_put ws k a b c l =
-    let two = two_put ws k a b (omega arith) in
-    put_two (a ∷ b ∷ []) (c ∷ []) two (one_put (set (set ws k a) (k + 1) b) (k + 2) c (omega (arith, two.long)))
-
--- two words at the front, and more behind them
-pub two_before : {new : List ℕ} (ws : List ℕ) (a b : ℕ) (us : List ℕ) → 2 ≤ length ws → ListPut (set (set ws 0 a) 1 b) 2 new us → ListPut ws 0 new (a ∷ b ∷ us)
-two_before ws a b us l h = put_two (a ∷ b ∷ []) us (two_put ws 0 a b (omega arith)) h
 
 -- a part, and the next where it ends
 put_next : {old mid new : List ℕ} {k n : ℕ} (ws us : List ℕ) → ListPut old k mid ws → k + length ws ≡ n → ListPut mid n new us → ListPut old k new (ws ++ us)
@@ -156,18 +145,18 @@ whole_rule s ok =
     (accepted s.rule a good).long
 
 module _ (s : Stored) (buffer : List ℕ) where
-  pub saved_bad : well_formed s ≡ false → SavesStored s buffer NotWellFormed buffer
+  pub saved_bad : well_formed s ≡ false → SavesStored s buffer (Err NotWellFormed) buffer
   unfolding saving
   saved_bad bad = record { answered = rw bad; written = rw bad }
 
   module _ (ok : well_formed s ≡ true) {n : ℕ} (long : length (image_of s) ≡ n) where
-    pub saved_short : length buffer < n → SavesStored s buffer (Short n) buffer
+    pub saved_short : length buffer < n → SavesStored s buffer (Err (Short n)) buffer
     unfolding saving
     saved_short l =
         let t : ltb (length buffer) (length (image_of s)) ≡ true = lt-ltb (length buffer) (length (image_of s)) (omega arith) in
         record { answered = rw (ok, t, long); written = rw (ok, t) }
 
-    pub saved_whole : {buffer' : List ℕ} → n ≤ length buffer → buffer' ≡ at_front (image_of s) buffer → SavesStored s buffer (Written n) buffer'
+    pub saved_whole : {buffer' : List ℕ} → n ≤ length buffer → buffer' ≡ at_front (image_of s) buffer → SavesStored s buffer (Ok n) buffer'
     unfolding saving
     saved_whole l e =
         let t : ltb (length buffer) (length (image_of s)) ≡ false = le-ltb (length buffer) (length (image_of s)) (omega arith) in
@@ -175,13 +164,21 @@ module _ (s : Stored) (buffer : List ℕ) where
 
 module _ (m : Lent) (buffer : List ℕ) where
   -- a length isn't a state's
-  pub lent_unfit : fitting m ≡ false → SavesLent m buffer NotWellFormed buffer
+  pub lent_unfit : fitting m ≡ false → SavesLent m buffer (Err NotWellFormed) buffer
   unfolding saving_in
   lent_unfit unfit = record { answered = rw unfit; written = rw unfit }
 
   -- what is saved is what is stored there
-  pub lent_saved : fitting m ≡ true → {s : Stored} {r : Saved} {buffer' : List ℕ} → s ≡ stored m → SavesStored s buffer r buffer' → SavesLent m buffer r buffer'
+  pub lent_saved : fitting m ≡ true → {s : Stored} {r : Result ℕ Unsaved} {buffer' : List ℕ} → s ≡ stored m → SavesStored s buffer r buffer' → SavesLent m buffer r buffer'
   unfolding saving_in
   lent_saved fit {s} {r} {buffer'} is h =
       let q : SavesStored (stored m) buffer r buffer' = subst (λ t. SavesStored t buffer r buffer') is h in
       record { answered = rw fit q.answered; written = rw fit q.written }
+
+-- what saving from the slices' parts asks, of slices and figures that fit a state
+pub to_save : (m : Lent) → fitting m ≡ true → figures_fit m.bytes m.retained m.count ≡ true
+    → EntriesWithin m.owners m.numbers m.values m.count × (m.count ≤ most_kept) × (length (take m.retained m.times) ≤ most_times) × (length (take m.bytes m.rule) ≤ most_bytes)
+to_save m fit few =
+    let z = fit_words m fit few in
+    let (bytes, retained, count) = figures_in m.bytes m.retained m.count few in
+    (standing z, count, omega (arith, length-take-le m.retained m.times (fit_times m fit few)), omega (arith, length-take-le m.bytes m.rule (fit_bytes m fit few)))

@@ -1,5 +1,5 @@
 -- The parts of an image as functions over slices write and read them.
-use Rattle.std.specs.Prelude.{ℕ, ◌+◌, ◌*◌, ◌/◌, ◌%◌, ◌≤◌, ◌<◌, ◌≡◌, Bool, true, false, ◌&&◌, List, [], ◌∷◌, map, length, get_or, take, drop, ltb}
+use Rattle.std.specs.Prelude.{ℕ, ◌+◌, ◌*◌, ◌/◌, ◌%◌, ◌≤◌, ◌<◌, ◌≡◌, Bool, true, false, ◌&&◌, List, [], ◌∷◌, map, length, get_or, take, drop, ltb, ◌-◌, Option, Some, None}
 use Rattle.meaning.specs.Lists.{range, gather}
 use Rattle.meaning.specs.Outcome.{most_nodes, most_bytes, most_kept}
 use Rattle.method.specs.WellFormed.{most_times}
@@ -7,7 +7,8 @@ use Rattle.entries.specs.Appended.{at_front}
 use Rattle.call.specs.Stores.{owner_of}
 use Rattle.image.specs.Image.{image_version, rule_bytes, kept_in, retained_in, values_at, times_at, rule_at, read_in, is_image}
 use Rattle.image_words.specs.declared.Layout.{Layout}
-use Rattle.image_words.specs.declared.Layout.TheVariants.{Within, Out}
+use Rattle.meaning.specs.Log.{stamp}
+use Rattle.lent_state.specs.Lent.{Lent, lent}
 
 -- the owners' words of so many entries of a state: of each the node, the mark and the number
 unfoldable pub owners_from : List ℕ → List ℕ → ℕ → List ℕ
@@ -27,9 +28,9 @@ pub record SizesFit (ws : List ℕ) (kept retained : ℕ) : Type 0 where
   pub within : rule_at ws ≤ length ws
   pub rule_fits : length ws * 4 ≤ rule_at ws * 4 + most_bytes
 
-abbrev pub LaidOut : List ℕ → Layout → Type 0
-LaidOut ws (Within kept retained) = SizesFit ws kept retained
-LaidOut ws Out = is_image ws ≡ false
+abbrev pub LaidOut : List ℕ → Option Layout → Type 0
+LaidOut ws (Some l) = SizesFit ws l.kept l.retained
+LaidOut ws None = is_image ws ≡ false
 
 -- an owner has a node's number, and a mark of 0 or 1
 abbrev pub owner_fits : List ℕ → ℕ → Bool
@@ -57,3 +58,7 @@ pub record PartsStored (ws os ns : List ℕ) (kept retained : ℕ) (rule times o
   pub owners_stored : owners' ≡ at_front (take kept os) owners
   pub numbers_stored : numbers' ≡ at_front (take kept ns) numbers
   pub values_stored : values' ≡ at_front (take (kept * 4) (drop (values_at ws) ws)) values
+
+-- what is lent once the figures of an image are told, whose parts stand there
+abbrev pub figures_read : List ℕ → Layout → Lent → Lent
+figures_read ws l m = lent m.rule ((length ws - (5 + l.kept * 7 + l.retained)) * 4) (record { points = get_or ws 1 0; latest = stamp (get_or ws 2 0) }) m.times l.retained m.owners m.numbers m.values l.kept

@@ -68,11 +68,9 @@ module _ (b : List ℕ) (log : LogEnd) (times os ns vs : List ℕ) (count : ℕ)
 
   -- ---- what the counts start from
 
-  pub counting : {masks counts lows ts : List ℕ} → StateFigures s masks counts lows → (n : ℕ) → n ≡ node_count b → ts ≡ times → Counting (bare b log ts) (take n counts)
+  pub counting : {masks counts lows : List ℕ} → StateFigures s masks counts lows → (n : ℕ) → n ≡ node_count b → Counting (bare b log times) (take n counts)
   unfolding counts_stored
-  counting {masks} {counts} k n e et =
-      subst (λ q. Counting (bare b log q) (take n counts)) (sym et)
-      (record { accepted = f.accepted; few_points = f.few_points; few_times = f.few_times; times_many = f.times_many; counts = ap (λ q. take q counts) e ∙ k.counts_are_stored })
+  counting {masks} {counts} k n e = record { accepted = f.accepted; few_points = f.few_points; few_times = f.few_times; times_many = f.times_many; counts = ap (λ q. take q counts) e ∙ k.counts_are_stored }
 
   -- no node has more rows than there are entries
   pub few_rows : {begins pairs : List ℕ} → EntryPlaces s os ns vs count begins pairs → count ≤ 512 → (x : ℕ) → x < node_count b → get_or pairs x 0 - get_or begins x 0 ≤ 512
@@ -92,12 +90,9 @@ module _ (b : List ℕ) (log : LogEnd) (times os ns vs : List ℕ) (count : ℕ)
     unfolding count_after counts_after count_before counts_stored stamps_now
     bare_wanted x = refl
 
-    module _ {masks counts lows begins pairs ts times₀ stamps₀ after table : List ℕ} {retained needed : ℕ} (z : SizedWords times₀ os ns vs retained count) (k : StateFigures s masks counts lows) (p : EntryPlaces s os ns vs count begins pairs)
-        (n : ℕ) (e : n ≡ node_count b) (et : ts ≡ times) (t₀ : CallTable (bare b log ts) w masks (take n counts) lows begins pairs stamps₀ after table needed)
+    module _ {masks counts lows begins pairs times₀ stamps₀ after table : List ℕ} {retained needed : ℕ} (z : SizedWords times₀ os ns vs retained count) (k : StateFigures s masks counts lows) (p : EntryPlaces s os ns vs count begins pairs)
+        (n : ℕ) (e : n ≡ node_count b) (t : CallTable (bare b log times) w masks (take n counts) lows begins pairs stamps₀ after table needed)
         (m : ℕ) (em : m ≡ length times + 1) where
-      t : CallTable (bare b log times) w masks (take n counts) lows begins pairs stamps₀ after table needed
-      t = subst (λ q. CallTable (bare b log q) w masks (take n counts) lows begins pairs stamps₀ after table needed) et t₀
-
       abbrev stamps : List ℕ
       stamps = take m stamps₀
 

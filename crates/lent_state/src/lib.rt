@@ -1,22 +1,19 @@
 // Taking an event or a notice in memory that the caller lends: the checks in the order of their refusals, the figures of the call, and the call settled; what is stored is changed in place, and a refusal changes nothing.
 #![tactic(auto)]
 
-ghost use Rattle.std.specs.Prelude.{◌≡◌, ℕ, ◌+◌, ◌≤◌, ◌<◌, length, take};
-ghost use Rattle.meaning.specs.Outcome.{Outcome, most_nodes, most_points};
+ghost use Rattle.std.specs.Prelude.{◌≡◌, ◌+◌, ◌≤◌, ◌<◌, length, take};
+ghost use Rattle.meaning.specs.Outcome.{most_nodes, most_points};
 ghost use Rattle.method.specs.WellFormed.{Formed};
 ghost use Rattle.kinds.specs.Kinds.{EventThere};
 ghost use Rattle.formed.specs.StateFigures.{stored_in, StateFigures, EntryPlaces};
 ghost use Rattle.meaning.specs.Keeper.{event as event_of, notice};
-ghost use Rattle.method.specs.Step.{points_added};
-ghost use Rattle.events.specs.Answers.{outcome_of, fed_of, HandedWhole};
-ghost use Rattle.events.specs.declared.Admitted.TheVariants.{Fine};
-ghost use Rattle.limits.specs.Weighs.{refusal_of};
+ghost use Rattle.method.specs.Step.{words_of, points_added};
+ghost use Rattle.events.specs.Answers.{fed_of};
 ghost use Rattle.call.specs.Settles.{weighed_now};
-ghost use Rattle.lent_state.specs.declared.Answer.TheVariants.{Refused};
 ghost use Rattle.lent_state.specs.Answers.{take_answer, Finishes, TakesIn};
-ghost use Rattle.lent_state.specs.Lent.{lent, lengths_fit, SizedWords, TakesLent};
+ghost use Rattle.lent_state.specs.Lent.{lent_in, lengths_are, SizedWords, SameWords, TakesLent};
 
-use events::{Admitted, Handed};
+use events::Handed;
 use limits::{Refusal, Written};
 use meaning::{LogEnd, MOST_KEPT, MOST_NODES, RULE_BYTES, Stamp, TIME_WORDS};
 use node_step::NODE_WORDS;
@@ -24,21 +21,22 @@ use node_step::NODE_WORDS;
 // The words for the values of the entries.
 const VALUES: usize = MOST_KEPT * 4;
 
-// The answer of a taking: the words written, or the refusal.
-#[derive(Clone, Copy)]
-pub enum Answer {
-    Written(u32),
-    Refused(Refusal),
+// A state's parts in memory that the caller lends: the rule, the times and the entries at the front of their slices, as many as `bytes`, `retained` and `count` say, and where the log ends. The slices are of bytes (R) and of words (W): for a taking the words are lent to be written, for reading an image in the bytes too, for saving neither.
+#[derive(Drop)]
+pub struct Loan<R, W> {
+    pub rule: R,
+    pub bytes: u32,
+    pub log: LogEnd,
+    pub times: W,
+    pub retained: u32,
+    pub owners: W,
+    pub numbers: W,
+    pub values: W,
+    pub count: u32,
 }
 
-// What a taking leaves beside the slices: where the log ends, how many times are retained and entries kept, all as they were on a refusal; and the answer.
-#[derive(Clone, Copy)]
-pub struct Returned {
-    pub log: LogEnd,
-    pub retained: u32,
-    pub count: u32,
-    pub answer: Answer,
-}
+// What is lent for a taking.
+pub type Taking<'a> = Loan<&'a [u8], &'a mut [u32]>;
 
 // What a step of a taking leaves that isn't refused: what was written and kept, and how many times are retained.
 #[derive(Clone, Copy)]
@@ -96,10 +94,10 @@ fn take_admitted(
     let needed = figures::call_table(
         rule,
         log,
-        &times[0..retained],
+        &times[..retained],
         words,
         masks,
-        &counts[0..n],
+        &counts[..n],
         lows,
         begins,
         pairs,
@@ -110,7 +108,7 @@ fn take_admitted(
     let weighed = workspace::settle_in_room(
         rule,
         &table,
-        &stamps[0..k],
+        &stamps[..k],
         log,
         words,
         owners,
@@ -124,30 +122,16 @@ fn take_admitted(
     let m = retained + added as usize;
     finish(
         weighed,
-        &after[0..n],
+        &after[..n],
         log.points + added,
-        &stamps[0..m],
+        &stamps[..m],
         times,
     )
 }
 
-// The refusal that the first checks give.
-fn refusal_of(admitted: Admitted) -> Refusal
-    requires { admitted ≡ Fine → ⊥ }
-    ensures { (rest : Outcome ℕ) → refusal_of result ≡ outcome_of admitted rest }
-{
-    match admitted {
-        Admitted::Fine => Refusal::NotAnEvent,
-        Admitted::NotAnEvent => Refusal::NotAnEvent,
-        Admitted::RowOut(k) => Refusal::RowOut(k),
-        Admitted::TimeFalls => Refusal::TimeFalls,
-        Admitted::LogFull => Refusal::LogFull,
-    }
-}
-
 // What is handed in, in any state that stands in the slices: 8, then the first checks, then what follows.
 fn take_stored(
-    handed: Handed,
+    handed: Handed<'_>,
     rule: &[u8],
     log: LogEnd,
     times: &mut [u32],
@@ -156,11 +140,10 @@ fn take_stored(
     numbers: &mut [u32],
     values: &mut [u32],
     count: usize,
-    words: &[u32],
     report: &mut [u32],
 ) -> Result<Taken, Refusal>
-    requires { SizedWords times.old owners.old numbers.old values.old retained count × HandedWhole handed words.now }
-    ensures { TakesIn (stored_in rule.now log (take retained times.old) owners.old numbers.old values.old count) words.now report.old report.new times.old owners.old numbers.old values.old times.new owners.new numbers.new values.new (take_answer (stored_in rule.now log (take retained times.old) owners.old numbers.old values.old count) (fed_of handed words.now) (length report.old)) result }
+    requires { SizedWords times.old owners.old numbers.old values.old retained count }
+    ensures { TakesIn (stored_in rule.now log (take retained times.old) owners.old numbers.old values.old count) (words_of (fed_of handed.entry)) report.old report.new times.old owners.old numbers.old values.old times.new owners.new numbers.new values.new (take_answer (stored_in rule.now log (take retained times.old) owners.old numbers.old values.old count) (fed_of handed.entry) (length report.old)) result }
 {
     let mut masks = [0u8; MOST_NODES];
     let mut counts = [0u32; MOST_NODES];
@@ -170,7 +153,7 @@ fn take_stored(
     if !formed::well_formed(
         rule,
         log,
-        &times[0..retained],
+        &times[..retained],
         owners,
         numbers,
         values,
@@ -181,12 +164,10 @@ fn take_stored(
         &mut begins,
         &mut pairs,
     ) {
-        return Err(Refusal::NotWellFormed);
+        return Err(Refusal::NotWellFormed); // by what is stored, not by a length
     }
-    let admitted = events::admit_handed(handed, rule, words, log);
-    let Admitted::Fine = admitted else {
-        return Err(refusal_of(admitted));
-    };
+    events::admit_handed(handed, rule, log)?;
+    let words = handed.words();
     take_admitted(
         rule, log, times, retained, owners, numbers, values, count, words, report, &masks, &counts,
         &lows, &begins, &pairs,
@@ -194,155 +175,77 @@ fn take_stored(
 }
 
 // Whether slices have the lengths of a state's arrays.
-pub fn lengths_fit(
-    rule: &[u8],
-    times: &[u32],
-    owners: &[u32],
-    numbers: &[u32],
-    values: &[u32],
-) -> bool
-    ensures { result ≡ lengths_fit rule.now times.now owners.now numbers.now values.now }
+#[tactic(auto, unfolding(crate::specs::Lent::lengths_are))]
+pub fn lengths_fit(rule: usize, times: usize, owners: usize, numbers: usize, values: usize) -> bool
+    ensures { result ≡ lengths_are rule times owners numbers values }
 {
-    if rule.len() != RULE_BYTES {
-        return false;
-    }
-    if times.len() != TIME_WORDS {
-        return false;
-    }
-    if owners.len() != MOST_KEPT {
-        return false;
-    }
-    if numbers.len() != MOST_KEPT {
-        return false;
-    }
-    values.len() == VALUES
+    rule == RULE_BYTES
+        && times == TIME_WORDS
+        && owners == MOST_KEPT
+        && numbers == MOST_KEPT
+        && values == VALUES
 }
 
-// What a refusal leaves beside the slices.
-fn as_it_was(end: LogEnd, times: u32, entries: u32, refusal: Refusal) -> Returned
-    ensures { result ≡ record { log = end; retained = times; count = entries; answer = Refused refusal } }
-{
-    Returned {
-        log: end,
-        retained: times,
-        count: entries,
-        answer: Answer::Refused(refusal),
-    }
-}
-
-// Takes what is handed in: the one way for both.
+// Takes what is handed in: the one way for both. Slices of any length and content, any report buffer; where a length isn't a state's the answer is 8. How many words of the report are written.
 pub fn take_handed(
-    handed: Handed,
-    rule: &[u8],
-    bytes: u32,
-    log: LogEnd,
-    times: &mut [u32],
-    retained: u32,
-    owners: &mut [u32],
-    numbers: &mut [u32],
-    values: &mut [u32],
-    count: u32,
-    words: &[u32],
+    lent: &mut Taking<'_>,
+    handed: Handed<'_>,
     report: &mut [u32],
-) -> Returned
-    requires { HandedWhole handed words.now }
-    ensures { TakesLent (lent rule.now bytes log times.old retained owners.old numbers.old values.old count) (fed_of handed words.now) report.old result.answer (lent rule.now bytes result.log times.new result.retained owners.new numbers.new values.new result.count) report.new }
+) -> Result<u32, Refusal>
+    ensures takes { TakesLent (lent_in lent.old) (fed_of handed.entry) report.old result (lent_in lent.new) report.new }
+    ensures same { SameWords lent.old lent.new }
 {
-    if !lengths_fit(rule, times, owners, numbers, values) {
-        return as_it_was(log, retained, count, Refusal::NotWellFormed);
+    if !lengths_fit(
+        lent.rule.len(),
+        lent.times.len(),
+        lent.owners.len(),
+        lent.numbers.len(),
+        lent.values.len(),
+    ) {
+        return Err(Refusal::NotWellFormed);
     }
-    if !figures::figures_fit(bytes, retained, count) {
-        return as_it_was(log, retained, count, Refusal::NotWellFormed);
+    if !figures::figures_fit(lent.bytes, lent.retained, lent.count) {
+        return Err(Refusal::NotWellFormed);
     }
-    let n = bytes as usize;
+    let rule = lent.rule;
+    let n = lent.bytes as usize;
+    let retained = lent.retained as usize;
+    let count = lent.count as usize;
+    let log = lent.log;
     let taken = take_stored(
         handed,
-        &rule[0..n],
+        &rule[..n],
         log,
-        times,
-        retained as usize,
-        owners,
-        numbers,
-        values,
-        count as usize,
-        words,
+        lent.times,
+        retained,
+        lent.owners,
+        lent.numbers,
+        lent.values,
+        count,
         report,
-    );
-    match taken {
-        Err(refusal) => as_it_was(log, retained, count, refusal),
-        Ok(done) => Returned {
-            log: LogEnd {
-                points: log.points + progress::points_added(words),
-                latest: Stamp(words[0]),
-            },
-            retained: done.retained,
-            count: done.written.kept,
-            answer: Answer::Written(done.written.words),
-        },
-    }
+    )?;
+    let words = handed.words();
+    lent.log = LogEnd {
+        points: log.points + progress::points_added(words),
+        latest: Stamp(words[0]),
+    };
+    lent.retained = taken.retained;
+    lent.count = taken.written.kept;
+    Ok(taken.written.words)
 }
 
-// Takes an event: slices of any length and content: the rule, the times and the entries are at the front of their slices, as many as `bytes`, `retained` and `count` say; any event words, any report buffer. Where a length isn't a state's the answer is 8.
-pub fn take(
-    rule: &[u8],
-    bytes: u32,
-    log: LogEnd,
-    times: &mut [u32],
-    retained: u32,
-    owners: &mut [u32],
-    numbers: &mut [u32],
-    values: &mut [u32],
-    count: u32,
-    event: &[u32],
-    report: &mut [u32],
-) -> Returned
-    ensures { TakesLent (lent rule.now bytes log times.old retained owners.old numbers.old values.old count) (event_of event.now) report.old result.answer (lent rule.now bytes result.log times.new result.retained owners.new numbers.new values.new result.count) report.new }
+// Takes an event, any words.
+pub fn take(lent: &mut Taking<'_>, event: &[u32], report: &mut [u32]) -> Result<u32, Refusal>
+    ensures takes { TakesLent (lent_in lent.old) (event_of event.now) report.old result (lent_in lent.new) report.new }
+    ensures same { SameWords lent.old lent.new }
 {
-    take_handed(
-        Handed::Event,
-        rule,
-        bytes,
-        log,
-        times,
-        retained,
-        owners,
-        numbers,
-        values,
-        count,
-        event,
-        report,
-    )
+    take_handed(lent, Handed::Event(event), report)
 }
 
 // Takes a clock notice, a time and no point, in the same way.
-pub fn notice(
-    rule: &[u8],
-    bytes: u32,
-    log: LogEnd,
-    times: &mut [u32],
-    retained: u32,
-    owners: &mut [u32],
-    numbers: &mut [u32],
-    values: &mut [u32],
-    count: u32,
-    time: u32,
-    report: &mut [u32],
-) -> Returned
-    ensures { TakesLent (lent rule.now bytes log times.old retained owners.old numbers.old values.old count) (notice time) report.old result.answer (lent rule.now bytes result.log times.new result.retained owners.new numbers.new values.new result.count) report.new }
+pub fn notice(lent: &mut Taking<'_>, time: u32, report: &mut [u32]) -> Result<u32, Refusal>
+    ensures takes { TakesLent (lent_in lent.old) (notice time) report.old result (lent_in lent.new) report.new }
+    ensures same { SameWords lent.old lent.new }
 {
-    let words = [time; 1];
-    take_handed(
-        Handed::Notice,
-        rule,
-        bytes,
-        log,
-        times,
-        retained,
-        owners,
-        numbers,
-        values,
-        count,
-        &words,
-        report,
-    )
+    take_handed(lent, Handed::Notice(&[time]), report)
 }

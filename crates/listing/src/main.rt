@@ -7,8 +7,9 @@ mod text;
 
 ghost use Rattle.std.specs.Prelude.{◌+◌, ◌≤◌, length};
 
-use event::{Figures, take_event};
+use event::take_event;
 use input::{is_short, read_more, read_rule};
+use lent_state::{Loan, Taking};
 use lines::{Next, next_event, put_checked, rule_in};
 use meaning::{LogEnd, MOST_ROWS, RULE_BYTES, Stamp};
 use monitor::State;
@@ -23,10 +24,7 @@ const LARGEST: usize = 53504;
 
 // Writes the bytes; where that fails, the rest of them is not written.
 fn write<W: Print>(output: &W, bytes: &[u8]) {
-    match output.write_all(bytes) {
-        Ok(_) => (),
-        Err(_) => (),
-    }
+    let _ = output.write_all(bytes);
 }
 
 // Writes the text up to `at` where the largest answer has no room behind it, and answers where the next one goes.
@@ -52,23 +50,27 @@ fn take_all<R: Read, W: Print>(input: &mut R, output: &W, first: State) {
     let mut owners = first.owners;
     let mut numbers = first.numbers;
     let mut values = first.values;
-    let mut figures = Figures {
+    let mut lent: Taking<'_> = Loan {
+        rule: &rule,
+        bytes: first.bytes,
         log: LogEnd {
             points: first.points,
             latest: Stamp(first.latest),
         },
+        times: &mut times,
         retained: first.retained,
+        owners: &mut owners,
+        numbers: &mut numbers,
+        values: &mut values,
         count: first.count,
     };
     let mut ended = false;
     let mut from = 0;
     let mut to = 0;
     let mut at = 0;
-    let mut turns: u64 = 18446744073709551615;
-    while turns > 0 {
-        turns -= 1;
+    for _ in 0..u64::MAX {
         if is_short(&bytes[from..to], ended) {
-            write(output, &text[0..at]);
+            write(output, &text[..at]);
             let n = read_more(input, &mut bytes, from, to);
             ended = n == to - from;
             from = 0;
@@ -78,39 +80,26 @@ fn take_all<R: Read, W: Print>(input: &mut R, output: &W, first: State) {
         }
         let next = next_event(&bytes[from..to], &mut event);
         let Next::Event(n) = next else {
-            let log = figures.log;
+            let log = lent.log;
+            let retained = lent.retained;
+            let count = lent.count;
             let state = State {
-                rule,
-                bytes: first.bytes,
                 points: log.points,
                 latest: log.latest.0,
                 times,
-                retained: figures.retained,
+                retained,
                 owners,
                 numbers,
                 values,
-                count: figures.count,
+                count,
+                ..first
             };
             let end = put_end(&mut text, at, next, state);
-            write(output, &text[0..end]);
+            write(output, &text[..end]);
             return;
         };
-        let answered = take_event(
-            &rule,
-            first.bytes,
-            figures,
-            &mut times,
-            &mut owners,
-            &mut numbers,
-            &mut values,
-            &event[0..n],
-            &mut report,
-            &mut text,
-            at,
-        );
-        let after = answered.figures;
-        figures = after;
-        at = make_room(output, &text, answered.end);
+        let end = take_event(&mut lent, &event[..n], &mut report, &mut text, at);
+        at = make_room(output, &text, end);
         from += 4 * n;
     }
 }

@@ -6,21 +6,20 @@ ghost use Rattle.monitor.specs.State.{stored};
 ghost use Rattle.lines.specs.Answers.{answer_text};
 ghost use Rattle.listing.specs.Ends.{cut_text, figures_text, end_text};
 
-use lent_state::Answer;
 use limits::Refusal;
 use lines::{Next, put_last, put_refused, put_report};
 use monitor::State;
 use refusals::of_event;
 
 // Puts what a taking answered; `report` is the buffer that it was lent.
-pub fn put_answer(out: &mut [u8], at: usize, answer: Answer, report: &[u32]) -> usize
+pub fn put_answer(out: &mut [u8], at: usize, answer: Result<u32, Refusal>, report: &[u32]) -> usize
     requires { (at + 53504 ≤ length out.old) × (length report.now ≤ 4326) }
     ensures put { Put out.old at (answer_text (answer_of answer) report.now) out.new result }
     ensures upper_bound { result ≤ at + 53504 }
 {
     match answer {
-        Answer::Written(_) => put_report(out, at, report),
-        Answer::Refused(refusal) => put_refused(out, at, of_event(refusal)),
+        Ok(_) => put_report(out, at, report),
+        Err(refusal) => put_refused(out, at, of_event(refusal)),
     }
 }
 

@@ -21,7 +21,8 @@ use Rattle.figures.proofs.Front.{front_read}
 use Rattle.lent_state.specs.Lent.{Lent, fitting}
 use Rattle.lent_state.proofs.Memory.{sized_fits}
 use Rattle.image_words.specs.Promises.{ReadsLent}
-use Rattle.image_words.specs.declared.Read.{Read}
+use Rattle.image_words.specs.declared.NotAnImage.{NotAnImage}
+use Rattle.std.specs.Prelude.{Result}
 use Rattle.monitor.specs.State.{blank, lent_of, start_state}
 use Rattle.monitor.specs.declared.State.{State}
 use Rattle.monitor.proofs.Along.{Stores}
@@ -43,13 +44,15 @@ rule_fits b a ok = omega (arith, (accepted b a ok).long, nodes_most b a ok)
 -- its arrays have a state's lengths, and those of the state of zeros
 start_fits : (b : List ℕ) → length b ≤ 652 → fitting (lent_of (start_state b)) ≡ true
 unfolding start_state
-start_fits b l = sized_fits (record { rule_long = simp (length-append, length-replicate) (omega arith); times_long = length-replicate {A = ℕ} 65 0; owners_long = length-replicate {A = ℕ} 512 0; numbers_long = length-replicate {A = ℕ} 512 0; values_are_long = length-replicate {A = ℕ} 2048 0 })
+start_fits b l =
+    let s = start_state b in
+    sized_fits {rule = s.rule} {times = s.times} {os = s.owners} {ns = s.numbers} {vs = s.values} (record { rule_long = simp (length-append, length-replicate) (omega arith); times_long = length-replicate {A = ℕ} 65 0; owners_long = length-replicate {A = ℕ} 512 0; numbers_long = length-replicate {A = ℕ} 512 0; values_are_long = length-replicate {A = ℕ} 2048 0 })
 
 pub blank_fits : fitting (lent_of blank) ≡ true
 blank_fits = start_fits [] (omega arith)
 
 -- words read into a state of zeros
-pub read_into : (z : State) {ws : List ℕ} {r : Read} {m : Lent} → z ≡ blank → ReadsLent (lent_of z) ws r m → ReadsLent (lent_of blank) ws r m
+pub read_into : (z : State) {ws : List ℕ} {r : Result ℕ NotAnImage} {m : Lent} → z ≡ blank → ReadsLent (lent_of z) ws r m → ReadsLent (lent_of blank) ws r m
 read_into z {ws} {r} {m} e h = subst (λ s. ReadsLent (lent_of s) ws r m) e h
 
 -- what the start's state stores is the empty log

@@ -1,5 +1,5 @@
 -- Demand 3 with cuts (#104): one claim about a whole list of takings, saves and restores. Whatever bytes a start accepted, and whatever was then handed in, what the operations promise (Contracts.antt) makes each answer, every word of each buffer and every image the keeper's. It is proved as `Cut-list` (proofs/CutList.antt), for a rule of bytes; the claim about takings alone (WholeList.antt) is the same induction's, over a list without saves and restores, and asks nothing of the rule.
-use Rattle.std.specs.Prelude.{ℕ, ◌≡◌, true, List, [], ◌∷◌, map, get_or, take}
+use Rattle.std.specs.Prelude.{ℕ, ◌≡◌, true, List, [], ◌∷◌, map, get_or, take, Result}
 use Rattle.meaning.specs.Outcome.{Outcome, refused, given}
 use Rattle.meaning.specs.Log.{log_of}
 use Rattle.meaning.specs.Kept.{kept, open_points}
@@ -8,7 +8,7 @@ use Rattle.method.specs.Step.{kept_stored}
 use Rattle.method.specs.WellFormed.{well_formed}
 use Rattle.figures.specs.Fronts.{open_answer}
 use Rattle.image_words.specs.Promises.{saved_of, read_of}
-use Rattle.image_words.specs.declared.Saved.{Saved}
+use Rattle.image_words.specs.declared.Unsaved.{Unsaved}
 use Rattle.monitor.specs.State.{stored}
 use Rattle.monitor.specs.Promises.{Takes, Saves, Restores}
 use Rattle.monitor.specs.Calls.{Call, taking_of, given_of}
@@ -19,7 +19,7 @@ use Rattle.monitor.specs.declared.Restored.{Restored}
 -- a call of `save`: the buffer that it was handed, the answer, and how the buffer ended; one of `restore`: which image it was handed, and what it gave back
 pub data CutCall : Type 0 where
   took : Call → CutCall
-  saved : List ℕ → Saved → List ℕ → CutCall
+  saved : List ℕ → Result ℕ Unsaved → List ℕ → CutCall
   restored : ℕ → Restored → CutCall
 
 -- the state after a restore is what it gave back, and the one before it where it was refused

@@ -1,12 +1,12 @@
 -- What starting, taking, saving and reading in give back, for any bytes, any state, any event words or notice's time, any buffer and any words of an image.
-use Rattle.std.specs.Prelude.{ℕ, ◌≡◌, List}
+use Rattle.std.specs.Prelude.{ℕ, ◌≡◌, List, Result}
 use Rattle.meaning.specs.Outcome.{Outcome, refused, given}
 use Rattle.meaning.specs.RuleFile.{Accepted, checking}
 use Rattle.meaning.specs.Keeper.{Fed}
 use Rattle.rulefile.specs.Checked.{answer_of as checked_of}
 use Rattle.lent_state.specs.Lent.{TakesLent}
 use Rattle.image_words.specs.Promises.{SavesLent, ReadsLent}
-use Rattle.image_words.specs.declared.Saved.{Saved}
+use Rattle.image_words.specs.declared.Unsaved.{Unsaved}
 use Rattle.monitor.specs.State.{lent_of, start_state, blank}
 use Rattle.monitor.specs.declared.State.{State}
 use Rattle.monitor.specs.declared.Started.{Started}
@@ -28,7 +28,7 @@ abbrev pub Takes : State → Fed → List ℕ → Step → List ℕ → Type 0
 Takes s f buffer r buffer' = TakesLent (lent_of s) f buffer r.answer (lent_of r.state) buffer'
 
 -- "Save a running rule to words": what saving promises of the parts that it is lent
-abbrev pub Saves : State → List ℕ → Saved → List ℕ → Type 0
+abbrev pub Saves : State → List ℕ → Result ℕ Unsaved → List ℕ → Type 0
 Saves s buffer r buffer' = SavesLent (lent_of s) buffer r buffer'
 
 -- "and read it in again": into a state of zeros, which a refusal leaves

@@ -5,15 +5,16 @@ ghost use Rattle.std.specs.Prelude.{◌≡◌, ◌≤◌, length};
 ghost use Rattle.meaning.specs.Outcome.{most_bytes};
 ghost use Rattle.meaning.specs.Keeper.{event as event_of, notice};
 ghost use Rattle.method.specs.Step.{kept_stored};
-ghost use Rattle.events.specs.Answers.{fed_of, HandedWhole};
+ghost use Rattle.events.specs.Answers.{fed_of};
 ghost use Rattle.figures.specs.Fronts.{open_of, open_answer};
 ghost use Rattle.entries.specs.Appended.{at_front};
-ghost use Rattle.monitor.specs.State.{stored, start_state, blank};
+ghost use Rattle.monitor.specs.State.{end_at, stored, start_state, blank};
 ghost use Rattle.monitor.specs.Promises.{Starts, Takes, Saves, Restores};
 
 use events::Handed;
-use image_words::{Read, Saved};
-use lent_state::Answer;
+use image_words::{NotAnImage, Reading, Saving, Unsaved};
+use lent_state::{Loan, Taking};
+use limits::Refusal;
 use meaning::{LogEnd, MOST_KEPT, RULE_BYTES, Stamp, TIME_WORDS};
 use rulefile::{AcceptedRule, RuleRefusal};
 
@@ -40,31 +41,18 @@ pub struct Started {
     pub state: State,
 }
 
-// What a taking gives back: the state, which a refusal leaves as it was, and the answer.
+// What a taking gives back: the state, which a refusal leaves as it was, and the answer: the words written or the refusal.
 #[derive(Clone, Copy)]
 pub struct Step {
     pub state: State,
-    pub answer: Answer,
+    pub answer: Result<u32, Refusal>,
 }
 
-// What reading in gives: the answer, and the state that was read, or one of zeros.
+// What reading in gives: the answer, the words read or that they are no image; and the state that was read, or one of zeros.
 #[derive(Clone, Copy)]
 pub struct Restored {
-    pub read: Read,
+    pub read: Result<u32, NotAnImage>,
     pub state: State,
-}
-
-// Copies bytes to the front of others; those behind them stay.
-fn copy_bytes(from: &[u8], to: &mut [u8])
-    requires { length from.now ≤ length to.old }
-    ensures { to.new ≡ at_front from.now to.old }
-{
-    let n = from.len();
-    let mut k = 0;
-    while k < n {
-        to[k] = from[k];
-        k += 1;
-    }
 }
 
 // A state of zeros.
@@ -85,6 +73,14 @@ fn zeros() -> State
     }
 }
 
+// Copies bytes to the front of others; those behind them stay.
+fn copy_bytes(from: &[u8], to: &mut [u8])
+    requires { length from.now ≤ length to.old }
+    ensures { to.new ≡ at_front from.now to.old }
+{
+    to[..from.len()].copy_from_slice(from);
+}
+
 // A state with no points, under a rule.
 fn empty(rule: &[u8]) -> State
     requires { length rule.now ≤ most_bytes }
@@ -92,11 +88,11 @@ fn empty(rule: &[u8]) -> State
 {
     let mut bytes = [0u8; RULE_BYTES];
     copy_bytes(rule, &mut bytes);
-    let n = rule.len();
-    let mut state = zeros();
-    state.rule = bytes;
-    state.bytes = n as u32;
-    state
+    State {
+        rule: bytes,
+        bytes: rule.len() as u32,
+        ..zeros()
+    }
 }
 
 // Starts a state: any bytes. Where the rule is refused the state is one of zeros.
@@ -111,87 +107,83 @@ pub fn start(rule: &[u8]) -> Started
     Started { checked, state }
 }
 
+// Where a state's log ends.
+fn end_of(state: State) -> LogEnd
+    ensures { result ≡ end_at state.points state.latest }
+{
+    LogEnd {
+        points: state.points,
+        latest: Stamp(state.latest),
+    }
+}
+
 // Takes what is handed in: the one way for both.
-fn take_handed(state: State, handed: Handed, words: &[u32], report: &mut [u32]) -> Step
-    requires { HandedWhole handed words.now }
-    ensures { Takes state (fed_of handed words.now) report.old result report.new }
+fn take_handed(state: State, handed: Handed<'_>, report: &mut [u32]) -> Step
+    ensures { Takes state (fed_of handed.entry) report.old result report.new }
 {
     let mut times = state.times;
     let mut owners = state.owners;
     let mut numbers = state.numbers;
     let mut values = state.values;
-    let left = lent_state::take_handed(
-        handed,
-        &state.rule,
-        state.bytes,
-        LogEnd {
-            points: state.points,
-            latest: Stamp(state.latest),
-        },
-        &mut times,
-        state.retained,
-        &mut owners,
-        &mut numbers,
-        &mut values,
-        state.count,
-        words,
-        report,
-    );
-    let rule = state.rule;
-    let log = left.log;
-    let next = State {
-        rule,
+    let mut lent: Taking<'_> = Loan {
+        rule: &state.rule,
         bytes: state.bytes,
+        log: end_of(state),
+        times: &mut times,
+        retained: state.retained,
+        owners: &mut owners,
+        numbers: &mut numbers,
+        values: &mut values,
+        count: state.count,
+    };
+    let answer = lent_state::take_handed(&mut lent, handed, report);
+    let log = lent.log;
+    let retained = lent.retained;
+    let count = lent.count;
+    let state = State {
         points: log.points,
         latest: log.latest.0,
         times,
-        retained: left.retained,
+        retained,
         owners,
         numbers,
         values,
-        count: left.count,
+        count,
+        ..state
     };
-    let answer = left.answer;
-    Step {
-        state: next,
-        answer,
-    }
+    Step { state, answer }
 }
 
 // Takes an event: any state, any event words, any report buffer.
 pub fn take(state: State, event: &[u32], report: &mut [u32]) -> Step
     ensures { Takes state (event_of event.now) report.old result report.new }
 {
-    take_handed(state, Handed::Event, event, report)
+    take_handed(state, Handed::Event(event), report)
 }
 
 // Takes a clock notice, a time and no point: any state, any time, any report buffer.
 pub fn notice(state: State, time: u32, report: &mut [u32]) -> Step
     ensures { Takes state (notice time) report.old result report.new }
 {
-    let words = [time; 1];
-    take_handed(state, Handed::Notice, &words, report)
+    take_handed(state, Handed::Notice(&[time]), report)
 }
 
 // Saves a state as an image: any state, any buffer.
-pub fn save(running: State, buffer: &mut [u32]) -> Saved
+pub fn save(running: State, buffer: &mut [u32]) -> Result<u32, Unsaved>
     ensures { Saves running buffer.old result buffer.new }
 {
-    image_words::save(
-        &running.rule,
-        running.bytes,
-        LogEnd {
-            points: running.points,
-            latest: Stamp(running.latest),
-        },
-        &running.times,
-        running.retained,
-        &running.owners,
-        &running.numbers,
-        &running.values,
-        running.count,
-        buffer,
-    )
+    let lent: Saving<'_> = Loan {
+        rule: &running.rule,
+        bytes: running.bytes,
+        log: end_of(running),
+        times: &running.times,
+        retained: running.retained,
+        owners: &running.owners,
+        numbers: &running.numbers,
+        values: &running.values,
+        count: running.count,
+    };
+    image_words::save(lent, buffer)
 }
 
 // Reads an image in: any words. Where they are no image the state is one of zeros.
@@ -204,35 +196,37 @@ pub fn restore(words: &[u32]) -> Restored
     let mut owners = empty.owners;
     let mut numbers = empty.numbers;
     let mut values = empty.values;
-    let got = image_words::restore(
-        words,
-        &mut rule,
-        empty.bytes,
-        LogEnd {
-            points: empty.points,
-            latest: Stamp(empty.latest),
-        },
-        &mut times,
-        empty.retained,
-        &mut owners,
-        &mut numbers,
-        &mut values,
-        empty.count,
-    );
-    let known = got.log;
+    let mut lent: Reading<'_> = Loan {
+        rule: &mut rule,
+        bytes: empty.bytes,
+        log: end_of(empty),
+        times: &mut times,
+        retained: empty.retained,
+        owners: &mut owners,
+        numbers: &mut numbers,
+        values: &mut values,
+        count: empty.count,
+    };
+    let read = image_words::restore(words, &mut lent);
+    let Loan {
+        bytes,
+        log: end,
+        retained,
+        count,
+        ..
+    } = lent;
     let state = State {
         rule,
-        bytes: got.bytes,
-        points: known.points,
-        latest: known.latest.0,
+        bytes,
+        points: end.points,
+        latest: end.latest.0,
         times,
-        retained: got.retained,
+        retained,
         owners,
         numbers,
         values,
-        count: got.count,
+        count,
     };
-    let read = got.answer;
     Restored { read, state }
 }
 
@@ -250,10 +244,7 @@ pub fn open_points(state: State) -> Option<u32>
     figures::open_points(
         &state.rule,
         state.bytes,
-        LogEnd {
-            points: state.points,
-            latest: Stamp(state.latest),
-        },
+        end_of(state),
         &state.times,
         state.retained,
         &state.owners,

@@ -6,39 +6,12 @@ use mathlib.Core.Bool.{true, false}
 use mathlib.Core.List.{List}
 use lib.ListN.{length}
 use Rattle.meaning.specs.Outcome.{Outcome, refused, most_kept}
-use Rattle.rulefile.specs.Checked.{answer_of as checked_of}
 use Rattle.entries.specs.Entries.{EntriesWithin}
 use Rattle.figures.specs.Fronts.{open_answer}
 use Rattle.figures.proofs.Slices.{entries_many}
 use Rattle.lent_state.specs.Lent.{Lent, lengths_fit, fitting, stored}
 use Rattle.lent_state.proofs.Memory.{Sized, fits_sized}
-use Rattle.limits.specs.Weighs.{refusal_of}
-use Rattle.limits.specs.declared.Refusal.{Refusal}
-use Rattle.limits.specs.declared.Refusal.TheVariants.{NotWellFormed, NotAnEvent, RowOut, TimeFalls, LogFull, Crowded, Backlog, KeptOver, BufferShort}
-use Rattle.refusals.specs.Numbered.{numbered}
-use Rattle.refusals.specs.declared.Numbered.{Numbered}
-use Rattle.monitor.specs.Promises.{Starts}
-use Rattle.monitor.specs.declared.Started.{Started}
-use Rattle.yokemango.specs.Parts.{parts_of}
-use Rattle.yokemango.specs.Numbers.{told_of, start_parts, figures_with, open_in, figures_of}
-use Rattle.yokemango.specs.declared.Parts.{Parts}
-
--- an event's refusal as a taking tells it
-pub event_told : (r : Refusal) {t : Numbered} → t ≡ numbered (refusal_of r) → record { number = t.0; place = t.1; words = 0 } ≡ told_of (refusal_of r)
-event_told NotWellFormed e = rw e
-event_told NotAnEvent e = rw e
-event_told (RowOut k) e = rw e
-event_told TimeFalls e = rw e
-event_told LogFull e = rw e
-event_told (Crowded x) e = rw e
-event_told Backlog e = rw e
-event_told KeptOver e = rw e
-event_told (BufferShort words) e = rw e
-
--- a start's answer and state as it tells them
-pub starts_told : {b : List ℕ} {r : Started} {parts : Parts} → Starts b r → parts ≡ parts_of (checked_of r.checked)
-    → record { number = parts.number; place = parts.place; reach = parts.reach; free = parts.free; state = r.state } ≡ start_parts b
-starts_told h e = rw (e, h.answered, h.started)
+use Rattle.yokemango.specs.Numbers.{figures_with, open_in, figures_of}
 
 -- the figures of what is lent, where a length isn't a state's and where all are
 pub figures_unfit : (m : Lent) → fitting m ≡ false → figures_with (refused 8 0) m.count ≡ figures_of m

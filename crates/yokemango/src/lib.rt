@@ -18,8 +18,8 @@ ghost use Rattle.yokemango.specs.Exported.{form_number, count_or_none, word_or_n
 ghost use Rattle.yokemango.specs.Numbers.{start_parts, told_of, figures_with, figures_of, TakesAs, SavesAs, RestoresAs};
 
 use figures::open_points;
-use image_words::{Read, Saved};
-use lent_state::{Answer, lengths_fit};
+use image_words::{NotAnImage, Unsaved};
+use lent_state::{Loan, lengths_fit};
 use limits::Refusal;
 use meaning::{LogEnd, Stamp};
 use monitor::State;
@@ -146,6 +146,16 @@ pub struct Told {
     pub words: u32,
 }
 
+fn told_words(words: u32) -> Told
+    ensures { result ≡ record { number = 0; place = 0; words = words } }
+{
+    Told {
+        number: 0,
+        place: 0,
+        words,
+    }
+}
+
 fn told_refusal(r: Refusal) -> Told
     ensures { result ≡ told_of (refusal_of r) }
 {
@@ -157,16 +167,12 @@ fn told_refusal(r: Refusal) -> Told
     }
 }
 
-fn told_answer(a: Answer) -> Told
+fn told_answer(a: Result<u32, Refusal>) -> Told
     ensures { result ≡ told_of (answered a) }
 {
     match a {
-        Answer::Written(words) => Told {
-            number: 0,
-            place: 0,
-            words,
-        },
-        Answer::Refused(r) => told_refusal(r),
+        Ok(words) => told_words(words),
+        Err(r) => told_refusal(r),
     }
 }
 
@@ -206,29 +212,26 @@ pub extern "C" fn yokemango_take(
 ) -> Told
     ensures { TakesAs (lent rule.now bytes (end_at points.old latest.old) times.old retained.old owners.old numbers.old values.old count.old) (event_of event.now) report.old result (lent rule.now bytes (end_at points.new latest.new) times.new retained.new owners.new numbers.new values.new count.new) report.new }
 {
-    let left = lent_state::take(
+    let mut lent = Loan {
         rule,
         bytes,
-        LogEnd {
+        log: LogEnd {
             points: *points,
             latest: Stamp(*latest),
         },
         times,
-        *retained,
+        retained: *retained,
         owners,
         numbers,
         values,
-        *count,
-        event,
-        report,
-    );
-    let log = left.log;
-    *points = log.points;
-    *latest = log.latest.0;
-    *retained = left.retained;
-    *count = left.count;
-    let answer = left.answer;
-    told_answer(answer)
+        count: *count,
+    };
+    let taken = lent_state::take(&mut lent, event, report);
+    *points = lent.log.points;
+    *latest = lent.log.latest.0;
+    *retained = lent.retained;
+    *count = lent.count;
+    told_answer(taken)
 }
 
 // Takes a clock notice, in place: the parts of any state, any time, any report buffer. Where a length isn't a state's the answer is 8.
@@ -249,29 +252,26 @@ pub extern "C" fn yokemango_notice(
 ) -> Told
     ensures { TakesAs (lent rule.now bytes (end_at points.old latest.old) times.old retained.old owners.old numbers.old values.old count.old) (notice time) report.old result (lent rule.now bytes (end_at points.new latest.new) times.new retained.new owners.new numbers.new values.new count.new) report.new }
 {
-    let noted = lent_state::notice(
+    let mut held = Loan {
         rule,
         bytes,
-        LogEnd {
+        log: LogEnd {
             points: *points,
             latest: Stamp(*latest),
         },
         times,
-        *retained,
+        retained: *retained,
         owners,
         numbers,
         values,
-        *count,
-        time,
-        report,
-    );
-    let end = noted.log;
-    *points = end.points;
-    *latest = end.latest.0;
-    *retained = noted.retained;
-    *count = noted.count;
-    let answer = noted.answer;
-    told_answer(answer)
+        count: *count,
+    };
+    let noted = lent_state::notice(&mut held, time, report);
+    *points = held.log.points;
+    *latest = held.log.latest.0;
+    *retained = held.retained;
+    *count = held.count;
+    told_answer(noted)
 }
 
 fn figures_of(found: Option<u32>, kept: u32) -> Figures
@@ -307,7 +307,13 @@ pub extern "C" fn yokemango_figures<'a>(
 ) -> Figures
     ensures { result ≡ figures_of (lent rule.now bytes (end_at points latest) times.now retained owners.now numbers.now values.now count) }
 {
-    if !lengths_fit(rule, times, owners, numbers, values) {
+    if !lengths_fit(
+        rule.len(),
+        times.len(),
+        owners.len(),
+        numbers.len(),
+        values.len(),
+    ) {
         return figures_of(None, count);
     }
     let found = open_points(
@@ -327,17 +333,13 @@ pub extern "C" fn yokemango_figures<'a>(
     figures_of(found, count)
 }
 
-fn told_saved(s: Saved) -> Told
+fn told_saved(s: Result<u32, Unsaved>) -> Told
     ensures { result ≡ told_of (saved_of s) }
 {
     match s {
-        Saved::Written(words) => Told {
-            number: 0,
-            place: 0,
-            words,
-        },
-        Saved::NotWellFormed => told_refusal(Refusal::NotWellFormed),
-        Saved::Short(needed) => Told {
+        Ok(words) => told_words(words),
+        Err(Unsaved::NotWellFormed) => told_refusal(Refusal::NotWellFormed),
+        Err(Unsaved::Short(needed)) => Told {
             number: 19,
             place: needed,
             words: 0,
@@ -345,16 +347,12 @@ fn told_saved(s: Saved) -> Told
     }
 }
 
-fn told_read(r: Read) -> Told
+fn told_read(r: Result<u32, NotAnImage>) -> Told
     ensures { result ≡ told_of (read_of r) }
 {
     match r {
-        Read::Words(words) => Told {
-            number: 0,
-            place: 0,
-            words,
-        },
-        Read::NotAnImage => Told {
+        Ok(words) => told_words(words),
+        Err(NotAnImage) => Told {
             number: 18,
             place: 0,
             words: 0,
@@ -379,10 +377,10 @@ pub extern "C" fn yokemango_save<'a>(
 ) -> Told
     ensures { SavesAs (lent rule.now bytes (end_at points latest) times.now retained owners.now numbers.now values.now count) image.old result image.new }
 {
-    let saved = image_words::save(
+    let lent = Loan {
         rule,
         bytes,
-        LogEnd {
+        log: LogEnd {
             points,
             latest: Stamp(latest),
         },
@@ -392,9 +390,8 @@ pub extern "C" fn yokemango_save<'a>(
         numbers,
         values,
         count,
-        image,
-    );
-    told_saved(saved)
+    };
+    told_saved(image_words::save(lent, image))
 }
 
 // Reads an image in, in place: any words, the parts of any state. Where a length isn't a state's the answer is 18.
@@ -414,29 +411,27 @@ pub extern "C" fn yokemango_restore(
 ) -> Told
     ensures { RestoresAs (lent rule.old bytes.old (end_at points.old latest.old) times.old retained.old owners.old numbers.old values.old count.old) image.now result (lent rule.new bytes.new (end_at points.new latest.new) times.new retained.new owners.new numbers.new values.new count.new) }
 {
-    let read = image_words::restore(
-        image,
+    let mut room = Loan {
         rule,
-        *bytes,
-        LogEnd {
+        bytes: *bytes,
+        log: LogEnd {
             points: *points,
             latest: Stamp(*latest),
         },
         times,
-        *retained,
+        retained: *retained,
         owners,
         numbers,
         values,
-        *count,
-    );
-    let known = read.log;
-    *bytes = read.bytes;
-    *points = known.points;
-    *latest = known.latest.0;
-    *retained = read.retained;
-    *count = read.count;
-    let answer = read.answer;
-    told_read(answer)
+        count: *count,
+    };
+    let read = image_words::restore(image, &mut room);
+    *bytes = room.bytes;
+    *points = room.log.points;
+    *latest = room.log.latest.0;
+    *retained = room.retained;
+    *count = room.count;
+    told_read(read)
 }
 
 // The reading that a word stores, in signed hundredths.

@@ -7,6 +7,3 @@ use Rattle.events.proofs.rows_of.Given as goal
 -- The rows give what those from `k` on give, until one doesn't fit.
 abbrev pub invariant-loop-k : goal.invariant-loop-k
 invariant-loop-k l = rows_of l.rule l.event (range 0 l.m) ≡ rows_of l.rule l.event (range l.k (l.m - l.k))
-
-abbrev pub decreases-loop-k : goal.decreases-loop-k
-decreases-loop-k l = l.m - l.k

@@ -1,13 +1,7 @@
-use Prim.Native.Nat.{◌-◌, ◌≤◌}
-use mathlib.Core.Path.{◌≡◌}
-use lib.ListN.{length}
 use Rattle.call.specs.Blocks.{ListPut}
 use Rattle.image_words.proofs.Reading.{bytes_to}
 use Rattle.image_words.proofs.put_bytes.Given as goal
 
 -- `put_bytes` meets its contract. The loop's invariant: the bytes of the first k words are put.
 abbrev pub invariant-loop-k : goal.invariant-loop-k
-invariant-loop-k l = (l.n ≡ length l.words) × (l.k ≤ l.n) × (length l.bytes ≡ length l.initial.bytes) × ListPut l.initial.bytes 0 l.bytes (bytes_to l.words l.k)
-
-abbrev pub decreases-loop-k : goal.decreases-loop-k
-decreases-loop-k l = l.n - l.k
+invariant-loop-k l = ListPut l.initial.bytes 0 l.bytes (bytes_to l.words l.k)

@@ -7,16 +7,11 @@ use Rattle.entries.proofs.Putting.{put_none, put_more}
 use Rattle.image_words.proofs.put_rule.Goals as goal
 
 pub loop-k-init : goal.loop-k-init
-loop-k-init c = let a = c.args in (omega arith, put_none a.image.now a.at (λ j. word_at a.rule.now (j * 4)))
+loop-k-init c = put_none c.args.image.now c.args.at (λ j. word_at c.args.rule.now (j * 4))
 
 pub loop-k-preserved : goal.loop-k-preserved
-loop-k-preserved c = let a = c.args in
-    let l = c.loop-k in
-    (omega arith, put_more (λ j. word_at a.rule.now (j * 4)) l.invariant.1 _ c.word_at.ensures (omega arith))
-
-pub shape_of-image : goal.shape_of-image
-shape_of-image c = c.loop-k.invariant.1.long
+loop-k-preserved c = put_more (λ j. word_at c.args.rule.now (j * 4)) c.loop-k.invariant _ c.word_at.ensures (omega arith)
 
 pub returns : goal.returns
 returns c = let e : c.loop-k.k ≡ c.args.n = omega arith in
-    rw e at c.loop-k.invariant.1
+    rw e at c.loop-k.invariant

@@ -4,4 +4,4 @@ use Rattle.monitor.proofs.Starting.{rule_in_lem}
 use Rattle.monitor.proofs.empty.Goals as goal
 
 pub returns : goal.returns
-returns c = rule_in_lem c.zeros-state.result c.args.rule.now c.copy_bytes.new.to c.zeros-state.ensures (search rules) c.copy_bytes.ensures
+returns c = rule_in_lem c.zeros.result c.args.rule.now c.copy_bytes.new.to c.zeros.ensures (search rules) c.copy_bytes.ensures
