@@ -69,9 +69,11 @@ fn put_in(ages: &mut [u32], values: &mut [u32], n: usize, p: usize, age: u32, r:
     requires { (p ≤ n) × (n + 1 ≤ length ages.old) × ((n + 1) * 4 ≤ length values.old) }
     ensures { pairs_from ages.new values.new 0 (n + 1) ≡ pairs_from ages.old values.old 0 p ++ (age ∷ words_of r) ∷ pairs_from ages.old values.old p (n - p) }
 {
-    ages.copy_within(p..n, p + 1);
+    if p < n {
+        ages.copy_within(p..n, p + 1);
+        values.copy_within(p * 4..n * 4, (p + 1) * 4);
+    }
     ages[p] = age;
-    values.copy_within(p * 4..n * 4, (p + 1) * 4);
     rowset::put_row(values, p, r);
 }
 
