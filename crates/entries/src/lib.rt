@@ -54,5 +54,8 @@ pub fn copy_words(from: &[u32], n: usize, words: &mut [u32], end: usize)
     requires { (n ≤ length from.now) × (end + n ≤ length words.old) }
     ensures { WordsPut words.old end words.new n (λ k. get_or from.now k 0) }
 {
-    words[end..end + n].copy_from_slice(&from[..n]);
+    // The library's `copy_from_slice` would have the archive need memmove from outside.
+    for k in 0..n {
+        words[end + k] = from[k];
+    }
 }
