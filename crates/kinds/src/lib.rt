@@ -312,12 +312,6 @@ fn term_at(ts: Terms, k: u8) -> Term
     at_place(k, ts.first, ts.second, ts.third, ts.fourth)
 }
 
-fn column_at(c: Row, k: u8) -> u32
-    ensures { result ≡ get_or (c.v0 ∷ c.v1 ∷ c.v2 ∷ []) k c.v3 }
-{
-    at_place(k, c.v0, c.v1, c.v2, c.v3)
-}
-
 // The value that the columns give to variable x.
 fn bound_of(ts: Terms, c: Row, x: u32) -> u32
     ensures { result ≡ bound (terms_of ts) (take ts.count (words_of c)) x }
@@ -352,7 +346,7 @@ fn columns_match(ts: Terms, c: Row) -> bool
     ensures { result ≡ same_row (map (value (bound (terms_of ts) (take ts.count (words_of c)))) (terms_of ts)) (take ts.count (words_of c)) }
 {
     for k in 0..ts.count {
-        if term_bound(ts, c, term_at(ts, k)) != column_at(c, k) {
+        if term_bound(ts, c, term_at(ts, k)) != at_place(k, c.v0, c.v1, c.v2, c.v3) {
             return false;
         }
     }
