@@ -233,12 +233,12 @@ fn settle_all(
         return settle_in::<LARGE_ROWS, MARKS, ALL_KEPT, LARGE_WORDS, ALL_VALUES>(
             again, rule, figures, stamps, log, event, owners, numbers, values, count, report,
         )
-        .unwrap();
+        .unwrap_or(Err(Refusal::KeptOver));
     }
     settle_in::<LARGEST_ROWS, MARKS, ALL_KEPT, LARGEST_WORDS, ALL_VALUES>(
         again, rule, figures, stamps, log, event, owners, numbers, values, count, report,
     )
-    .unwrap()
+    .unwrap_or(Err(Refusal::KeptOver))
 }
 
 // A call in the room that it needs: so many rows.
